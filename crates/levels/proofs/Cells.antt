@@ -1,0 +1,146 @@
+-- The cells' levels and the flow matrix, read off a table's words.
+use mathlib.Core.Bool.{Bool, true, false, _&&_, cond, and-false}
+use mathlib.Core.List.{List, []}
+use mathlib.Core.Path.{_≡_, refl, sym, ap, _∙_}
+use Prim.Native.Nat.{ℕ, _+_, _*_, _<_, _≤_, min}
+use native.Mathlib.Omega.{arith}
+use native.Mathlib.Nat.{add-zero, le-antisymm}
+use lib.Dec.{ltb}
+use lib.ListN.{getD, take, length-take, List·getD-eq-default}
+use borrow.Author.Tests.{lt-ltb, le-ltb, ltb-true, ltb-false}
+use Rattle.rules.specs.Words.{tabFrom}
+use Rattle.rules.specs.Level.{level, flowsTo}
+use Rattle.rules.specs.Layout.{maxCells, headerWords, cellWords, cells, cellWord, levelOf, configuration, flows, flowMatrix}
+use Rattle.laws.proofs.Tests.{same-test, split}
+use Rattle.laws.proofs.Tab.{getD-tab2}
+use Rattle.laws.proofs.Fill.{tab-at, tab-past, tab-any, tab-same, upTo, upTo-all}
+use Rattle.laws.proofs.Places.{conf-cells, conf-cell}
+use Rattle.levels.specs.declared.Level.{Level}
+use Rattle.levels.specs.Rule.{ruleLevel, codeLevel, flowRow}
+
+-- ---- a cell's words
+
+cell-past : (t : List ℕ) (c k : ℕ) → cells t ≤ c → 0 ≡ cellWord (configuration t) c k
+unfolding cellWord configuration
+cell-past t c k h =
+    let end : ℕ = headerWords + cellWords * cells t in
+    sym (List·getD-eq-default (take end t) 0 (omega (arith, length-take end t)))
+
+-- n is the table's first word, as the code read it
+module _ (t : List ℕ) (n c : ℕ) (count : n ≡ getD t 0 0) where
+  cell-in : (k x : ℕ) → c < n → k < cellWords → x ≡ getD t (headerWords + cellWords * c + k) 0 → x ≡ cellWord (configuration t) c k
+  unfolding cellWord cells
+  cell-in k x h l e = e ∙ sym (conf-cell t c k (omega arith) l)
+
+  pub level-in : c < n → (s i m : ℕ) → s ≡ getD t (headerWords + cellWords * c) 0 → i ≡ getD t (headerWords + cellWords * c + 1) 0 → m ≡ getD t (headerWords + cellWords * c + 2) 0
+      → level s i m ≡ levelOf (configuration t) c
+  unfolding levelOf
+  level-in h s i m p q r =
+      let s' = cell-in 0 s h (omega arith) (p ∙ ap (λ (k : ℕ). getD t k 0) (sym (add-zero (headerWords + cellWords * c)))) in
+      let i' = cell-in 1 i h (omega arith) q in
+      let m' = cell-in 2 m h (omega arith) r in
+      λ j. level (s' j) (i' j) (m' j)
+
+  pub level-past : n ≤ c → level 0 0 0 ≡ levelOf (configuration t) c
+  unfolding levelOf cells
+  level-past h =
+      let past : (k : ℕ) → 0 ≡ cellWord (configuration t) c k = λ k. cell-past t c k (omega arith) in
+      λ j. level (past 0 j) (past 1 j) (past 2 j)
+
+-- ---- the cells' levels, each read once
+
+-- a cell's level as the code holds it
+abbrev pub levelIn : List ℕ → ℕ → Level
+levelIn t c = codeLevel (levelOf (configuration t) c)
+
+abbrev pub nil : Level
+nil = codeLevel (level 0 0 0)
+
+pub levels-all : (t : List ℕ) (n c : ℕ) (all : List Level) → n ≡ min (getD t 0 0) maxCells → n ≤ c → all ≡ tabFrom 0 maxCells (upTo nil (levelIn t) c) → all ≡ tabFrom 0 maxCells (levelIn t)
+levels-all t n c all e h p =
+    p ∙ upTo-all nil (levelIn t) maxCells c (λ k l m. ap codeLevel (level-past t (getD t 0 0) k refl (omega arith)))
+
+-- ---- the flow matrix
+
+-- a conjunction picks its second test where the first holds
+and-cond : (a b : Bool) → a && b ≡ cond a b false
+and-cond true b = refl
+and-cond false b = refl
+
+-- whether a level may flow to that of a cell
+abbrev pub flowsFor : List Level → Level → ℕ → Bool
+flowsFor all from d = flowsTo (ruleLevel from) (ruleLevel (getD all d nil))
+
+pub row-all : (all : List Level) (from : Level) (n d : ℕ) (to : List Bool) → d ≤ n → n ≤ d → to ≡ tabFrom 0 maxCells (upTo false (flowsFor all from) d) → to ≡ flowRow all n from
+row-all all from n d to h l p = p ∙ ap (λ (k : ℕ). tabFrom 0 maxCells (upTo false (flowsFor all from) k)) (le-antisymm h l)
+
+-- a row of the matrix, and one of all no
+abbrev pub rowIn : List ℕ → ℕ → List Bool
+rowIn t c = tabFrom 0 maxCells (λ d. flows (configuration t) c d)
+
+abbrev pub no : List Bool
+no = tabFrom 0 maxCells (λ d. false)
+
+-- the configuration's cells are the table's first word
+cells-kept : (t : List ℕ) → cells (configuration t) ≡ getD t 0 0
+unfolding cells
+cells-kept t = conf-cells t
+
+module _ (t : List ℕ) (n : ℕ) (count : n ≡ min (getD t 0 0) maxCells) where
+  -- of the sixteen cells, those that are counted are those that the table has
+  counted : (d : ℕ) → d < maxCells → ltb d n ≡ ltb d (cells (configuration t))
+  counted d h =
+      rw (cells-kept t)
+      (same-test (ltb d n) (ltb d (getD t 0 0))
+      (λ e. lt-ltb d (getD t 0 0) (omega (arith, ltb-true d n e)))
+      (λ e. lt-ltb d n (omega (arith, ltb-true d (getD t 0 0) e))))
+
+  row-past : (c : ℕ) → n ≤ c → c < maxCells → no ≡ rowIn t c
+  unfolding flows
+  row-past c h l =
+      tab-same maxCells (λ d. false) (λ d. flows (configuration t) c d) false
+      (λ d m. rw (← counted c l, le-ltb c n h))
+
+  module _ (all : List Level) (read : all ≡ tabFrom 0 maxCells (levelIn t)) where
+    known : (c : ℕ) → c < maxCells → getD all c nil ≡ levelIn t c
+    known c h = ap (λ (l : List Level). getD l c nil) read ∙ tab-at maxCells (levelIn t) c nil h
+
+    entry-in : (c : ℕ) → c < n → (d : ℕ) → d < maxCells → cond (ltb d n) (flowsFor all (getD all c nil) d) false ≡ flows (configuration t) c d
+    unfolding flows
+    entry-in c h d m =
+        rw (known c (omega arith), known d m, counted d m, ← counted c (omega arith), lt-ltb c n h)
+        (sym (and-cond (ltb d (cells (configuration t))) (flowsTo (levelOf (configuration t) c) (levelOf (configuration t) d))))
+
+    pub row-in : (c : ℕ) → c < n → flowRow all n (getD all c nil) ≡ rowIn t c
+    row-in c h =
+        tab-same maxCells (upTo false (flowsFor all (getD all c nil)) n) (λ d. flows (configuration t) c d) false
+        (entry-in c h)
+
+  pub matrix-all : (c : ℕ) (m : List (List Bool)) → c ≤ n → n ≤ c → m ≡ tabFrom 0 maxCells (upTo no (rowIn t) c) → m ≡ flowMatrix (configuration t)
+  unfolding flowMatrix
+  matrix-all c m h l p = p ∙ upTo-all no (rowIn t) maxCells c (λ k a b. row-past k (omega arith) b)
+
+-- an entry of the matrix says what the rule says
+pub matrix-entry : (h : List ℕ) (c d : ℕ) → c < maxCells → d < maxCells → getD (getD (flowMatrix h) c []) d false ≡ flows h c d
+unfolding flowMatrix
+matrix-entry h c d l m = getD-tab2 maxCells maxCells (flows h) c d [] false l m
+
+-- and where there are at most sixteen cells, any two numbers' entry does: both say no past the last cell
+module _ (h : List ℕ) (few : cells h ≤ maxCells) where
+  past-left : (c d : ℕ) → maxCells ≤ c → flows h c d ≡ false
+  unfolding flows
+  past-left c d l = rw (le-ltb c (cells h) (omega arith))
+
+  past-right : (c d : ℕ) → maxCells ≤ d → flows h c d ≡ false
+  unfolding flows
+  past-right c d l = rw (le-ltb d (cells h) (omega arith), and-false)
+
+  pub matrix-any : (c d : ℕ) → getD (getD (flowMatrix h) c []) d false ≡ flows h c d
+  unfolding flowMatrix
+  matrix-any c d =
+      split (getD (getD (flowMatrix h) c []) d false ≡ flows h c d) (ltb c maxCells)
+      (λ e. ap (λ (r : List Bool). getD r d false) (tab-at maxCells rows c [] (ltb-true c maxCells e)) ∙ tab-any maxCells (flows h c) d false (past-right c d))
+      (λ e. ap (λ (r : List Bool). getD r d false) (tab-past maxCells rows c [] (ltb-false c maxCells e)) ∙ sym (past-left c d (ltb-false c maxCells e)))
+    where
+      rows : ℕ → List Bool
+      rows c = tabFrom 0 maxCells (λ d. flows h c d)

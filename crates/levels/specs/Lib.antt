@@ -1,0 +1,2 @@
+-- The declared level as the rules' record.
+pub mod Rule
