@@ -1,0 +1,3 @@
+-- Laws that the calls' proofs share.
+pub mod Worlds
+pub mod Leaves

@@ -1,0 +1,3 @@
+-- What the contracts of the calls say.
+pub mod World
+pub mod Left
