@@ -1,12 +1,13 @@
 -- The two ways a call ends: refused with the first number whose test holds, or done.
 use mathlib.Core.Path.{_≡_, refl, sym, ap, _∙_}
 use mathlib.Core.Bool.{Bool, true, false, cond}
-use mathlib.Core.List.{List}
-use Prim.Native.Nat.{ℕ}
+use mathlib.Core.List.{List, _∷_}
+use Prim.Native.Nat.{ℕ, _<_}
+use native.Mathlib.Omega.{arith}
 use lib.Dec.{eqb}
 use borrow.Author.Tests.{eq-eqb, ne-eqb}
 use Rattle.rules.specs.Layout.{Addr, configuration, rd}
-use Rattle.rules.specs.Rule.{firstRefusal, Rule, write, store}
+use Rattle.rules.specs.Rule.{Refusal, firstRefusal, Rule, write, store}
 use Rattle.calls.specs.declared.Answer.{Answer}
 use Rattle.calls.specs.Left.{said, ruleAt, answerOf, tableOf, storeOf, bufferOf, Left}
 
@@ -52,3 +53,11 @@ module _ (t : List ℕ) (f : List ℕ → (Addr → ℕ) → Rule) {e : ℕ} (fo
   pub left-done : {t′ : List ℕ} → e ≡ 0 → r ≡ said 0 (ruleAt t f .effects .first) (ruleAt t f .effects .second)
       → t′ ≡ write (configuration t) t (ruleAt t f .effects .words) → Left t f r t′
   left-done z a w = record { answer = a ∙ answer-done (ruleAt t f) found z; table = w ∙ table-done (ruleAt t f) found (configuration t) t z }
+
+-- where no refusal holds, each test of the list is false
+pub none-first : (x : Refusal) (xs : List Refusal) → firstRefusal (x ∷ xs) ≡ 0 → 0 < x .number → (x .test ≡ false) × (firstRefusal xs ≡ 0)
+none-first x xs e l = go (x .test) e
+  where
+    go : (b : Bool) → cond b (x .number) (firstRefusal xs) ≡ 0 → (b ≡ false) × (firstRefusal xs ≡ 0)
+    go true q = absurd (omega arith)
+    go false q = (refl, q)

@@ -1,3 +1,6 @@
 -- Laws that the calls' proofs share.
 pub mod Worlds
 pub mod Leaves
+pub mod Given
+pub mod Named
+pub mod Entries

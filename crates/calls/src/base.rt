@@ -69,23 +69,23 @@ pub(crate) fn file_base(w: World) -> usize
 }
 
 // Where word j of a record lies.
-fn process_place(w: World, p: u32, j: usize) -> usize
+pub(crate) fn process_place(w: World, p: u32, j: usize) -> usize
     requires { ⌜ j < 2 ^ 41 ⌝ }
-    ensures { λ r. ⌜ r ≡ offsetBy w (at process p j) ⌝ }
+    ensures { λ r. ⌜ (r ≡ offsetBy w (at process p j)) × (r < 2 ^ 44) ⌝ }
 {
     process_base(w) + PROCESS_WORDS * wide(p) + j
 }
 
-fn segment_place(w: World, s: u32, j: usize) -> usize
+pub(crate) fn segment_place(w: World, s: u32, j: usize) -> usize
     requires { ⌜ j < 2 ^ 41 ⌝ }
-    ensures { λ r. ⌜ r ≡ offsetBy w (at segment s j) ⌝ }
+    ensures { λ r. ⌜ (r ≡ offsetBy w (at segment s j)) × (r < 2 ^ 44) ⌝ }
 {
     segment_base(w) + SEGMENT_WORDS * wide(s) + j
 }
 
-fn file_place(w: World, f: u32, j: usize) -> usize
+pub(crate) fn file_place(w: World, f: u32, j: usize) -> usize
     requires { ⌜ j < 2 ^ 41 ⌝ }
-    ensures { λ r. ⌜ r ≡ offsetBy w (at file f j) ⌝ }
+    ensures { λ r. ⌜ (r ≡ offsetBy w (at file f j)) × (r < 2 ^ 44) ⌝ }
 {
     file_base(w) + FILE_WORDS * wide(f) + j
 }

@@ -1,5 +1,6 @@
 // The eighteen calls over the lent table, store and buffer.
 mod base;
+mod files;
 
 // "An answer is the number and two words."
 pub struct Answer {

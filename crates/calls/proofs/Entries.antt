@@ -1,0 +1,32 @@
+-- The caller's entries: what a filled one holds has its kind's form.
+use mathlib.Core.Path.{_≡_, refl, sym, ap, _∙_}
+use mathlib.Core.Bool.{Bool, true, false, cond}
+use mathlib.Core.List.{List}
+use Prim.Native.Nat.{ℕ, _+_, _*_, _<_}
+use native.Mathlib.Omega.{arith}
+use lib.Dec.{leb, eqb}
+use borrow.Author.Tests.{leb-false, eqb-false}
+use Rattle.rules.specs.Layout.{process, segment, file, at, configuration, rd, slots, entries, heldAt}
+use Rattle.rules.specs.Seid.{class, isSeid}
+use Rattle.laws.proofs.Shape.{descriptor, designator}
+use Rattle.calls.specs.declared.World.{World}
+use Rattle.calls.specs.World.{rdBy, Known, Sound}
+use Rattle.calls.proofs.Worlds.{see, files-is, segments-is}
+
+-- a choice of two numbers that comes to 0, the first of which is not 0
+pub not-chosen : (b : Bool) (n x : ℕ) → 0 < n → cond b n x ≡ 0 → (b ≡ false) × (x ≡ 0)
+not-chosen true n x l e = absurd (omega arith)
+not-chosen false n x l e = (refl, e)
+
+module _ {t : List ℕ} {w : World} (sound : Sound t w) (a s : ℕ) {y : ℕ} (same : y ≡ a) (l : leb entries a ≡ false) (some : eqb s 0 ≡ false) where
+  pub file-form : s ≡ rdBy w t (at process (w .me) (8 + 2 * y)) → isSeid (class file) (w .files) s ≡ true
+  file-form e =
+      let r : s ≡ rd (configuration t) t (at process (w .me) (heldAt file a)) = e ∙ see (sound .known) _ ∙ rw same in
+      let d = descriptor (configuration t) (rd (configuration t) t) (sound .records) (w .me) a (sound .caller) (leb-false entries a l) in
+      rw (files-is (sound .known), r) (d .held (λ z. eqb-false s 0 some (r ∙ z)) .form)
+
+  pub segment-form : s ≡ rdBy w t (at process (w .me) (40 + 2 * y)) → isSeid (class segment) (w .segments) s ≡ true
+  segment-form e =
+      let r : s ≡ rd (configuration t) t (at process (w .me) (heldAt segment a)) = e ∙ see (sound .known) _ ∙ rw same in
+      let d = designator (configuration t) (rd (configuration t) t) (sound .records) (w .me) a (sound .caller) (leb-false entries a l) in
+      rw (segments-is (sound .known), r) (d .held (λ z. eqb-false s 0 some (r ∙ z)) .form)
