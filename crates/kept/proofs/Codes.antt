@@ -1,0 +1,78 @@
+-- A property of each call's rule is one of the rule of any code.
+use mathlib.Core.Bool.{cond}
+use mathlib.Core.List.{List, []}
+use Prim.Native.Nat.{ℕ}
+use lib.Dec.{eqb}
+use Rattle.rules.specs.Layout.{Kind, process, segment, file, Addr}
+use Rattle.rules.specs.Seid.{orSelf, classOf, class}
+use Rattle.rules.specs.Rule.{Rule, rule, effect}
+use Rattle.rules.specs.Call01.{spawn}
+use Rattle.rules.specs.Call02.{releaseProcess}
+use Rattle.rules.specs.Call03.{buildSegment}
+use Rattle.rules.specs.Call04.{rendezvous}
+use Rattle.rules.specs.Call05.{releaseSegment}
+use Rattle.rules.specs.Call06.{setAccess}
+use Rattle.rules.specs.Call07.{create}
+use Rattle.rules.specs.Call08.{openFile}
+use Rattle.rules.specs.Call09.{close}
+use Rattle.rules.specs.Call10.{link}
+use Rattle.rules.specs.Call11.{unlink}
+use Rattle.rules.specs.Call12.{setBits, setBitsOf}
+use Rattle.rules.specs.Call13.{readBlock}
+use Rattle.rules.specs.Call14.{writeBlock}
+use Rattle.rules.specs.Call15.{post}
+use Rattle.rules.specs.Call16.{receive}
+use Rattle.rules.specs.Call17.{status, statusOf}
+use Rattle.rules.specs.Call18.{accessOf}
+use Rattle.rules.specs.Step.{Call, ruleOf}
+use Rattle.laws.proofs.Tests.{cond-both}
+use Rattle.kept.proofs.Fine.{Object}
+
+pub record Each (h : List ℕ) (r : Addr → ℕ) (st : List ℕ) (k : Call) (P : Rule → Type 0) : Type 0 where
+  pub call-1 : P (spawn h r (k .caller) (k .a) (k .b) (k .buffer))
+  pub call-2 : P (releaseProcess h r (k .caller) (k .a) (k .buffer))
+  pub call-3 : P (buildSegment h r (k .caller) (k .a) (k .b) (k .c) (k .buffer))
+  pub call-4 : P (rendezvous h r (k .caller) (k .a) (k .b) (k .buffer))
+  pub call-5 : P (releaseSegment h r (k .caller) (k .a) (k .buffer))
+  pub call-6 : P (setAccess h r (k .caller) (k .a) (k .b) (k .buffer))
+  pub call-7 : P (create h r (k .caller) (k .a) (k .b) (k .buffer))
+  pub call-8 : P (openFile h r (k .caller) (k .a) (k .b) (k .buffer))
+  pub call-9 : P (close h r (k .caller) (k .a) (k .buffer))
+  pub call-10 : P (link h r (k .caller) (k .a) (k .buffer))
+  pub call-11 : P (unlink h r (k .caller) (k .a) (k .buffer))
+  pub call-12 : P (setBits h r (k .caller) (k .a) (k .b) (k .buffer))
+  pub call-13 : P (readBlock h r st (k .caller) (k .a) (k .b) (k .buffer))
+  pub call-14 : P (writeBlock h r (k .caller) (k .a) (k .b) (k .buffer))
+  pub call-15 : P (post h r (k .caller) (k .a) (k .buffer))
+  pub call-16 : P (receive h r (k .caller) (k .buffer))
+  pub call-17 : P (status h r (k .caller) (k .a) (k .buffer))
+  pub call-18 : P (accessOf h r (k .caller) (k .a) (k .buffer))
+  -- a code that is no call's
+  pub other : P (rule [] (effect 0 0 (k .buffer) [] []))
+
+module _ (h : List ℕ) (r : Addr → ℕ) (st : List ℕ) (k : Call) (P : Rule → Type 0) where
+  pub by-code : Each h r st k P → P (ruleOf h r st k)
+  unfolding ruleOf
+  by-code x =
+      or 1 (x .call-1) (or 2 (x .call-2) (or 3 (x .call-3) (or 4 (x .call-4) (or 5 (x .call-5) (or 6 (x .call-6) (or 7 (x .call-7) (or 8 (x .call-8)
+      (or 9 (x .call-9) (or 10 (x .call-10) (or 11 (x .call-11) (or 12 (x .call-12) (or 13 (x .call-13) (or 14 (x .call-14) (or 15 (x .call-15) (or 16 (x .call-16)
+      (or 17 (x .call-17) (or 18 (x .call-18) (x .other))))))))))))))))))
+    where
+      or : {x y : Rule} (n : ℕ) → P x → P y → P (cond (eqb (k .code) n) x y)
+      or {x} {y} n p q = cond-both P (eqb (k .code) n) x y (λ e. p) (λ e. q)
+
+  -- two calls go by the seid's class
+  pub by-bits : ((s : ℕ) (j : Kind) → Object j → P (setBitsOf h r (k .caller) s (k .b) (k .buffer) j)) → P (setBits h r (k .caller) (k .a) (k .b) (k .buffer))
+  unfolding setBits
+  by-bits p =
+      let s = orSelf r (k .caller) (k .a) in
+      let of : Kind → Rule = setBitsOf h r (k .caller) s (k .b) (k .buffer) in
+      cond-both P (eqb (classOf s) (class segment)) (of segment) (of file) (λ e. p s segment tt) (λ e. p s file tt)
+
+  pub by-status : ((s : ℕ) (j : Kind) → P (statusOf h r (k .caller) s (k .buffer) j)) → P (status h r (k .caller) (k .a) (k .buffer))
+  unfolding status
+  by-status p =
+      let s = orSelf r (k .caller) (k .a) in
+      let of : Kind → Rule = statusOf h r (k .caller) s (k .buffer) in
+      cond-both P (eqb (classOf s) (class process)) (of process) (cond (eqb (classOf s) (class segment)) (of segment) (of file)) (λ e. p s process)
+      (λ e. cond-both P (eqb (classOf s) (class segment)) (of segment) (of file) (λ e. p s segment) (λ e. p s file))

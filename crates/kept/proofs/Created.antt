@@ -1,0 +1,121 @@
+-- An object created in a free slot of the caller's cell, with one entry of the caller's for it.
+use mathlib.Core.Path.{_≡_, sym, ap, _∙_}
+use mathlib.Core.Bool.{true, cond}
+use mathlib.Core.List.{List, [], _∷_, _++_}
+use Prim.Native.Nat.{ℕ, _+_, _≤_, _<_}
+use native.Mathlib.Omega.{arith}
+use lib.Dec.{eqb}
+use borrow.Author.Tests.{lt-ltb}
+use Rattle.rules.specs.Layout.{maxBits, Kind, process, segment, file, cells, slots, levelOf, cellOf, flows, Addr, at, serial, owner, group, entries, heldAt, holders}
+use Rattle.rules.specs.Seid.{class, classOf, indexOf, serialOf, seid}
+use Rattle.rules.specs.WellFormed.{validUse}
+use Rattle.rules.specs.Rule.{Word, _≔_, over}
+use Rattle.rules.specs.Find.{entered}
+use Rattle.laws.proofs.Seids.{class-seid, index-seid, serial-seid, made-formed, seid-some, class-pos}
+use Rattle.laws.proofs.Shape.{in-run}
+use Rattle.laws.proofs.Written.{AllOf, nil}
+use Rattle.levels.proofs.Flow.{reflexive}
+use Rattle.kept.proofs.Fine.{Object, Particular, Own, object-alive}
+use Rattle.kept.proofs.Records.{InRecord, word-in, same-record}
+use Rattle.kept.proofs.Counting.{named-is, empty-named}
+use Rattle.kept.proofs.Made.{object-words, live-record}
+use Rattle.kept.proofs.OneEntry.{Fresh}
+use Rattle.kept.proofs.Keeps.{Keeps, Caller}
+use Rattle.kept.proofs.Exchange.{object-first}
+use Rattle.kept.proofs.Found.{FreeSlot, FreeEntry}
+use Rattle.kept.proofs.Entries.{new-entry}
+
+-- ---- a cell flows to itself
+
+flows-itself : (h : List ℕ) (c : ℕ) → c < cells h → flows h c c ≡ true
+unfolding flows
+flows-itself h c l = rw (lt-ltb c (cells h) l, reflexive (levelOf h c))
+
+-- ---- the eight words of a new object
+
+abbrev pub made : Kind → ℕ → ℕ → ℕ → ℕ → ℕ → ℕ → ℕ → List Word
+made k i s u g b x y =
+    (at k i 0 ≔ 1) ∷ (at k i 1 ≔ s) ∷ (at k i 2 ≔ u) ∷ (at k i 3 ≔ g) ∷ (at k i 4 ≔ b) ∷ (at k i 5 ≔ x) ∷ (at k i 6 ≔ y) ∷ (at k i 7 ≔ 1) ∷ []
+
+module _ (r : Addr → ℕ) (k : Kind) (o : Object k) (i s u g b x y : ℕ) where
+  made-in : AllOf (InRecord k i) (made k i s u g b x y)
+  made-in =
+      let w = object-words k o in
+      word-in k i 0 1 (omega arith) (word-in k i 1 s (omega arith) (word-in k i 2 u (omega arith) (word-in k i 3 g (omega arith)
+      (word-in k i 4 b (omega arith) (word-in k i 5 x (omega arith) (word-in k i 6 y (omega arith) (word-in k i 7 1 (omega arith) nil)))))))
+
+  made-word : (j : ℕ) → over r (made k i s u g b x y) (at k i j)
+      ≡ cond (eqb j 7) 1 (cond (eqb j 6) y (cond (eqb j 5) x (cond (eqb j 4) b (cond (eqb j 3) g (cond (eqb j 2) u (cond (eqb j 1) s (cond (eqb j 0) 1 (r (at k i j)))))))))
+  unfolding over
+  made-word j = simp same-record
+
+module _ (h : List ℕ) (r : Addr → ℕ) (p : ℕ) (c : Caller h r p) (k : Kind) (o : Object k) (i d u b x y : ℕ) (f : FreeSlot h r k (cellOf h process p) i) (e : FreeEntry r k p d)
+    (bits-fit : b ≤ maxBits) (particular : Particular h k x y) (valid : validUse k u ≡ true) where
+  abbrev next : ℕ
+  next = r (at k i serial) + 1
+
+  abbrev new : ℕ
+  new = seid (class k) i next
+
+  abbrev words : List Word
+  words = made k i next (r (at process p owner)) (r (at process p group)) b x y
+
+  small : i < 256
+  small = omega (arith, f .in-range, c .shape .few k)
+
+  fits : next < 65536
+  fits = omega (arith, f .not-worn)
+
+  word : (j : ℕ) → over r words (at k i j)
+      ≡ cond (eqb j 7) 1 (cond (eqb j 6) y (cond (eqb j 5) x (cond (eqb j 4) b (cond (eqb j 3) (r (at process p group)) (cond (eqb j 2) (r (at process p owner))
+      (cond (eqb j 1) next (cond (eqb j 0) 1 (r (at k i j)))))))))
+  word = made-word r k o i next (r (at process p owner)) (r (at process p group)) b x y
+
+  count-is : over r words (at k i (holders k)) ≡ 1
+  count-is = let w = object-words k o in rw (w .0) (word 7)
+
+  own-new : Own h (over r words) k i
+  own-new =
+      let me = c .fine .own process p (c .in-range) in
+      live-record (over r words) k i _ (word 0) (rw (word 1) (omega arith)) (rw (word 1) (omega (arith, f .not-worn))) (rw (word 2) (me .owner-fits)) (rw (word 3) (me .group-fits))
+      (object-alive h (over r words) k i o (record { bits-fit = rw (word 4) bits-fit; particular = rw (word 5, word 6) particular; needed = λ z. rw count-is (omega arith) }))
+
+  -- no entry holds a serial that has not been given
+  unheld : (a : ℕ) → a < entries → r (at process p (heldAt k a)) ≡ new → ⊥
+  unheld a l q =
+      let v : ℕ = r (at process p (heldAt k a)) in
+      let known = c .fine .entry k o p a (c .in-range) l .held (λ z. seid-some (class k) i next (class-pos k) (sym q ∙ z)) .serial-known in
+      let is : serialOf v ≡ next = ap serialOf q ∙ serial-seid (class k) i next small fits in
+      let ix : indexOf v ≡ i = ap indexOf q ∙ index-seid (class k) i next small fits in
+      omega (arith, rw ix at known)
+
+  fresh-for : (k : Kind) → ((a : ℕ) → a < entries → r (at process p (heldAt k a)) ≡ new → ⊥) → Fresh r k p d new
+  fresh-for process n = tt
+  fresh-for file n = tt
+  fresh-for segment n = λ a l ad some q. n a l q
+
+  pub created : Keeps h r (words ++ entered k p d new u)
+  created =
+      let ix : indexOf new ≡ i = index-seid (class k) i next small fits in
+      let cell : cellOf h k (indexOf new) ≡ cellOf h process p = rw ix (f .in-cell) in
+      let w = object-words k o in
+      object-first h r (c .fine) k o p d i new u (c .in-range) (c .alive) (e .in-record) (record {
+        in-range = f .in-range;
+        in-record = made-in r k o i next (r (at process p owner)) (r (at process p group)) b x y;
+        own-after = own-new;
+        grown-after = rw (word 1) (omega arith);
+        steady-after = λ a l. absurd (omega (arith, f .is-free));
+        fresh = fresh-for k unheld;
+        entry-after = new-entry h (over r words) k _ new u (made-formed (class k) (slots h k) i next (f .in-range) (omega (arith, c .shape .few k)) (omega arith) fits)
+            (rw ix (word 0)) (rw ix (word 1 ∙ sym (serial-seid (class k) i next small fits)))
+            (rw cell (flows-itself h (cellOf h process p) (in-run h (c .shape) process p (c .in-range) .0))) valid (λ z. cell);
+        old-index = λ n. absurd (n (e .is-empty));
+        new-index = λ n. ix;
+        counts = λ q z.
+            rw (
+              empty-named h r k p d i (e .is-empty),
+              count-is,
+              named-is h q k p d i (record { same-cell = f .in-cell; same-class = ap classOf z ∙ class-seid (class k) i next small fits; same-index = ap indexOf z ∙ ix }),
+            )
+            (omega (arith, c .fine .own k i (f .in-range) .free (f .is-free) (holders k) (omega arith) (omega arith)));
+      })

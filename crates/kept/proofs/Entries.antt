@@ -1,0 +1,193 @@
+-- Entries filled and given up, for a file or a segment: the holders are counted, and an object without holders is freed.
+use mathlib.Core.Path.{_≡_, refl, ap, _∙_}
+use mathlib.Core.Bool.{Bool, true, false, cond, _&&_, not}
+use mathlib.Core.List.{List, [], _∷_, _++_}
+use Prim.Native.Nat.{ℕ, _+_, _-_, _≤_, _<_}
+use native.Mathlib.Omega.{arith}
+use native.Mathlib.Decide.{ℕ-discrete}
+use lib.Dec.{ltb, leb, eqb}
+use borrow.Author.Tests.{eq-eqb, eqb-true, eqb-false, leb-false}
+use Rattle.rules.specs.Layout.{Kind, process, segment, file, slots, cellOf, flows, Addr, at, live, serial, entries, heldAt, usedAt, links, holders}
+use Rattle.rules.specs.Seid.{class, indexOf, serialOf, isSeid}
+use Rattle.rules.specs.WellFormed.{validUse, writeUse, ownEntry}
+use Rattle.rules.specs.Rule.{_⇒_, firstRefusal, Word, _≔_, over}
+use Rattle.rules.specs.Find.{inOwnCell, entered, oneMore, freed, oneLess, givenUp, kept}
+use Rattle.laws.proofs.Tests.{cond-both, and-left, both-ways}
+use Rattle.laws.proofs.Seids.{class-pos, class-some, is-formed}
+use Rattle.laws.proofs.Shape.{Held, Entry}
+use Rattle.laws.proofs.Written.{AllOf, nil, all-if}
+use Rattle.kept.proofs.Fine.{Object, linked, Own, Fine}
+use Rattle.kept.proofs.Refusals.{clear}
+use Rattle.kept.proofs.Records.{InRecord, in-first, word-in, word-at, word-past, freed-in, freed-serial, freed-word}
+use Rattle.kept.proofs.Counting.{one, named-is, named-counted, not-named, empty-named}
+use Rattle.kept.proofs.Made.{no-process, object-words, freed-record}
+use Rattle.kept.proofs.OneEntry.{Fresh}
+use Rattle.kept.proofs.Keeps.{Keeps, Caller}
+use Rattle.kept.proofs.Exchange.{entry-first, entered-in, entered-held, entered-beside}
+use Rattle.kept.proofs.Found.{Found}
+use Rattle.kept.proofs.Objects.{own-holders}
+
+-- an entry's word that is entered anew
+pub new-entry : (h : List ℕ) (q : Addr → ℕ) (k : Kind) (c s u : ℕ) → isSeid (class k) (slots h k) s ≡ true → q (at k (indexOf s) live) ≡ 1
+    → q (at k (indexOf s) serial) ≡ serialOf s → flows h (cellOf h k (indexOf s)) c ≡ true → validUse k u ≡ true
+    → (writeUse k u ≡ true → cellOf h k (indexOf s) ≡ c) → Entry h q k c s u
+new-entry h q k c s u form lives serial-is flow valid own = record {
+  empty = λ z. absurd (class-some s (class k) (class-pos k) (is-formed _ _ s form .class-is) z);
+  held = λ n. record { form = form; serial-known = omega arith; flow = flow };
+  current-live = λ n e. lives;
+  current-serial = λ n e. serial-is;
+  valid = λ n. valid;
+  writes-own = λ n. own;
+}
+
+pub empty-entry : (h : List ℕ) (q : Addr → ℕ) (k : Kind) (c : ℕ) → Entry h q k c 0 0
+empty-entry h q k c = record {
+  empty = λ e. refl;
+  held = λ n. absurd (n refl);
+  current-live = λ n e. absurd (n refl);
+  current-serial = λ n e. absurd (n refl);
+  valid = λ n. absurd (n refl);
+  writes-own = λ n e. absurd (n refl);
+}
+
+no-fresh : (r : Addr → ℕ) (k : Kind) (p d : ℕ) → Fresh r k p d 0
+no-fresh r process p d = tt
+no-fresh r file p d = tt
+no-fresh r segment p d = λ e l n some x. some refl
+
+kept-linked : (r : Addr → ℕ) (k : Kind) (i : ℕ) → kept r k i ≡ linked k (r (at k i links))
+kept-linked r process i = refl
+kept-linked r segment i = refl
+kept-linked r file i = refl
+
+-- ---- filled
+
+module _ (h : List ℕ) (r : Addr → ℕ) (p : ℕ) (c : Caller h r p) (k : Kind) (o : Object k) (d s u : ℕ) (dl : d < entries) (empty : r (at process p (heldAt k d)) ≡ 0)
+    (f : Found h r k s) (flow : flows h (cellOf h k (indexOf s)) (cellOf h process p) ≡ true) (valid : validUse k u ≡ true)
+    (writes-own : writeUse k u ≡ true → cellOf h k (indexOf s) ≡ cellOf h process p) (fresh : Fresh r k p d s) where
+  filled-by : (B : List Word) → AllOf (InRecord k (indexOf s)) B → Own h (over r B) k (indexOf s)
+      → over r B (at k (indexOf s) live) ≡ r (at k (indexOf s) live) → over r B (at k (indexOf s) serial) ≡ r (at k (indexOf s) serial)
+      → ((q : Addr → ℕ) → q (at process p (heldAt k d)) ≡ s → over r B (at k (indexOf s) (holders k)) ≡ r (at k (indexOf s) (holders k)) + one (ownEntry h q k (indexOf s) p d))
+      → Keeps h r (entered k p d s u ++ B)
+  filled-by B a own e0 e1 counts = entry-first h r (c .fine) k o p d (indexOf s) s u (c .in-range) (c .alive) dl (record {
+    in-range = f .parts .index-in;
+    in-record = a;
+    own-after = own;
+    grown-after = omega arith;
+    steady-after = λ x y. (e0 ∙ y, e1);
+    fresh = fresh;
+    entry-after = new-entry h (over r B) k _ s u (f .form) (e0 ∙ f .here .is-live) (e1 ∙ f .here .same-serial) flow valid writes-own;
+    old-index = λ n. absurd (n empty);
+    new-index = λ n. refl;
+    counts = λ q e. rw (empty-named h r k p d (indexOf s) empty) (omega (arith, counts q e));
+  })
+
+  pub filled : Keeps h r (entered k p d s u ++ oneMore h r p k s)
+  unfolding over
+  filled =
+      let i : ℕ = indexOf s in
+      let own : Own h r k i = c .fine .own k i (f .parts .index-in) in
+      let lives : r (at k i live) ≡ 1 = f .here .is-live in
+      let w = object-words k o in
+      let n : ℕ = holders k in
+      cond-both (λ B. Keeps h r (entered k p d s u ++ B)) (inOwnCell h p k s) ((at k i n ≔ r (at k i n) + 1) ∷ []) []
+      (λ e. filled-by ((at k i n ≔ r (at k i n) + 1) ∷ []) (word-in k i n _ (omega arith) nil) (own-holders h r k o i own lives _ (λ x. omega arith))
+      (word-past r k i n _ live (λ e. omega arith)) (word-past r k i n _ serial (λ e. omega arith))
+      (λ q x. rw (named-is h q k p d i (record { same-cell = eqb-true _ _ e; same-class = rw x (f .parts .class-is); same-index = ap indexOf x }))
+      (word-at r k i n (r (at k i n) + 1))))
+      (λ e. filled-by [] nil own refl refl (λ q x. rw (not-named h q k p d i (λ y. eqb-false _ _ e (y .same-cell))) (omega arith)))
+
+-- ---- given up
+
+module _ (h : List ℕ) (r : Addr → ℕ) (w : Fine h r) (p : ℕ) (pl : p < slots h process) (lives : r (at process p live) ≡ 1) (k : Kind) (o : Object k) (d : ℕ) (dl : d < entries)
+    (some : r (at process p (heldAt k d)) ≡ 0 → ⊥) where
+  abbrev given : ℕ
+  given = r (at process p (heldAt k d))
+
+  abbrev slot : ℕ
+  slot = indexOf given
+
+  held : Held h r k (cellOf h process p) given
+  held = w .entry k o p d pl dl .held some
+
+  slot-in : slot < slots h k
+  slot-in = is-formed _ _ given (held .form) .index-in
+
+  emptied-by : (B : List Word) → AllOf (InRecord k slot) B → Own h (over r B) k slot → over r B (at k slot serial) ≡ r (at k slot serial)
+      → (1 ≤ over r B (at k slot (holders k)) → over r B (at k slot live) ≡ r (at k slot live))
+      → over r B (at k slot (holders k)) + one (ownEntry h r k slot p d) ≡ r (at k slot (holders k)) → Keeps h r (entered k p d 0 0 ++ B)
+  emptied-by B a own e1 e0 counts = entry-first h r w k o p d slot 0 0 pl lives dl (record {
+    in-range = slot-in;
+    in-record = a;
+    own-after = own;
+    grown-after = omega arith;
+    steady-after = λ x y. (e0 x ∙ y, e1);
+    fresh = no-fresh r k p d;
+    entry-after = empty-entry h (over r B) k _;
+    old-index = λ n. refl;
+    new-index = λ n. absurd (n refl);
+    counts = λ q e. rw (empty-named h q k p d slot e) (omega (arith, counts));
+  })
+
+  -- an object of the own cell loses a holder
+  own-less : cellOf h k slot ≡ cellOf h process p → Keeps h r (entered k p d 0 0 ++ oneLess r k slot)
+  unfolding oneLess
+  own-less e =
+      let i : ℕ = slot in
+      let n : ℕ = holders k in
+      let x = w .entry k o p d pl dl in
+      let own : Own h r k i = w .own k i slot-in in
+      let alive : r (at k i live) ≡ 1 = x .current-live some e in
+      let ws = object-words k o in
+      let named : ownEntry h r k i p d ≡ true =
+      named-is h r k p d i (record { same-cell = e; same-class = is-formed _ _ given (held .form) .class-is; same-index = refl }) in
+      let many : 1 ≤ r (at k i n) = rw (w .counted k o i slot-in) (named-counted h r k i p d pl dl named) in
+      cond-both (λ B. Keeps h r (entered k p d 0 0 ++ B)) (eqb (r (at k i n)) 1 && not (kept r k i)) (freed k i) ((at k i n ≔ r (at k i n) - 1) ∷ [])
+      (λ t. let last : r (at k i n) ≡ 1 = eqb-true _ 1 (and-left (eqb (r (at k i n)) 1) (not (kept r k i)) t) in
+      let z = freed-word k i r in
+      let gone = z n (omega arith) (λ x. omega arith) in
+      emptied-by (freed k i) (freed-in k i)
+      (freed-record r k i _ (own .serial-fits))
+      (freed-serial k i r) (λ y. absurd (omega arith)) (rw named (omega arith)))
+      (λ t. emptied-by ((at k i n ≔ r (at k i n) - 1) ∷ []) (word-in k i n _ (omega arith) nil)
+      (own-holders h r k o i own alive _ (λ l. fewer (r (at k i n)) (kept r k i) many t (kept-linked r k i ∙ l)))
+      (word-past r k i n _ serial (λ x. omega arith)) (λ y. word-past r k i n _ live (λ x. omega arith))
+      (rw (named, word-at r k i n (r (at k i n) - 1)) (omega arith)))
+    where
+      fewer : (m : ℕ) (b : Bool) → 1 ≤ m → eqb m 1 && not b ≡ false → b ≡ false → 1 ≤ m - 1
+      fewer m b l t e = elim (ℕ-discrete m 1) [
+        | yes x ↦ both-ways (eqb m 1 && not b) (rw (eq-eqb m 1 x, e)) t
+        | no x ↦ omega arith
+      ]
+
+  pub given-up : Keeps h r (givenUp h r k p d given)
+  unfolding givenUp over
+  given-up = cond-both (λ B. Keeps h r (entered k p d 0 0 ++ B)) (inOwnCell h p k given) (oneLess r k slot) []
+      (λ e. own-less (eqb-true _ _ e))
+      (λ e. emptied-by [] nil (w .own k slot slot-in) refl (λ x. refl) (rw (not-named h r k p d slot (λ y. eqb-false _ _ e (y .same-cell))) (omega arith)))
+
+  given-in : AllOf (InRecord k slot) (cond (inOwnCell h p k given) (oneLess r k slot) [])
+  unfolding oneLess
+  given-in =
+      let ws = object-words k o in
+      all-if _ (inOwnCell h p k given) _ _
+      (λ e. all-if _ (eqb (r (at k slot (holders k))) 1 && not (kept r k slot)) _ _ (λ t. freed-in k slot) (λ t. word-in k slot (holders k) _ (omega arith) nil))
+      (λ e. nil)
+
+  -- of the process, the entry alone is written
+  given-word : (j : ℕ) → over r (givenUp h r k p d given) (at process p j) ≡ over r (entered k p d 0 0) (at process p j)
+  unfolding givenUp
+  given-word = in-first process k p slot (λ e f. no-process k o e) (entered-in r k o p d 0 0 dl) given-in r
+
+  pub given-held : over r (givenUp h r k p d given) (at process p (heldAt k d)) ≡ 0
+  given-held = given-word (heldAt k d) ∙ entered-held r k o p d 0 0 dl
+
+  pub given-beside : (j : ℕ) → (j ≡ heldAt k d → ⊥) → (j ≡ usedAt k d → ⊥) → over r (givenUp h r k p d given) (at process p j) ≡ r (at process p j)
+  given-beside j n m = given-word j ∙ entered-beside r k o p d 0 0 dl j n m
+
+-- a call that gives an entry up: its number is past the last, or the entry is empty
+pub gives-up : (h : List ℕ) (r : Addr → ℕ) (p : ℕ) → Caller h r p → (k : Kind) → Object k → (a x y : ℕ) → ltb 0 x && (ltb 0 y && true) ≡ true
+    → firstRefusal ((leb entries a ⇒ x) ∷ (eqb (r (at process p (heldAt k a))) 0 ⇒ y) ∷ []) ≡ 0 → Keeps h r (givenUp h r k p a (r (at process p (heldAt k a))))
+gives-up h r p me k o a x y n e =
+    let ok = clear ((leb entries a ⇒ x) ∷ (eqb (r (at process p (heldAt k a))) 0 ⇒ y) ∷ []) n e in
+    given-up h r (me .fine) p (me .in-range) (me .alive) k o a (leb-false entries a (ok .0)) (eqb-false (r (at process p (heldAt k a))) 0 (ok .1 .0))

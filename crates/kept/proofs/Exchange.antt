@@ -1,0 +1,137 @@
+-- An entry written together with the record of the object that it names or named.
+use mathlib.Core.Path.{_≡_, refl, sym, _∙_}
+use mathlib.Core.Bool.{false}
+use mathlib.Core.List.{List, _++_}
+use Prim.Native.Nat.{ℕ, _+_, _≤_, _<_}
+use native.Mathlib.Omega.{arith}
+use Rattle.rules.specs.Layout.{Kind, process, slots, cellOf, Addr, at, live, serial, entries, heldAt, usedAt, holders}
+use Rattle.rules.specs.Seid.{class, indexOf}
+use Rattle.rules.specs.WellFormed.{ownEntry}
+use Rattle.rules.specs.Rule.{Word, over}
+use Rattle.rules.specs.Find.{entered}
+use Rattle.laws.proofs.Seids.{class-pos, class-some}
+use Rattle.laws.proofs.Shape.{Entry}
+use Rattle.laws.proofs.Written.{AllOf, nil, all-append, hit, miss}
+use Rattle.kept.proofs.Fine.{Object, Own, Fine}
+use Rattle.kept.proofs.Records.{InRecord, word-in, apart-word, all-valid, in-first, in-second, in-neither}
+use Rattle.kept.proofs.Counting.{one, not-named}
+use Rattle.kept.proofs.Made.{placed, no-process}
+use Rattle.kept.proofs.Readings.{Steady, own-same}
+use Rattle.kept.proofs.OneEntry.{Fresh, entry-changed, EntryChanged, entry-grown}
+use Rattle.kept.proofs.Keeps.{Keeps}
+
+-- ---- an entry's two words
+
+module _ (r : Addr → ℕ) (k : Kind) (o : Object k) (p d s u : ℕ) (dl : d < entries) where
+  pub entered-in : AllOf (InRecord process p) (entered k p d s u)
+  entered-in = let x = placed k o d dl in word-in process p (heldAt k d) s (omega arith) (word-in process p (usedAt k d) u (omega arith) nil)
+
+  pub entered-held : over r (entered k p d s u) (at process p (heldAt k d)) ≡ s
+  unfolding over
+  entered-held =
+      let x = placed k o d dl in
+      miss (at process p (heldAt k d)) (at process p (usedAt k d)) u _ (apart-word process p (heldAt k d) (usedAt k d) (λ e. omega arith))
+      ∙ hit (at process p (heldAt k d)) (at process p (heldAt k d)) s (r (at process p (heldAt k d))) refl
+
+  pub entered-used : over r (entered k p d s u) (at process p (usedAt k d)) ≡ u
+  unfolding over
+  entered-used = hit (at process p (usedAt k d)) (at process p (usedAt k d)) u _ refl
+
+  pub entered-beside : (j : ℕ) → (j ≡ heldAt k d → ⊥) → (j ≡ usedAt k d → ⊥) → over r (entered k p d s u) (at process p j) ≡ r (at process p j)
+  unfolding over
+  entered-beside j n m =
+      miss (at process p j) (at process p (usedAt k d)) u _ (apart-word process p j (usedAt k d) m)
+      ∙ miss (at process p j) (at process p (heldAt k d)) s (r (at process p j)) (apart-word process p j (heldAt k d) n)
+
+-- ---- entry d of process p gets s, used so; object i is written by B
+
+pub record Exchange (h : List ℕ) (r : Addr → ℕ) (k : Kind) (p d i s u : ℕ) (B : List Word) : Type 0 where
+  pub in-range : i < slots h k
+  pub in-record : AllOf (InRecord k i) B
+  pub own-after : Own h (over r B) k i
+  pub grown-after : r (at k i serial) ≤ over r B (at k i serial)
+  pub steady-after : 1 ≤ over r B (at k i (holders k)) → Steady h r (over r B) k i
+  pub fresh : Fresh r k p d s
+  pub entry-after : Entry h (over r B) k (cellOf h process p) s u
+  pub old-index : (r (at process p (heldAt k d)) ≡ 0 → ⊥) → indexOf (r (at process p (heldAt k d))) ≡ i
+  pub new-index : (s ≡ 0 → ⊥) → indexOf s ≡ i
+  pub counts : (q : Addr → ℕ) → q (at process p (heldAt k d)) ≡ s
+      → over r B (at k i (holders k)) + one (ownEntry h r k i p d) ≡ r (at k i (holders k)) + one (ownEntry h q k i p d)
+
+module _ (h : List ℕ) (r : Addr → ℕ) (w : Fine h r) (k : Kind) (o : Object k) (p d i s u : ℕ) {B : List Word} (pl : p < slots h process) (alive : r (at process p live) ≡ 1)
+    (dl : d < entries) (x : Exchange h r k p d i s u B) where
+  -- a reading in which both are written
+  record Both (q : Addr → ℕ) : Type 0 where
+    others : (l : Kind) (m j : ℕ) → (l ≡ process → m ≡ p → ⊥) → (l ≡ k → m ≡ i → ⊥) → q (at l m j) ≡ r (at l m j)
+    in-process : (j : ℕ) → q (at process p j) ≡ over r (entered k p d s u) (at process p j)
+    in-object : (j : ℕ) → q (at k i j) ≡ over r B (at k i j)
+
+  -- an entry that holds v, where v names object i alone
+  only-names : (q : Addr → ℕ) → ((q (at process p (heldAt k d)) ≡ 0 → ⊥) → indexOf (q (at process p (heldAt k d))) ≡ i) → (m : ℕ) → (m ≡ i → ⊥) → ownEntry h q k m p d ≡ false
+  only-names q f m n =
+      not-named h q k p d m (λ a. n (sym (a .same-index) ∙ f (class-some (q (at process p (heldAt k d))) (class k) (class-pos k) (a .same-class))))
+
+  changed : (q : Addr → ℕ) → Both q → EntryChanged h r q k p d i
+  changed q b =
+      let held : q (at process p (heldAt k d)) ≡ s = b .in-process (heldAt k d) ∙ entered-held r k o p d s u dl in
+      let used : q (at process p (usedAt k d)) ≡ u = b .in-process (usedAt k d) ∙ entered-used r k o p d s u dl in
+      record {
+        others = b .others;
+        beside = λ j n m. b .in-process j ∙ entered-beside r k o p d s u dl j n m;
+        fresh = rw held (x .fresh);
+        entry-ok = rw (held, used) (moved q b);
+        own-object = own-same h (over r B) q k i (λ j l. b .in-object j) (x .own-after);
+        serial-grown = rw (b .in-object serial) (x .grown-after);
+        steady = λ a y. let z = x .steady-after (rw (b .in-object (holders k)) at a) y in (b .in-object live ∙ z .0, b .in-object serial ∙ z .1);
+        old-names = only-names r (x .old-index);
+        new-names = only-names q (rw held (x .new-index));
+        holders-follow = rw (b .in-object (holders k)) (x .counts q held);
+      }
+    where
+      moved : (q : Addr → ℕ) → Both q → Entry h q k (cellOf h process p) s u
+      moved q b =
+          let e = x .entry-after in
+          record {
+            empty = e .empty;
+            held = λ n. let y = e .held n in record { form = y .form; serial-known = rw (x .new-index n, b .in-object serial) (rw (x .new-index n) at (y .serial-known)); flow = y .flow };
+            current-live = λ n c. rw (x .new-index n) (b .in-object live ∙ (rw (x .new-index n) at (e .current-live n c)));
+            current-serial = λ n c. rw (x .new-index n) (b .in-object serial) ∙ e .current-serial n c;
+            valid = e .valid;
+            writes-own = e .writes-own;
+          }
+
+  apart : k ≡ process → i ≡ p → ⊥
+  apart e f = no-process k o e
+
+  -- the entry first, then the object
+  pub entry-first : Keeps h r (entered k p d s u ++ B)
+  entry-first =
+      let a = entered-in r k o p d s u dl in
+      let b = x .in-record in
+      let both : Both (over r (entered k p d s u ++ B)) = record {
+        others = λ l m j n n′. in-neither process k p i apart a b r l m j n n′;
+        in-process = in-first process k p i apart a b r;
+        in-object = in-second process k p i apart a b r;
+      } in
+      record {
+        valid = all-append B (all-valid h process p pl a) (all-valid h k i (x .in-range) b);
+        fine = entry-changed h r _ w k o p d i pl alive dl (changed _ both);
+        grown = entry-grown h r _ w k o p d i pl alive dl (changed _ both);
+      }
+
+  -- the object first, then the entry
+  pub object-first : Keeps h r (B ++ entered k p d s u)
+  object-first =
+      let a = entered-in r k o p d s u dl in
+      let b = x .in-record in
+      let apart′ : process ≡ k → p ≡ i → ⊥ = λ e f. no-process k o (sym e) in
+      let both : Both (over r (B ++ entered k p d s u)) = record {
+        others = λ l m j n n′. in-neither k process i p apart′ b a r l m j n′ n;
+        in-process = in-second k process i p apart′ b a r;
+        in-object = in-first k process i p apart′ b a r;
+      } in
+      record {
+        valid = all-append (entered k p d s u) (all-valid h k i (x .in-range) b) (all-valid h process p pl a);
+        fine = entry-changed h r _ w k o p d i pl alive dl (changed _ both);
+        grown = entry-grown h r _ w k o p d i pl alive dl (changed _ both);
+      }

@@ -1,0 +1,68 @@
+-- What the shared refusals leave: an object found, a free slot, a free entry.
+use mathlib.Core.Path.{_≡_, sym}
+use mathlib.Core.Bool.{Bool, true, false, _&&_, not, true≢false}
+use mathlib.Core.List.{List}
+use Prim.Native.Nat.{ℕ, _+_, _≤_, _<_}
+use native.Mathlib.Omega.{arith}
+use lib.Dec.{ltb, eqb}
+use borrow.Author.Tests.{eqb-true, ltb-true, leb-false}
+use Rattle.rules.specs.Words.{lowest}
+use Rattle.rules.specs.Layout.{maxSerial, Kind, process, cells, slots, cellSlots, firstSlot, cellOf, Addr, at, live, serial, entries, heldAt}
+use Rattle.rules.specs.Seid.{class, formed, isSeid, indexOf, present}
+use Rattle.rules.specs.Find.{inOwnCell, freeSlot, noSlot, freeEntry, noEntry}
+use Rattle.laws.proofs.Tests.{and-left, and-right, passed}
+use Rattle.laws.proofs.Search.{lowest-ge, lowest-hit}
+use Rattle.laws.proofs.Seids.{Formed, is-formed, Present, is-present}
+use Rattle.laws.proofs.Cells.{cell-run, run-end}
+use Rattle.laws.proofs.Shape.{Shape}
+
+-- a seid that names an object
+pub record Found (h : List ℕ) (r : Addr → ℕ) (k : Kind) (s : ℕ) : Type 0 where
+  pub form : isSeid (class k) (slots h k) s ≡ true
+  pub parts : Formed (class k) (slots h k) s
+  pub here : Present r k s
+
+pub found : (h : List ℕ) (r : Addr → ℕ) (k : Kind) (s : ℕ) → not (formed h k s) ≡ false → not (present r k s) ≡ false → Found h r k s
+found h r k s f p =
+    let e = passed (formed h k s) f in
+    record { form = e; parts = is-formed (class k) (slots h k) s e; here = is-present r k s (passed (present r k s) p) }
+
+-- slot i of cell c can be taken
+pub record FreeSlot (h : List ℕ) (r : Addr → ℕ) (k : Kind) (c i : ℕ) : Type 0 where
+  pub in-range : i < slots h k
+  pub in-cell : cellOf h k i ≡ c
+  pub is-free : r (at k i live) ≡ 0
+  pub not-worn : r (at k i serial) < maxSerial
+
+pub free-slot : (h : List ℕ) (r : Addr → ℕ) (k : Kind) (c : ℕ) → Shape h → c < cells h → noSlot h r k c ≡ false → FreeSlot h r k c (freeSlot h r k c)
+unfolding freeSlot
+free-slot h r k c sh l n =
+    let test : ℕ → Bool = λ i. eqb (r (at k i live)) 0 && ltb (r (at k i serial)) maxSerial in
+    let i : ℕ = lowest test (cellSlots h k c) (firstSlot h k c) in
+    let hi : i < firstSlot h k c + cellSlots h k c = leb-false (firstSlot h k c + cellSlots h k c) i n in
+    let lo : firstSlot h k c ≤ i = lowest-ge test (cellSlots h k c) (firstSlot h k c) in
+    let is = lowest-hit test (cellSlots h k c) (firstSlot h k c) hi in
+    record {
+      in-range = omega (arith, run-end h k c l, sh .sums k);
+      in-cell = cell-run h k i c l lo hi;
+      is-free = eqb-true _ 0 (and-left (eqb (r (at k i live)) 0) (ltb (r (at k i serial)) maxSerial) is);
+      not-worn = ltb-true _ maxSerial (and-right (eqb (r (at k i live)) 0) (ltb (r (at k i serial)) maxSerial) is);
+    }
+
+-- entry d of process p is empty
+pub record FreeEntry (r : Addr → ℕ) (k : Kind) (p d : ℕ) : Type 0 where
+  pub in-record : d < entries
+  pub is-empty : r (at process p (heldAt k d)) ≡ 0
+
+pub free-entry : (r : Addr → ℕ) (k : Kind) (p : ℕ) → noEntry r k p ≡ false → FreeEntry r k p (freeEntry r k p)
+unfolding freeEntry
+free-entry r k p n =
+    let test : ℕ → Bool = λ d. eqb (r (at process p (heldAt k d))) 0 in
+    let l : lowest test entries 0 < entries = leb-false entries (lowest test entries 0) n in
+    record { in-record = l; is-empty = eqb-true _ 0 (lowest-hit test entries 0 (omega arith)) }
+
+-- what is written is of the own cell
+pub in-own : (h : List ℕ) (p : ℕ) (k : Kind) (s : ℕ) (write : Bool) → write && not (inOwnCell h p k s) ≡ false → write ≡ true
+    → cellOf h k (indexOf s) ≡ cellOf h process p
+in-own h p k s true e t = eqb-true _ _ (passed (inOwnCell h p k s) e)
+in-own h p k s false e t = absurd (true≢false (sym t))

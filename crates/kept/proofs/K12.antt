@@ -1,0 +1,30 @@
+-- Call 12, set bits, keeps tables well formed, for a segment and a file.
+use mathlib.Core.Path.{_≡_, refl}
+use mathlib.Core.Bool.{true}
+use mathlib.Core.List.{List}
+use Prim.Native.Nat.{ℕ}
+use native.Mathlib.Omega.{arith}
+use borrow.Author.Tests.{ltb-false}
+use Rattle.rules.specs.Layout.{maxBits, Kind, process, segment, file, Addr, bits}
+use Rattle.rules.specs.Seid.{indexOf}
+use Rattle.rules.specs.Call12.{setBitsOf}
+use Rattle.kept.proofs.Fine.{Object}
+use Rattle.kept.proofs.Refusals.{numbered, clear}
+use Rattle.kept.proofs.Made.{object-words}
+use Rattle.kept.proofs.Keeps.{KeptBy, Caller}
+use Rattle.kept.proofs.Found.{found}
+use Rattle.kept.proofs.Objects.{alive-now, keeps-word}
+
+module _ (h : List ℕ) (r : Addr → ℕ) (p : ℕ) (c : Caller h r p) (b : ℕ) (buffer : List ℕ) where
+  all-numbered : (s : ℕ) (k : Kind) → Object k → numbered (setBitsOf h r p s b buffer k .refusals) ≡ true
+  all-numbered s process o = absurd o
+  all-numbered s segment o = refl
+  all-numbered s file o = refl
+
+  pub keeps : (s : ℕ) (k : Kind) → Object k → KeptBy h r (setBitsOf h r p s b buffer k)
+  keeps s k o e =
+      let ok = clear (setBitsOf h r p s b buffer k .refusals) (all-numbered s k o) e in
+      let f = found h r k s (ok .1 .0) (ok .1 .1 .1 .0) in
+      let x = alive-now h r k o (indexOf s) (c .fine .own k (indexOf s) (f .parts .index-in)) (f .here .is-live) in
+      keeps-word h r (c .fine) k o (indexOf s) (f .parts .index-in) (f .here .is-live) bits b (omega arith) (omega arith)
+      (record { bits-fit = ltb-false maxBits b (ok .0); particular = x .particular; needed = rw (object-words k o .0) (rw (object-words k o .0) at (x .needed)) })

@@ -1,0 +1,101 @@
+-- Call 15, post, keeps tables well formed.
+use mathlib.Core.Path.{_≡_, refl, _∙_}
+use mathlib.Core.Bool.{true, cond, _&&_}
+use mathlib.Core.List.{List, []}
+use Prim.Native.Nat.{ℕ, _+_, _≤_, _<_}
+use native.Mathlib.Omega.{arith}
+use lib.Dec.{ltb, eqb}
+use borrow.Author.Tests.{ltb-true, ne-eqb}
+use Rattle.rules.specs.Words.{word4}
+use Rattle.rules.specs.Layout.{process, slots, cellOf, flows, Addr, at, live, serial, queue, messages, messageWords, messageAt}
+use Rattle.rules.specs.Seid.{class, seidAt, orSelf, indexOf, present}
+use Rattle.rules.specs.Rule.{over}
+use Rattle.rules.specs.Call15.{post, queued}
+use Rattle.laws.proofs.Tests.{and-left, and-right, passed}
+use Rattle.laws.proofs.Seids.{index-seid, serial-seid, made-formed, is-formed, is-present}
+use Rattle.laws.proofs.Shape.{Held}
+use Rattle.laws.proofs.Written.{AllOf, nil}
+use Rattle.kept.proofs.Refusals.{clear}
+use Rattle.kept.proofs.Records.{InRecord, word-in, same-record, by-slot}
+use Rattle.kept.proofs.Keeps.{Keeps, KeptBy, Caller, keeps-none, keeps-if}
+use Rattle.kept.proofs.Mail.{keeps-mail}
+
+-- the caller's own seid, held by a process that it flows to
+me-held : (h : List ℕ) (r : Addr → ℕ) (p c : ℕ) → Caller h r p → flows h (cellOf h process p) c ≡ true → Held h r process c (seidAt r process p)
+unfolding seidAt
+me-held h r p c me flow =
+    let mine = me .fine .own process p (me .in-range) in
+    let few = me .shape .few process in
+    let s : ℕ = r (at process p serial) in
+    let s0 : 1 ≤ s = mine .serial-some (me .alive) in
+    let s1 : s < 65536 = omega (arith, mine .serial-fits) in
+    let small : p < 256 = omega (arith, me .in-range) in
+    let ix = index-seid (class process) p s small s1 in
+    record {
+      form = made-formed (class process) (slots h process) p s (me .in-range) (omega arith) (omega arith) s1;
+      serial-known = rw (ix, serial-seid (class process) p s small s1) (omega arith);
+      flow = rw ix flow;
+    }
+
+module _ (h : List ℕ) (r : Addr → ℕ) (p : ℕ) (me : Caller h r p) (q n : ℕ) (buffer : List ℕ) (ql : q < slots h process) (lives : r (at process q live) ≡ 1)
+    (n-is : n ≡ r (at process q queue)) (nl : n < messages) (flow : flows h (cellOf h process p) (cellOf h process q) ≡ true) where
+  in-it : AllOf (InRecord process q) (queued (seidAt r process p) q buffer n)
+  unfolding queued
+  in-it =
+      word-in process q queue (n + 1) (omega arith) (word-in process q (messageAt n 0) _ (omega arith) (word-in process q (messageAt n 1) _ (omega arith)
+      (word-in process q (messageAt n 2) _ (omega arith) (word-in process q (messageAt n 3) _ (omega arith) nil))))
+
+  word : (j : ℕ) → over r (queued (seidAt r process p) q buffer n) (at process q j)
+      ≡ cond (eqb j (messageAt n 3)) (word4 buffer 8) (cond (eqb j (messageAt n 2)) (word4 buffer 4) (cond (eqb j (messageAt n 1)) (word4 buffer 0)
+      (cond (eqb j (messageAt n 0)) (seidAt r process p) (cond (eqb j queue) (n + 1) (r (at process q j))))))
+  unfolding over queued
+  word j = simp same-record
+
+  -- a word of neither the queue's length nor message n
+  beside : (j : ℕ) → (j ≡ queue → ⊥) → (messageAt n 0 ≤ j → j < messageAt n 0 + messageWords → ⊥) → over r (queued (seidAt r process p) q buffer n) (at process q j) ≡ r (at process q j)
+  beside j x y = word j
+      ∙ rw (
+        ne-eqb j (messageAt n 3) (λ e. y (omega arith) (omega arith)),
+        ne-eqb j (messageAt n 2) (λ e. y (omega arith) (omega arith)),
+        ne-eqb j (messageAt n 1) (λ e. y (omega arith) (omega arith)),
+        ne-eqb j (messageAt n 0) (λ e. y (omega arith) (omega arith)),
+        ne-eqb j queue x,
+      )
+
+  queue-is : over r (queued (seidAt r process p) q buffer n) (at process q queue) ≡ n + 1
+  queue-is = word queue
+      ∙ rw (
+        ne-eqb queue (messageAt n 3) (λ e. omega arith),
+        ne-eqb queue (messageAt n 2) (λ e. omega arith),
+        ne-eqb queue (messageAt n 1) (λ e. omega arith),
+        ne-eqb queue (messageAt n 0) (λ e. omega arith),
+      )
+
+  sender-is : over r (queued (seidAt r process p) q buffer n) (at process q (messageAt n 0)) ≡ seidAt r process p
+  sender-is = word (messageAt n 0)
+      ∙ rw (
+        ne-eqb (messageAt n 0) (messageAt n 3) (λ e. omega arith),
+        ne-eqb (messageAt n 0) (messageAt n 2) (λ e. omega arith),
+        ne-eqb (messageAt n 0) (messageAt n 1) (λ e. omega arith),
+        borrow.Author.Tests.eq-eqb (messageAt n 0) (messageAt n 0) refl,
+      )
+
+  queues : Keeps h r (queued (seidAt r process p) q buffer n)
+  queues = keeps-mail h r (me .fine) q ql lives in-it (λ j l x. beside j x (λ a b. omega arith)) (rw queue-is (omega arith))
+      (λ m j ml jl full. let full′ : n + 1 ≤ m = rw queue-is at full in
+      beside (messageAt m j) (λ e. omega arith) (λ a b. omega arith) ∙ me .fine .own process q ql .alive lives .unused m j ml jl (omega arith))
+      (λ m l. by-slot (λ m. m < n + 1 → Held h r process (cellOf h process q) (over r (queued (seidAt r process p) q buffer n) (at process q (messageAt m 0)))) n
+      (λ l. rw sender-is (me-held h r p (cellOf h process q) me flow))
+      (λ m ne l. rw (beside (messageAt m 0) (λ e. omega arith) (λ a b. ne (omega arith))) (me .fine .sender q m ql (omega arith))) m (rw queue-is at l))
+
+pub keeps : (h : List ℕ) (r : Addr → ℕ) (p : ℕ) → Caller h r p → (a : ℕ) (buffer : List ℕ) → KeptBy h r (post h r p a buffer)
+unfolding post
+keeps h r p me a buffer e =
+    let s : ℕ = orSelf r p a in
+    let q : ℕ = indexOf s in
+    let n : ℕ = r (at process q queue) in
+    let ok = clear (post h r p a buffer .refusals) refl e in
+    keeps-if h r (present r process s && ltb n messages) (queued (seidAt r process p) q buffer n) []
+    (λ t. queues h r p me q n buffer (is-formed _ _ s (passed _ (ok .1 .0)) .index-in) (is-present r process s (and-left (present r process s) (ltb n messages) t) .is-live) refl
+    (ltb-true n messages (and-right (present r process s) (ltb n messages) t)) (passed _ (ok .1 .1 .0)))
+    (λ t. keeps-none h r (me .fine))
