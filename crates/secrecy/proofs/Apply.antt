@@ -1,0 +1,143 @@
+-- A rule carried out: what a set of cells sees of it. The same for every call.
+use mathlib.Core.Path.{_≡_, refl, sym, ap, _∙_}
+use mathlib.Core.Bool.{Bool, true, false, true≢false}
+use mathlib.Core.List.{List, [], _∷_}
+use Prim.Native.Nat.{ℕ, _+_, _*_}
+use lib.Dec.{eqb}
+use lib.ListN.{length}
+use lib.Seq.{sets, length-sets}
+use borrow.Author.Tests.{eqb-true, eqb-false}
+use Rattle.rules.specs.Layout.{file, cellOf, flows, Addr, Valid, rd, tableWords, storeBytes, stretch}
+use Rattle.rules.specs.Rule.{Word, Bytes, Effect, Rule, firstRefusal, write, store}
+use Rattle.rules.specs.Step.{State, carriedOut}
+use Rattle.rules.specs.Observer.{Closed}
+use Rattle.laws.proofs.Tests.{split, both-ways, refuted}
+use Rattle.laws.proofs.Written.{AllOf, nil, also, all-map, over-miss, rd-write}
+use Rattle.laws.proofs.Stored.{sets-both, stretch-apart}
+use Rattle.secrecy.proofs.Rules.{Ups, UpBytes, Good, good-effect, good-test, Hidden, Alike-effects, same-effect, hidden, Alike, alike-effect, alike-test}
+use Rattle.secrecy.proofs.View.{Stretches}
+use Rattle.secrecy.proofs.Lists.{over-at}
+
+-- ---- refusals
+
+-- where no refusal answers, each of the tests is false
+pub granted : {h : List ℕ} {c : ℕ} {k : Rule} → Good h c k → firstRefusal (k .refusals) ≡ 0 → Ups h c (k .effects .words) × AllOf (UpBytes h c) (k .effects .bytes)
+granted (good-effect u b) e = (u, b)
+granted (good-test {b = b} {n = n} {rs = rs} z g) e = split _ b
+    (λ t. absurd (eqb-false n 0 z (rw t at e)))
+    (λ f. granted (g f) (rw f at e))
+
+pub same-refusal : {h : List ℕ} {C : ℕ → Bool} {k l : Rule} → Alike h C k l → firstRefusal (k .refusals) ≡ firstRefusal (l .refusals)
+same-refusal (alike-effect a) = refl
+same-refusal (alike-test {b = b} {d = d} z e g) = split _ b (λ t. rw (← e, t)) (λ f. rw (← e, f) (same-refusal (g f)))
+
+pub granted-alike : {h : List ℕ} {C : ℕ → Bool} {k l : Rule} → Alike h C k l → firstRefusal (k .refusals) ≡ 0 → Alike-effects h C (k .effects) (l .effects)
+granted-alike (alike-effect a) e = a
+granted-alike (alike-test {b = b} {n = n} z q g) e = split _ b
+    (λ t. absurd (eqb-false n 0 z (rw t at e)))
+    (λ f. granted-alike (g f) (rw f at e))
+
+-- ---- what two states show to the set, under one configuration h
+
+pub record AgreeAt (h : List ℕ) (C : ℕ → Bool) (s t : State) : Type 0 where
+  pub records : (a : Addr) → Valid h a → C (cellOf h (a .kind) (a .slot)) ≡ true → rd h (s .table) a ≡ rd h (t .table) a
+  pub stretches : Stretches h C (s .store) (t .store)
+
+-- a state of the right lengths
+pub record Sized (h : List ℕ) (s : State) : Type 0 where
+  pub words : length (s .table) ≡ tableWords h
+  pub bytes : length (s .store) ≡ storeBytes h
+
+module _ (h : List ℕ) (C : ℕ → Bool) where
+  pub agree-sym : (s t : State) → AgreeAt h C s t → AgreeAt h C t s
+  agree-sym s t a = record { records = λ b v i. sym (a .records b v i); stretches = λ f i x y z. sym (a .stretches f i x y z) }
+
+  pub agree-trans : (s t u : State) → AgreeAt h C s t → AgreeAt h C t u → AgreeAt h C s u
+  agree-trans s t u a b =
+      record { records = λ x v i. a .records x v i ∙ b .records x v i; stretches = λ f i x y z. a .stretches f i x y z ∙ b .stretches f i x y z }
+
+  -- the words and bytes of an effect written
+  abbrev pub done : State → Effect → State
+  done s e = record { table = write h (s .table) (e .words); store = store h (s .store) (e .bytes) }
+
+  -- a cell that c flows to lies outside a closed set, if c does
+  outside : Closed h C → (c d : ℕ) → C c ≡ false → flows h c d ≡ true → C d ≡ false
+  outside cl c d out f = refuted (C d) (λ e. both-ways (C c) (cl c d f e) out)
+
+  -- ---- hidden writes
+
+  valid-ups : {c : ℕ} {ws : List Word} → Ups h c ws → AllOf (λ x. Valid h (x .at)) ws
+  valid-ups u = all-map (λ x y. y .valid) u
+
+  unseen : {ws : List Word} → AllOf (Hidden h C) ws → (a : Addr) → C (cellOf h (a .kind) (a .slot)) ≡ true → AllOf (λ x. a ≡ x .at → ⊥) ws
+  unseen u a i = all-map (λ x o e. true≢false (sym i ∙ ap (λ (b : Addr). C (cellOf h (b .kind) (b .slot))) e ∙ o)) u
+
+  hide-words : {c : ℕ} {ws : List Word} (t : List ℕ) → length t ≡ tableWords h → Ups h c ws → AllOf (Hidden h C) ws
+      → (a : Addr) → Valid h a → C (cellOf h (a .kind) (a .slot)) ≡ true → rd h t a ≡ rd h (write h t ws) a
+  hide-words t l u o a v i = sym (rd-write h t (valid-ups u) l a v ∙ over-miss a (unseen o a i) (rd h t))
+
+  hide-bytes : {c : ℕ} {bs : List Bytes} → Closed h C → C c ≡ false → AllOf (UpBytes h c) bs → (s : List ℕ) → Stretches h C s (store h s bs)
+  hide-bytes cl out nil s f i x y z = refl
+  hide-bytes {c} cl out (also {x = b} {xs = bs} u us) s f i x y z =
+      sym (stretch-apart (stretch h) (b .file) f (b .from) i (b .bytes) s (u .inside) y
+      (λ e. both-ways (C (cellOf h file f)) z (rw e (outside cl c (cellOf h file (b .file)) out (u .up)))))
+      ∙ hide-bytes cl out us (sets s (b .file * stretch h + b .from) (b .bytes)) f i x y z
+
+  -- ---- the same writes in both states
+
+  same-words : {c : ℕ} {ws : List Word} (t u : List ℕ) → length t ≡ tableWords h → length u ≡ tableWords h → Ups h c ws → (a : Addr) → Valid h a
+      → rd h t a ≡ rd h u a → rd h (write h t ws) a ≡ rd h (write h u ws) a
+  same-words {ws = ws} t u lt lu up a v e =
+      rd-write h t (valid-ups up) lt a v ∙ over-at ws (rd h t) (rd h u) a e ∙ sym (rd-write h u (valid-ups up) lu a v)
+
+  same-bytes : (bs : List Bytes) (s t : List ℕ) → length s ≡ length t → Stretches h C s t → Stretches h C (store h s bs) (store h t bs)
+  same-bytes [] s t l a = a
+  same-bytes (b ∷ bs) s t l a =
+      let at : ℕ = b .file * stretch h + b .from in
+      same-bytes bs (sets s at (b .bytes)) (sets t at (b .bytes)) (length-sets s at (b .bytes) ∙ l ∙ sym (length-sets t at (b .bytes)))
+      (λ f i x y z. sets-both (b .bytes) s t at (f * stretch h + i) l (a f i x y z))
+
+  -- ---- a rule carried out
+
+  pub hide-effect : (c : ℕ) (e : Effect) → Closed h C → C c ≡ false → Ups h c (e .words) → AllOf (UpBytes h c) (e .bytes) → (s : State) → Sized h s → AgreeAt h C s (done s e)
+  hide-effect c e cl out u b s z = record {
+    records = hide-words (s .table) (z .words) u (all-map (λ x y. outside cl c (cellOf h (x .at .kind) (x .at .slot)) out (y .up)) u);
+    stretches = hide-bytes cl out b (s .store);
+  }
+
+  -- from outside the set nothing is seen of it
+  pub silent : {c : ℕ} {k : Rule} → Closed h C → C c ≡ false → Good h c k → (s : State) (buffer : List ℕ) → Sized h s → AgreeAt h C s (carriedOut h s buffer k .state)
+  unfolding carriedOut
+  silent {c} {k} cl out g s buffer z = split _ (eqb (firstRefusal (k .refusals)) 0)
+      (λ e. let u = granted g (eqb-true _ 0 e) in rw e (hide-effect c (k .effects) cl out (u .0) (u .1) s z))
+      (λ e. rw e (record { records = λ a v i. refl; stretches = λ f i x y w. refl }))
+
+  alike-done : {c d : ℕ} {e f : Effect} → Alike-effects h C e f → Ups h c (e .words) → Ups h d (f .words) → (s t : State) → Sized h s → Sized h t → AgreeAt h C s t
+      → AgreeAt h C (done s e) (done t f)
+  alike-done {e = e} (same-effect q) u w s t zs zt a = rw (← q) (record {
+    records = λ b v i. same-words (s .table) (t .table) (zs .words) (zt .words) u b v (a .records b v i);
+    stretches = same-bytes (e .bytes) (s .store) (t .store) (zs .bytes ∙ sym (zt .bytes)) (a .stretches);
+  })
+  alike-done (hidden o n) u w s t zs zt a = record {
+    records = λ b v i. sym (hide-words (s .table) (zs .words) u o b v i) ∙ a .records b v i ∙ hide-words (t .table) (zt .words) w n b v i;
+    stretches = a .stretches;
+  }
+
+  same-answer : {e f : Effect} → Alike-effects h C e f → (e .first ≡ f .first) × (e .second ≡ f .second) × (e .buffer ≡ f .buffer)
+  same-answer (same-effect q) = (ap (λ (x : Effect). x .first) q, ap (λ (x : Effect). x .second) q, ap (λ (x : Effect). x .buffer) q)
+  same-answer (hidden o n) = (refl, refl, refl)
+
+  -- two rules alike, carried out: one answer, one buffer, and states that agree
+  pub both : {c d : ℕ} {k l : Rule} → Alike h C k l → Good h c k → Good h d l → (s t : State) (buffer : List ℕ) → Sized h s → Sized h t → AgreeAt h C s t
+      → (carriedOut h s buffer k .answered ≡ carriedOut h t buffer l .answered) × (carriedOut h s buffer k .buffer ≡ carriedOut h t buffer l .buffer)
+      × AgreeAt h C (carriedOut h s buffer k .state) (carriedOut h t buffer l .state)
+  unfolding carriedOut
+  both {k = k} {l = l} a g j s t buffer zs zt w =
+      let q : firstRefusal (l .refusals) ≡ firstRefusal (k .refusals) = sym (same-refusal a) in
+      split _ (eqb (firstRefusal (k .refusals)) 0)
+      (λ e.
+      let z : firstRefusal (k .refusals) ≡ 0 = eqb-true _ 0 e in
+      let x = granted-alike a z in
+      let y = same-answer x in
+      rw (q, e) (rw (y .0, y .1), y .2, alike-done x (granted g z .0) (granted j (q ∙ z) .0) s t zs zt w))
+      (λ e. rw (q, e) (refl, refl, w))

@@ -1,0 +1,127 @@
+-- Call 2 writes in its own cell and reads in its own cell.
+use mathlib.Core.Path.{_≡_, refl, sym, ap, _∙_}
+use mathlib.Core.Bool.{Bool, true, false, cond}
+use mathlib.Core.List.{List}
+use Prim.Native.Nat.{ℕ, zero, suc, _≤_, _<_}
+use native.Mathlib.Omega.{arith}
+use lib.Dec.{leb, eqb}
+use borrow.Author.Tests.{lt-leb, eqb-false}
+use Rattle.rules.specs.Layout.{Kind, process, segment, file, slots, cellOf, Addr, at, entries, heldAt}
+use Rattle.rules.specs.Rule.{Word, over, sameAddr}
+use Rattle.rules.specs.Find.{freed, zeros, oneLess, givenUp}
+use Rattle.rules.specs.Call02.{dropped, droppedTo, released, releaseProcess}
+use Rattle.laws.proofs.Tests.{split, cond-true, cond-false}
+use Rattle.laws.proofs.Places.{same-addr}
+use Rattle.laws.proofs.Written.{AllOf, nil, also, all-if, all-append}
+use Rattle.secrecy.proofs.Rules.{good-rules, alike-rules, Ups, Good, Alike}
+use Rattle.secrecy.proofs.View
+use Rattle.secrecy.proofs.Lists.{all-tab, over-at}
+use Rattle.secrecy.proofs.Give.{up-freed, up-given, same-given}
+
+-- ---- entries are given up one after the other, each on what those before it leave: no word of a process becomes anything but 0
+
+abbrev Clears : Word → Type 0
+Clears x = x .at .kind ≡ process → x .value ≡ 0
+
+no-process : (k : Kind) → View.holdable k ≡ true → k ≡ process → ⊥
+no-process k e n = let z : false ≡ true = ap View.holdable (sym n) ∙ e in mathlib.Core.Bool.true≢false (sym z)
+
+clears-freed : (k : Kind) (i : ℕ) → AllOf Clears (freed k i)
+unfolding zeros
+clears-freed k i = also (λ e. refl) (all-tab _ _ _ _ (λ j lo hi e. refl))
+
+clears-dropped : (h : List ℕ) (r : Addr → ℕ) (k : Kind) (q d : ℕ) → View.holdable k ≡ true → AllOf Clears (dropped h r k q d)
+unfolding dropped givenUp oneLess
+clears-dropped h r k q d e =
+    let other : (x : ℕ) → k ≡ process → x ≡ 0 = λ x n. absurd (no-process k e n) in
+    search (all-if, also, nil, clears-freed, other) depth 8
+
+clears-to : (h : List ℕ) (r : Addr → ℕ) (k : Kind) (q n : ℕ) → View.holdable k ≡ true → AllOf Clears (droppedTo h r k q n)
+unfolding droppedTo
+clears-to h r k q zero e = nil
+clears-to h r k q (suc n) e = all-append _ (clears-to h r k q n e) (clears-dropped h (over r (droppedTo h r k q n)) k q n e)
+
+over-some : {ws : List Word} (a : Addr) → a .kind ≡ process → AllOf Clears ws → (r : Addr → ℕ) → eqb (over r ws a) 0 ≡ false → over r ws a ≡ r a
+unfolding over
+over-some a e nil r n = refl
+over-some a e (also {x = x} {xs = xs} c cs) r n =
+    let r′ : Addr → ℕ = λ b. cond (sameAddr b (x .at)) (x .value) (r b) in
+    let here : over r′ xs a ≡ r′ a = over-some a e cs r′ n in
+    split (over r′ xs a ≡ r a) (sameAddr a (x .at))
+    (λ s. absurd (eqb-false (over r′ xs a) 0 n (here ∙ cond-true (sameAddr a (x .at)) (x .value) (r a) s ∙ c (sym (ap (λ (b : Addr). b .kind) (same-addr a (x .at) s)) ∙ e))))
+    (λ s. here ∙ cond-false (sameAddr a (x .at)) (x .value) (r a) s)
+
+here-over : {h : List ℕ} {p : ℕ} {r : Addr → ℕ} {ws : List Word} → AllOf Clears ws → View.Here h p r → View.Here h p (over r ws)
+here-over {h} {p} {r} {ws} c v = record {
+  shape = v .shape;
+  there = v .there;
+  reaching = λ p k d pp e l n.
+      let same : over r ws (at process p (heldAt k d)) ≡ r (at process p (heldAt k d)) = over-some (at process p (heldAt k d)) refl c r n in
+      rw same (v .reaching p k d pp e l (rw same at n));
+}
+
+view-over : {h : List ℕ} {p : ℕ} {C : ℕ → Bool} {r q : Addr → ℕ} {ws : List Word} → AllOf Clears ws → View.View h p C r q → View.View h p C (over r ws) (over q ws)
+view-over {r = r} {q = q} {ws = ws} c v =
+    record { here = here-over c (v .here); closed = v .closed; within = v .within; seen = λ a l i. over-at ws r q a (v .seen a l i) }
+
+-- ---- the process that gives up its entries
+
+module _ {h : List ℕ} {p : ℕ} where
+  up-dropped : {r : Addr → ℕ} → View.Here h p r → (k : Kind) (d : ℕ) → View.holdable k ≡ true → leb entries d ≡ false → Ups h (cellOf h process p) (dropped h r k p d)
+  unfolding dropped
+  up-dropped v k d e l = search (all-if, nil, up-given v, View.held-in v)
+
+  up-to : {r : Addr → ℕ} → View.Here h p r → (k : Kind) (n : ℕ) → View.holdable k ≡ true → n ≤ entries → Ups h (cellOf h process p) (droppedTo h r k p n)
+  unfolding droppedTo
+  up-to v k zero e l = nil
+  up-to {r} v k (suc n) e l =
+      all-append _ (up-to v k n e (omega arith)) (up-dropped (here-over (clears-to h r k p n e) v) k n e (lt-leb entries n l))
+
+  up-released : {r : Addr → ℕ} → View.Here h p r → Ups h (cellOf h process p) (released h r p)
+  unfolding released
+  up-released {r} v =
+      all-append _ (up-to v file entries refl (omega arith))
+      (all-append _ (up-to (here-over (clears-to h r file p entries refl) v) segment entries refl (omega arith)) (up-freed v process p (v .there) refl))
+
+  same-dropped : {C : ℕ → Bool} {r q : Addr → ℕ} → View.View h p C r q → (k : Kind) (d : ℕ) → View.holdable k ≡ true → leb entries d ≡ false
+      → dropped h q k p d ≡ dropped h r k p d
+  unfolding dropped
+  same-dropped {r = r} v k d e l = rw (View.same-held v k d e l)
+      (split _ (eqb (r (at process p (heldAt k d))) 0)
+      (λ z. rw z)
+      (λ z. rw (same-given v k d (r (at process p (heldAt k d))) e (View.held-in (v .here) k d e l z))))
+
+  same-to : {C : ℕ → Bool} {r q : Addr → ℕ} → View.View h p C r q → (k : Kind) (n : ℕ) → View.holdable k ≡ true → n ≤ entries
+      → droppedTo h q k p n ≡ droppedTo h r k p n
+  unfolding droppedTo
+  same-to v k zero e l = refl
+  same-to {r = r} {q = q} v k (suc n) e l =
+      rw (same-to v k n e (omega arith))
+      (rw (same-dropped (view-over (clears-to h r k p n e) v) k n e (lt-leb entries n l)))
+
+  same-released : {C : ℕ → Bool} {r q : Addr → ℕ} → View.View h p C r q → released h q p ≡ released h r p
+  unfolding released
+  same-released {r = r} v =
+      rw (same-to v file entries refl (omega arith))
+      (rw (same-to (view-over (clears-to h r file p entries refl) v) segment entries refl (omega arith)))
+
+-- ---- the caller, and the process of its cell that it releases
+
+up-other : {h : List ℕ} {p : ℕ} {r : Addr → ℕ} → View.Here h p r → (o : ℕ) → o < slots h process → cellOf h process o ≡ cellOf h process p
+    → Ups h (cellOf h process p) (released h r o)
+up-other v o l e = rw (← e) (up-released (record { shape = v .shape; there = l; reaching = v .reaching }))
+
+same-other : {h : List ℕ} {p : ℕ} {C : ℕ → Bool} {r q : Addr → ℕ} → View.View h p C r q → (o : ℕ) → o < slots h process
+    → cellOf h process o ≡ cellOf h process p → released h q o ≡ released h r o
+same-other v o l e =
+    same-released (record { here = record { shape = v .here .shape; there = l; reaching = v .here .reaching }; closed = v .closed; within = rw e (v .within); seen = v .seen })
+
+pub good02 : {h : List ℕ} {p : ℕ} {r : Addr → ℕ} → View.Here h p r → (a : ℕ) (buffer : List ℕ) → Good h (cellOf h process p) (releaseProcess h r p a buffer)
+unfolding releaseProcess
+good02 v a buffer = search (good-rules, up-other v, View.formed-in, View.same-cell) depth 12
+
+pub alike02 : {h : List ℕ} {p : ℕ} {C : ℕ → Bool} {r q : Addr → ℕ} → View.View h p C r q → (a : ℕ) (buffer : List ℕ)
+    → Alike h C (releaseProcess h r p a buffer) (releaseProcess h q p a buffer)
+unfolding releaseProcess
+alike02 v a buffer =
+    search (alike-rules, View.same-self v, View.same-me v, View.same-below v, View.same-present v, same-other v, View.formed-in, View.own-flows (v .here), View.same-cell) depth 12

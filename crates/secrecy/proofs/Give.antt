@@ -1,0 +1,54 @@
+-- An entry given up, an object freed: the writes stay in the own cell, and are the same in both readings.
+use mathlib.Core.Path.{_≡_, refl}
+use mathlib.Core.Bool.{Bool, true, false}
+use mathlib.Core.List.{List}
+use Prim.Native.Nat.{ℕ, _+_, _-_, _≤_, _<_}
+use native.Mathlib.Omega.{arith}
+use lib.Dec.{ltb, leb}
+use borrow.Author.Tests.{eqb-true, lt-ltb}
+use Rattle.rules.specs.Layout.{Kind, process, segment, file, recordWords, slots, cellOf, Addr, live, entries, links, holders}
+use Rattle.rules.specs.Seid.{indexOf}
+use Rattle.rules.specs.Find.{inOwnCell, freed, zeros, kept, oneLess, givenUp}
+use Rattle.laws.proofs.Tests.{split}
+use Rattle.laws.proofs.Written.{nil, also, all-if}
+use Rattle.secrecy.proofs.Lists.{all-tab}
+use Rattle.secrecy.proofs.Rules.{Ups}
+use Rattle.secrecy.proofs.View.{common, holdable, Here, View, up-own, up-held, up-used, same-below, own-flows}
+
+holders-fit : (k : Kind) → holdable k ≡ true → ltb (holders k) (recordWords k) ≡ true
+holders-fit process e = e
+holders-fit segment e = refl
+holders-fit file e = refl
+
+module _ {h : List ℕ} {p : ℕ} {r : Addr → ℕ} (v : Here h p r) where
+  pub up-zeros : (k : Kind) (i j n : ℕ) → i < slots h k → cellOf h k i ≡ cellOf h process p → j + n ≤ recordWords k → Ups h (cellOf h process p) (zeros k i j n)
+  unfolding zeros
+  up-zeros k i j n l e m = all-tab _ j n _ (λ w lo hi. up-own v k i w l (lt-ltb w (recordWords k) (omega arith)) e)
+
+  pub up-freed : (k : Kind) (i : ℕ) → i < slots h k → cellOf h k i ≡ cellOf h process p → Ups h (cellOf h process p) (freed k i)
+  up-freed k i l e = also (up-own v k i live l (common k live refl) e) (up-zeros k i 2 (recordWords k - 2) l e (two k))
+    where
+      two : (k : Kind) → 2 + (recordWords k - 2) ≤ recordWords k
+      two process = omega arith
+      two segment = omega arith
+      two file = omega arith
+
+  pub up-given : (k : Kind) (d s : ℕ) → holdable k ≡ true → leb entries d ≡ false → indexOf s < slots h k → Ups h (cellOf h process p) (givenUp h r k p d s)
+  unfolding givenUp oneLess
+  up-given k d s e m l = search (also, nil, all-if, eqb-true, up-held v, up-used v, up-own v, up-freed, holders-fit) depth 8
+
+module _ {h : List ℕ} {p : ℕ} {C : ℕ → Bool} {r q : Addr → ℕ} (v : View h p C r q) where
+  same-kept : (k : Kind) (i : ℕ) → i < slots h k → cellOf h k i ≡ cellOf h process p → kept q k i ≡ kept r k i
+  same-kept process i l e = refl
+  same-kept segment i l e = refl
+  same-kept file i l e = rw (same-below v file i links l refl (own-flows (v .here) (cellOf h file i) e))
+
+  same-less : (k : Kind) (i : ℕ) → holdable k ≡ true → i < slots h k → cellOf h k i ≡ cellOf h process p → oneLess q k i ≡ oneLess r k i
+  unfolding oneLess
+  same-less k i o l e = rw (same-kept k i l e, same-below v k i (holders k) l (holders-fit k o) (own-flows (v .here) (cellOf h k i) e))
+
+  pub same-given : (k : Kind) (d s : ℕ) → holdable k ≡ true → indexOf s < slots h k → givenUp h q k p d s ≡ givenUp h r k p d s
+  unfolding givenUp
+  same-given k d s o l = split _ (inOwnCell h p k s)
+      (λ e. rw (same-less k (indexOf s) o l (eqb-true _ _ e)))
+      (λ e. rw e)

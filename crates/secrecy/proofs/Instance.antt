@@ -1,0 +1,152 @@
+-- Demand 3 speaks of something: two well-formed tables that differ in the high cell, and document 01's listing run on them.
+use mathlib.Core.Path.{_≡_, refl}
+use mathlib.Core.Bool.{true, false}
+use mathlib.Core.List.{List, [], _∷_, _++_}
+use Prim.Native.Nat.{ℕ}
+use native.Mathlib.Omega.{arith}
+use lib.Dec.{ltb}
+use lib.ListN.{length, replicate}
+use borrow.Author.Tests.{ltb-true}
+use Rattle.rules.specs.Words.{allBelow, someBelow, sumBelow, countBelow, lowest, tabFrom, part}
+use Rattle.rules.specs.Claim.{test}
+use Rattle.rules.specs.Level.{within, equals, flowsTo}
+use Rattle.rules.specs.Layout.{Kind, process, file, recordWords, live, serial, owner, bits, links, size, cells, slots, blocks, cellWord, levelOf, configuration, firstSlot, cellOf, flows, at, rd}
+use Rattle.rules.specs.Seid.{seid, classOf, indexOf, serialOf, isSeid, seidAt, orSelf, present}
+use Rattle.rules.specs.Modes.{validModes, reads, writes, excludesReaders, excludesWriters, clash}
+use Rattle.rules.specs.Rights.{rights, mayRead, mayWrite, lacks, asksRead, asksWrite, validAccess, access}
+use Rattle.rules.specs.WellFormed.{headerOk, cellOk, levelsDistinct, sumsMatch, configured, lengthsExact, recordOk, heldOk, currentOk, entryOk, parentOk, heldOnce, messageOk, processOk, ownEntry, ownEntries, segmentSize, segmentOk, fileOk, recordsOk, wellFormed}
+use Rattle.rules.specs.SetUp.{canSetUp, firstProcesses, freshTable, setUpTable}
+use Rattle.rules.specs.Find.{rightsAt, freeSlot, freeEntry, zeros, oneLess, givenUp}
+use Rattle.rules.specs.Call07.{create}
+use Rattle.rules.specs.Call08.{clashesAt, clashes, openFile}
+use Rattle.rules.specs.Call09.{close}
+use Rattle.rules.specs.Call13.{block, readBlock}
+use Rattle.rules.specs.Step.{State, Call, Reply, answer, ruleOf, badCaller, badCode, carriedOut, wholeRule, step, reply, run}
+use Rattle.rules.specs.Rule.{_≔_, bytesAt, Effect, effect, write, store}
+use Rattle.rules.specs.Observer.{observer, Closed, Agree, stays, remaining, replies}
+use Rattle.laws.proofs.Claims.{holds}
+use Rattle.laws.proofs.Written.{AllOf, nil, also}
+use Rattle.kept.proofs.Kept.{Well}
+use Rattle.secrecy.proofs.Levels.{flows-trans}
+use Rattle.secrecy.proofs.Rules.{Up, Ups, UpBytes}
+use Rattle.secrecy.proofs.Apply.{Sized, hide-effect}
+use Rattle.secrecy.proofs.Steps.{from-configuration}
+use Rattle.secrecy.proofs.Demand3.{one-observer}
+
+-- the rules' definitions that the examples compute with: to open this is to open them
+open-rules : Unit {0}
+unfolding freshTable firstProcesses allBelow someBelow sumBelow countBelow lowest tabFrom part within equals flowsTo cells slots blocks cellWord levelOf configuration firstSlot cellOf flows rd seid classOf indexOf serialOf isSeid seidAt orSelf present validModes reads writes excludesReaders excludesWriters clash rights mayRead mayWrite lacks asksRead asksWrite validAccess access headerOk cellOk levelsDistinct sumsMatch configured lengthsExact recordOk heldOk currentOk entryOk parentOk heldOnce messageOk processOk ownEntry ownEntries segmentSize segmentOk fileOk recordsOk wellFormed rightsAt freeSlot freeEntry zeros oneLess givenUp create clashesAt clashes openFile close block readBlock ruleOf badCaller badCode carriedOut wholeRule step reply stays remaining replies
+open-rules = tt
+
+-- "Two cells, security 1 and 3, integrity, compartments, owner and group 0, two process and two file slots each, no segment slots, B 1."
+unfoldable pub hall : List ℕ
+hall =
+    (2 ∷ 4 ∷ 0 ∷ 4 ∷ 1 ∷ 0 ∷ 0 ∷ 0 ∷ []) ++ ((1 ∷ 0 ∷ 0 ∷ 2 ∷ 0 ∷ 2 ∷ 0 ∷ 0 ∷ []) ++ (3 ∷ 0 ∷ 0 ∷ 2 ∷ 0 ∷ 2 ∷ 0 ∷ 0 ∷ []))
+
+unfoldable pub fresh : State
+fresh = record { table = freshTable hall; store = replicate 2048 0 }
+
+-- as set-up leaves it, whatever stood there
+pub set-up-gives : setUpTable (hall ++ replicate 448 9) 2048 ≡ fresh .table
+unfolding hall fresh canSetUp setUpTable open-rules
+set-up-gives = refl
+
+fresh-test : test (wellFormed (fresh .table) (length (fresh .store))) ≡ true
+unfolding hall fresh open-rules
+fresh-test = refl
+
+-- ---- 01's listing
+
+abbrev call : ℕ → ℕ → ℕ → ℕ → ℕ → Call
+call p k a b n = record { caller = p; code = k; a = a; b = b; c = 0; buffer = replicate n 0 }
+
+abbrev said : ℕ → ℕ → ℕ → ℕ → Reply
+said e x y n = record { answered = answer e x y; buffer = replicate n 0 }
+
+unfoldable pub listing : List Call
+listing =
+    call 0 7 420 3 0 ∷ call 2 8 2164260865 1 0 ∷ call 0 7 420 1 0 ∷ call 0 7 420 1 0 ∷ call 0 9 0 0 0 ∷ call 2 13 0 0 512 ∷ call 0 7 420 3 0 ∷ call 2 13 0 0 512 ∷ []
+
+pub listed : replies hall (λ c. true) fresh listing
+    ≡ said 0 2164260865 0 0 ∷ said 0 0 0 0 ∷ said 0 2164326401 1 0 ∷ said 26 0 0 0 ∷ said 0 0 0 0 ∷ said 12 0 0 512 ∷ said 0 2164260866 0 0 ∷ said 12 0 0 512 ∷ []
+unfolding hall fresh listing open-rules
+listed = refl
+
+-- ---- a second state: in the high cell another process lives, and a file with contents
+
+unfoldable pub secret : Effect
+secret =
+    effect 0 0 []
+    ((at process 3 live ≔ 1) ∷ (at process 3 serial ≔ 7) ∷ (at process 3 owner ≔ 5) ∷ (at file 2 live ≔ 1) ∷ (at file 2 serial ≔ 9) ∷ (at file 2 bits ≔ 420)
+    ∷ (at file 2 links ≔ 1) ∷ (at file 2 size ≔ 1) ∷ [])
+    (bytesAt 2 0 (1 ∷ 2 ∷ 3 ∷ []) ∷ [])
+
+unfoldable pub other : State
+other = record { table = write hall (fresh .table) (secret .words); store = store hall (fresh .store) (secret .bytes) }
+
+-- the high calls are others too
+unfoldable pub others : List Call
+others =
+    call 3 1 5 5 0 ∷ call 0 7 420 3 0 ∷ call 2 7 438 3 0 ∷ call 0 7 420 1 0 ∷ call 3 13 0 0 512 ∷ call 0 7 420 1 0 ∷ call 0 9 0 0 0 ∷ call 0 7 420 3 0 ∷ call 2 15 0 0 12 ∷ []
+
+other-test : test (wellFormed (other .table) (length (other .store))) ≡ true
+unfolding other secret hall fresh open-rules
+other-test = refl
+
+-- the two states differ
+pub differ : (rd hall (fresh .table) (at process 3 live) ≡ 0) × (rd hall (other .table) (at process 3 live) ≡ 1)
+unfolding hall fresh freshTable firstProcesses other secret rd cells slots cellWord firstSlot sumBelow
+differ = (refl, refl)
+
+-- ---- the premises of demand 3 are met, for an observer in the low cell
+
+pub fresh-formed : Well fresh
+fresh-formed = holds (wellFormed (fresh .table) (length (fresh .store))) fresh-test
+
+pub other-formed : Well other
+other-formed = holds (wellFormed (other .table) (length (other .store))) other-test
+
+fresh-configuration : configuration (fresh .table) ≡ hall
+unfolding hall fresh open-rules
+fresh-configuration = refl
+
+other-configuration : configuration (other .table) ≡ hall
+unfolding other secret hall fresh open-rules
+other-configuration = refl
+
+low-closed : Closed hall (observer hall 0)
+low-closed c d f g = flows-trans hall c d 0 f g
+
+-- the high cell does not flow to the observer, and what differs lies in it
+high-unseen : observer hall 0 1 ≡ false
+unfolding hall open-rules
+high-unseen = refl
+
+high : (k : Kind) (i j : ℕ) → cellOf hall k i ≡ 1 → ltb i (slots hall k) ≡ true → ltb j (recordWords k) ≡ true → Up hall 1 (at k i j)
+unfolding hall open-rules
+high k i j e l m = record { valid = (ltb-true i (slots hall k) l, ltb-true j (recordWords k) m); up = rw e }
+
+high-words : Ups hall 1 (secret .words)
+unfolding secret hall open-rules
+high-words = search (also, nil, high) depth 12
+
+high-bytes : AllOf (UpBytes hall 1) (secret .bytes)
+unfolding secret hall open-rules
+high-bytes = let u : UpBytes hall 1 (bytesAt 2 0 (1 ∷ 2 ∷ 3 ∷ [])) = record { there = omega arith; inside = omega arith; up = refl } in also u nil
+
+fresh-sized : Sized hall fresh
+unfolding hall fresh open-rules
+fresh-sized = record { words = refl; bytes = refl }
+
+pub agreed : Agree (observer hall 0) fresh other
+unfolding other
+agreed = from-configuration hall (observer hall 0) fresh other fresh-configuration other-configuration
+    (hide-effect hall (observer hall 0) 1 secret low-closed high-unseen high-words high-bytes fresh fresh-sized)
+
+pub same-remaining : remaining hall (observer hall 0) listing ≡ remaining hall (observer hall 0) others
+unfolding listing others hall open-rules
+same-remaining = refl
+
+-- Demand 3 at work: the low caller of 01's listing gets the same answers whatever stands and happens in the high cell.
+pub at-work : (replies hall (observer hall 0) fresh listing ≡ replies hall (observer hall 0) other others) × Agree (observer hall 0) (run fresh listing) (run other others)
+at-work = (rw fresh-configuration at (one-observer 0 fresh other fresh-formed other-formed)) agreed listing others same-remaining

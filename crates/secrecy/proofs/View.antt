@@ -1,0 +1,205 @@
+-- What the calls share: the words that a caller may write, and the words that two readings alike for its cell have in common.
+use mathlib.Core.Path.{_≡_, refl, sym}
+use mathlib.Core.Bool.{Bool, true, false, _||_, not, true≢false}
+use mathlib.Core.List.{List}
+use Prim.Native.Nat.{ℕ, _+_, _*_, _≤_, _<_}
+use native.Mathlib.Omega.{arith}
+use lib.Dec.{ltb, leb, eqb}
+use lib.ListN.{getD}
+use borrow.Author.Tests.{ltb-true, leb-false, eqb-true, eqb-false, lt-ltb, lt-leb}
+use Rattle.rules.specs.Claim.{Holds}
+use Rattle.rules.specs.Layout.{Kind, process, segment, file, recordWords, slots, cells, cellSlots, firstSlot, cellOf, flows, Addr, at, Valid, live, serial, owner, group, entries, heldAt, usedAt, bits, stretch}
+use Rattle.rules.specs.Seid.{class, indexOf, formed, seidAt, orSelf, present}
+use Rattle.rules.specs.WellFormed.{recordsOk}
+use Rattle.rules.specs.Observer.{Closed}
+use Rattle.rules.specs.Find.{freeSlot, noSlot, freeEntry, rightsAt}
+use Rattle.laws.proofs.Tests.{tests, or-left, passed}
+use Rattle.laws.proofs.Search.{lowest-ge, lowest-same}
+use Rattle.laws.proofs.Seids.{is-formed}
+use Rattle.laws.proofs.Cells.{cell-run, run-end}
+use Rattle.laws.proofs.Shape.{Shape, in-run, Entry, descriptor, designator}
+use Rattle.secrecy.proofs.Levels.{flows-refl}
+use Rattle.secrecy.proofs.Rules.{Up}
+
+-- ---- places in a record. (A test such as `ltb j 8` computes at a numeral, so that `search` closes it by refl.)
+
+-- every record has the first eight words
+pub common : (k : Kind) (j : ℕ) → ltb j 8 ≡ true → ltb j (recordWords k) ≡ true
+common process j l = lt-ltb j (recordWords process) (omega (arith, tests))
+common segment j l = l
+common file j l = l
+
+-- an entry holds a file or a segment, not a process
+abbrev pub holdable : Kind → Bool
+holdable process = false
+holdable segment = true
+holdable file = true
+
+pub held-fits : (k : Kind) (d : ℕ) → holdable k ≡ true → leb entries d ≡ false → heldAt k d < recordWords process
+held-fits process d e l = absurd (true≢false (sym e))
+held-fits segment d e l = omega (arith, tests)
+held-fits file d e l = omega (arith, tests)
+
+pub used-fits : (k : Kind) (d : ℕ) → holdable k ≡ true → leb entries d ≡ false → usedAt k d < recordWords process
+used-fits process d e l = absurd (true≢false (sym e))
+used-fits segment d e l = omega (arith, tests)
+used-fits file d e l = omega (arith, tests)
+
+-- ---- what a refusal that was passed says
+
+pub formed-in : (h : List ℕ) (k : Kind) (s : ℕ) → not (formed h k s) ≡ false → indexOf s < slots h k
+formed-in h k s e = is-formed (class k) (slots h k) s (passed (formed h k s) e) .index-in
+
+pub allowed : (a b : Bool) → not a || b ≡ false → a ≡ true
+allowed a b e = passed a (or-left (not a) b e)
+
+pub same-cell : (c d : ℕ) → not (eqb c d) ≡ false → c ≡ d
+same-cell c d e = eqb-true c d (passed (eqb c d) e)
+
+-- ---- a caller, and two readings of the table
+
+-- an object that a process of cell c holds: its slot is there, and its cell flows to c
+pub record Reached (h : List ℕ) (k : Kind) (c i : ℕ) : Type 0 where
+  pub there : i < slots h k
+  pub flow : flows h (cellOf h k i) c ≡ true
+
+-- every process reaches what it holds
+abbrev pub Reaching : List ℕ → (Addr → ℕ) → Type 0
+Reaching h r = (p : ℕ) (k : Kind) (d : ℕ) → p < slots h process → holdable k ≡ true → leb entries d ≡ false → eqb (r (at process p (heldAt k d))) 0 ≡ false
+    → Reached h k (cellOf h process p) (indexOf (r (at process p (heldAt k d))))
+
+-- process p has a slot
+pub record Here (h : List ℕ) (p : ℕ) (r : Addr → ℕ) : Type 0 where
+  pub shape : Shape h
+  pub there : p < slots h process
+  pub reaching : Reaching h r
+
+-- two readings of the table, alike for a set that holds its cell
+pub record View (h : List ℕ) (p : ℕ) (C : ℕ → Bool) (r q : Addr → ℕ) : Type 0 where
+  pub here : Here h p r
+  pub closed : Closed h C
+  pub within : C (cellOf h process p) ≡ true
+  pub seen : (a : Addr) → Valid h a → C (cellOf h (a .kind) (a .slot)) ≡ true → r a ≡ q a
+
+-- two stores that agree at the stretches of the set's files
+abbrev pub Stretches : List ℕ → (ℕ → Bool) → List ℕ → List ℕ → Type 0
+Stretches h C s t = (f i : ℕ) → f < slots h file → i < stretch h → C (cellOf h file f) ≡ true → getD s (f * stretch h + i) 0 ≡ getD t (f * stretch h + i) 0
+
+-- so it is in a well-formed table
+module _ (h : List ℕ) (r : Addr → ℕ) (w : Holds (recordsOk h r)) where
+  pub entry-at : (p : ℕ) (k : Kind) (d : ℕ) → p < slots h process → holdable k ≡ true → leb entries d ≡ false
+      → Entry h r k (cellOf h process p) (r (at process p (heldAt k d))) (r (at process p (usedAt k d)))
+  entry-at p process d pp e l = absurd (true≢false (sym e))
+  entry-at p segment d pp e l = designator h r w p d pp (leb-false entries d l)
+  entry-at p file d pp e l = descriptor h r w p d pp (leb-false entries d l)
+
+  pub is-reaching : Reaching h r
+  is-reaching p k d pp e l n =
+      let x = entry-at p k d pp e l .held (eqb-false (r (at process p (heldAt k d))) 0 n) in
+      record { there = is-formed (class k) (slots h k) (r (at process p (heldAt k d))) (x .form) .index-in; flow = x .flow }
+
+module _ {h : List ℕ} {p : ℕ} {r : Addr → ℕ} (v : Here h p r) where
+  own-cell : cellOf h process p < cells h
+  own-cell = in-run h (v .shape) process p (v .there) .0
+
+  pub own-flow : flows h (cellOf h process p) (cellOf h process p) ≡ true
+  own-flow = flows-refl h (cellOf h process p) own-cell
+
+  pub own-flows : (c : ℕ) → c ≡ cellOf h process p → flows h c (cellOf h process p) ≡ true
+  own-flows c e = rw e own-flow
+
+  pub held-in : (k : Kind) (d : ℕ) → holdable k ≡ true → leb entries d ≡ false → eqb (r (at process p (heldAt k d))) 0 ≡ false
+      → indexOf (r (at process p (heldAt k d))) < slots h k
+  held-in k d e l n = v .reaching p k d (v .there) e l n .there
+
+  pub held-flows : (k : Kind) (d : ℕ) → holdable k ≡ true → leb entries d ≡ false → eqb (r (at process p (heldAt k d))) 0 ≡ false
+      → flows h (cellOf h k (indexOf (r (at process p (heldAt k d))))) (cellOf h process p) ≡ true
+  held-flows k d e l n = v .reaching p k d (v .there) e l n .flow
+
+  -- ---- the slots of the own cell, and the free one
+
+  pub run-in : (k : Kind) (i : ℕ) → firstSlot h k (cellOf h process p) ≤ i → i < firstSlot h k (cellOf h process p) + cellSlots h k (cellOf h process p) → i < slots h k
+  run-in k i lo hi = omega (arith, run-end h k (cellOf h process p) own-cell, v .shape .sums k)
+
+  pub run-own : (k : Kind) (i : ℕ) → firstSlot h k (cellOf h process p) ≤ i → i < firstSlot h k (cellOf h process p) + cellSlots h k (cellOf h process p)
+      → cellOf h k i ≡ cellOf h process p
+  run-own k i lo hi = cell-run h k i (cellOf h process p) own-cell lo hi
+
+  free-ge : (k : Kind) → firstSlot h k (cellOf h process p) ≤ freeSlot h r k (cellOf h process p)
+  unfolding freeSlot
+  free-ge k = lowest-ge _ (cellSlots h k (cellOf h process p)) (firstSlot h k (cellOf h process p))
+
+  pub free-in : (k : Kind) → noSlot h r k (cellOf h process p) ≡ false → freeSlot h r k (cellOf h process p) < slots h k
+  free-in k e = run-in k (freeSlot h r k (cellOf h process p)) (free-ge k) (leb-false _ _ e)
+
+  pub free-own : (k : Kind) → noSlot h r k (cellOf h process p) ≡ false → cellOf h k (freeSlot h r k (cellOf h process p)) ≡ cellOf h process p
+  free-own k e = run-own k (freeSlot h r k (cellOf h process p)) (free-ge k) (leb-false _ _ e)
+
+  -- ---- writes
+
+  pub up-own : (k : Kind) (i j : ℕ) → i < slots h k → ltb j (recordWords k) ≡ true → cellOf h k i ≡ cellOf h process p → Up h (cellOf h process p) (at k i j)
+  up-own k i j l m e = record { valid = (l, ltb-true j (recordWords k) m); up = rw e own-flow }
+
+  pub up-me : (j : ℕ) → ltb j (recordWords process) ≡ true → Up h (cellOf h process p) (at process p j)
+  up-me j m = record { valid = (v .there, ltb-true j (recordWords process) m); up = own-flow }
+
+  pub up-held : (k : Kind) (d : ℕ) → holdable k ≡ true → leb entries d ≡ false → Up h (cellOf h process p) (at process p (heldAt k d))
+  up-held k d e l = record { valid = (v .there, held-fits k d e l); up = own-flow }
+
+  pub up-used : (k : Kind) (d : ℕ) → holdable k ≡ true → leb entries d ≡ false → Up h (cellOf h process p) (at process p (usedAt k d))
+  up-used k d e l = record { valid = (v .there, used-fits k d e l); up = own-flow }
+
+module _ {h : List ℕ} {p : ℕ} {C : ℕ → Bool} {r q : Addr → ℕ} (v : View h p C r q) where
+  -- ---- reads of the own record
+
+  pub same-me : (j : ℕ) → ltb j (recordWords process) ≡ true → q (at process p j) ≡ r (at process p j)
+  same-me j l = sym (v .seen (at process p j) (v .here .there, ltb-true j (recordWords process) l) (v .within))
+
+  pub same-held : (k : Kind) (d : ℕ) → holdable k ≡ true → leb entries d ≡ false → q (at process p (heldAt k d)) ≡ r (at process p (heldAt k d))
+  same-held k d e l = sym (v .seen (at process p (heldAt k d)) (v .here .there, held-fits k d e l) (v .within))
+
+  pub same-used : (k : Kind) (d : ℕ) → holdable k ≡ true → leb entries d ≡ false → q (at process p (usedAt k d)) ≡ r (at process p (usedAt k d))
+  same-used k d e l = sym (v .seen (at process p (usedAt k d)) (v .here .there, used-fits k d e l) (v .within))
+
+  pub same-seid : seidAt q process p ≡ seidAt r process p
+  unfolding seidAt
+  same-seid = rw (same-me serial refl)
+
+  pub same-self : (a : ℕ) → orSelf q p a ≡ orSelf r p a
+  unfolding orSelf
+  same-self a = rw same-seid
+
+  -- ---- reads of a record of a cell that flows to the caller's
+
+  pub same-below : (k : Kind) (i j : ℕ) → i < slots h k → ltb j (recordWords k) ≡ true → flows h (cellOf h k i) (cellOf h process p) ≡ true
+      → q (at k i j) ≡ r (at k i j)
+  same-below k i j l m f = sym (v .seen (at k i j) (l, ltb-true j (recordWords k) m) (v .closed (cellOf h k i) (cellOf h process p) f (v .within)))
+
+  pub same-present : (k : Kind) (s : ℕ) → indexOf s < slots h k → flows h (cellOf h k (indexOf s)) (cellOf h process p) ≡ true
+      → present q k s ≡ present r k s
+  unfolding present
+  same-present k s l f = rw (same-below k (indexOf s) live l (common k live refl) f, same-below k (indexOf s) serial l (common k serial refl) f)
+
+  pub same-rights : (k : Kind) (i : ℕ) → i < slots h k → flows h (cellOf h k i) (cellOf h process p) ≡ true → rightsAt q p k i ≡ rightsAt r p k i
+  unfolding rightsAt
+  same-rights k i l f =
+      rw (
+        same-me owner refl,
+        same-me group refl,
+        same-below k i owner l (common k owner refl) f,
+        same-below k i group l (common k group refl) f,
+        same-below k i bits l (common k bits refl) f,
+      )
+
+  -- ---- searches
+
+  pub same-free-entry : (k : Kind) → holdable k ≡ true → freeEntry q k p ≡ freeEntry r k p
+  unfolding freeEntry
+  same-free-entry k e = lowest-same _ _ entries 0 (λ d lo hi. rw (same-held k d e (lt-leb entries d hi)))
+
+  pub same-free-slot : (k : Kind) → freeSlot h q k (cellOf h process p) ≡ freeSlot h r k (cellOf h process p)
+  unfolding freeSlot
+  same-free-slot k = lowest-same _ _ (cellSlots h k (cellOf h process p)) (firstSlot h k (cellOf h process p)) (λ i lo hi.
+      let l = run-in (v .here) k i lo hi in
+      let f = own-flows (v .here) (cellOf h k i) (run-own (v .here) k i lo hi) in
+      rw (same-below k i live l (common k live refl) f, same-below k i serial l (common k serial refl) f))
