@@ -206,7 +206,7 @@ pub(crate) fn empty_at(t: &[u32], from: usize) -> u32
 }
 
 // n zeros from a place on.
-fn clear(t: &mut [u32], from: usize, n: usize)
+pub(crate) fn clear(t: &mut [u32], from: usize, n: usize)
     requires { ⌜ from + n < 2 ^ 50 ⌝ }
     ensures { λ _. ⌜ now (t .exit) ≡ sets (now (t .entry)) from (replicate n 0) ⌝ }
 {
