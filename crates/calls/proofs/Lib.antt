@@ -5,3 +5,6 @@ pub mod Given
 pub mod Named
 pub mod Entries
 pub mod Queues
+pub mod Room
+pub mod Holders
+pub mod Finds

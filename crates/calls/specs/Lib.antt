@@ -2,3 +2,4 @@
 pub mod World
 pub mod Left
 pub mod Mail
+pub mod Finds

@@ -2,6 +2,7 @@
 mod base;
 mod files;
 mod mail;
+mod objects;
 
 // "An answer is the number and two words."
 pub struct Answer {
