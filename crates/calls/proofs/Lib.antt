@@ -8,3 +8,4 @@ pub mod Queues
 pub mod Room
 pub mod Holders
 pub mod Finds
+pub mod Posts

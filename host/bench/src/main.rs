@@ -1,0 +1,340 @@
+//! The proved monitor and the plain one, timed side by side in one run.
+//!
+//! Each line is a ratio of proved to plain time: blocks of both are made in turn, each round gives one ratio, and the line shows
+//! the median of the rounds with its quartiles. Single calls include the whole-table check, as document 01 has it. The words that a
+//! successful call changes are put back after each call, in both alike and inside the time measured. Buffers are not cleared.
+//!
+//!   cargo run --release --bin bench [single|mixed|check|replay]..
+
+use plain::{Kind, Request};
+use std::env;
+use std::fs::{self, File};
+use std::io::{Read, Write};
+use std::path::{Path, PathBuf};
+use std::process::{Command, Stdio};
+use std::time::{Duration, Instant};
+use trial::tally::REFUSALS;
+use trial::{Call, Rng, World, calls, scripts, tables};
+
+/// Many short blocks: a block that the system interrupts spoils its own round only.
+const ROUNDS: usize = 101;
+const BLOCK: Duration = Duration::from_micros(200);
+const LONG_ROUNDS: usize = 21;
+const PLAIN_REPLAY: &str = "--plain-replay";
+
+const NAMES: [&str; 19] = [
+    "",
+    "spawn",
+    "release process",
+    "build segment",
+    "rendezvous",
+    "release segment",
+    "set access",
+    "create file",
+    "open",
+    "close",
+    "link",
+    "unlink",
+    "set bits",
+    "read block",
+    "write block",
+    "post",
+    "receive",
+    "status",
+    "access",
+];
+
+fn main() {
+    let asked: Vec<String> = env::args().skip(1).collect();
+    if asked == [PLAIN_REPLAY] {
+        return plain_replay();
+    }
+    let wanted = |part: &str| asked.is_empty() || asked.iter().any(|a| a == part);
+    println!(
+        "Ratios of proved to plain time: median of the rounds, with quartiles. Times of the plain monitor for context."
+    );
+    let tables = [("big", big()), ("small", small())];
+    if wanted("check") {
+        heading("The check alone");
+        for (name, world) in &tables {
+            line(&format!("{name} table, in use"), check(world));
+        }
+        for (name, world) in &tables {
+            line(&format!("{name} table, after set-up"), check(&after_setup(world)));
+        }
+    }
+    if wanted("single") {
+        for (name, world) in &tables {
+            single_calls(name, world);
+        }
+    }
+    if wanted("mixed") {
+        heading("1,024 mixed calls");
+        for (name, world) in &tables {
+            line(&format!("{name} table"), mixed(world));
+        }
+    }
+    if wanted("replay") {
+        replay();
+    }
+}
+
+/// 16 cells, 64 slots of each kind, B 64; every cell flows to those after it.
+fn big() -> World {
+    configured(16, 4, 64)
+}
+
+/// 2 cells, 4 slots of each kind, B 1.
+fn small() -> World {
+    configured(2, 2, 1)
+}
+
+/// A table in use on which every call has an example that succeeds and one that is refused.
+fn configured(cells: u32, slots: u32, blocks: u32) -> World {
+    let mut words = vec![cells, cells * slots, cells * slots, cells * slots, blocks, 0, 0, 0];
+    for cell in 0..cells {
+        words.extend([cell, 15 - cell, 0, slots, slots, slots, 0, 0]);
+    }
+    (0..)
+        .map(|seed| tables::busy(&mut Rng::new(seed), &words))
+        .find(|world| (1..=18).all(|code| examples(world, code).len() == 2))
+        .expect("some table has them all")
+}
+
+fn after_setup(world: &World) -> World {
+    let mut world = world.clone();
+    plain::setup(&mut world.table, world.store.len());
+    world
+}
+
+// Measuring.
+
+struct Ratio {
+    median: f64,
+    low: f64,
+    high: f64,
+    /// The plain time of one repetition.
+    plain: Duration,
+}
+
+/// Times two actions in turn; each is given a number of repetitions and says how long they took.
+fn ratio(
+    rounds: usize,
+    repetitions: u32,
+    mut proved: impl FnMut(u32) -> Duration,
+    mut plain: impl FnMut(u32) -> Duration,
+) -> Ratio {
+    proved(repetitions);
+    plain(repetitions); // both warm
+    let mut ratios = Vec::new();
+    let mut plains = Vec::new();
+    for round in 0..rounds {
+        let (a, b) = if round % 2 == 0 {
+            let a = proved(repetitions);
+            (a, plain(repetitions))
+        } else {
+            let b = plain(repetitions);
+            (proved(repetitions), b)
+        };
+        ratios.push(a.as_secs_f64() / b.as_secs_f64());
+        plains.push(b / repetitions);
+    }
+    ratios.sort_by(f64::total_cmp);
+    plains.sort();
+    let at = |part: f64| ratios[((rounds - 1) as f64 * part).round() as usize];
+    Ratio { median: at(0.5), low: at(0.25), high: at(0.75), plain: plains[rounds / 2] }
+}
+
+/// Repetitions that fill a block, by the plain action's time.
+fn repetitions(mut plain: impl FnMut(u32) -> Duration) -> u32 {
+    let one = (0..20).map(|_| plain(10) / 10).min().expect("there are some");
+    (BLOCK.as_nanos() / one.as_nanos().max(1)).clamp(1, 1_000_000) as u32
+}
+
+fn timed(repetitions: u32, mut action: impl FnMut()) -> Duration {
+    let started = Instant::now();
+    for _ in 0..repetitions {
+        action();
+    }
+    started.elapsed()
+}
+
+fn heading(text: &str) {
+    println!("\n## {text}\n\n| | ratio | quartiles | plain |\n|-|-:|-:|-:|");
+}
+
+fn line(name: &str, ratio: Ratio) {
+    let Ratio { median, low, high, plain } = ratio;
+    println!("| {name} | {median:.2} | {low:.2} to {high:.2} | {plain:.2?} |");
+}
+
+// The check and single calls.
+
+fn check(world: &World) -> Ratio {
+    let bytes = world.store.len();
+    let table = std::hint::black_box(&world.table[..]);
+    let proved = |n| timed(n, || assert!(monitor::well_formed(table, bytes)));
+    let plain = |n| timed(n, || assert!(plain::check(table, bytes).is_some()));
+    let n = repetitions(plain);
+    ratio(ROUNDS, n, proved, plain)
+}
+
+fn single_calls(name: &str, world: &World) {
+    heading(&format!("Single calls, {name} table"));
+    let mut all = Vec::new();
+    for code in 1..=18 {
+        for (outcome, call) in examples(world, code) {
+            let ratio = single_call(world, &call);
+            all.push(ratio.median);
+            line(&format!("{code} {}, {outcome}", NAMES[code as usize]), ratio);
+        }
+    }
+    all.sort_by(f64::total_cmp);
+    println!("\nMedian of these lines {:.2}, largest {:.2}.", all[all.len() / 2], all[all.len() - 1]);
+}
+
+/// A call of that code which succeeds on the table, and one that is refused as late in its list as can be found.
+fn examples(world: &World, code: u32) -> Vec<(String, Call)> {
+    let shape = world.shape();
+    let mut rng = Rng::new(u64::from(code));
+    let mut scratch = world.clone();
+    let mut done = None;
+    let mut refused: Option<(usize, u32, Call)> = None;
+    for _ in 0..2_000 {
+        let caller = calls::caller(&mut rng, world, &shape, |_| true).expect("there are processes");
+        if !world.live(&shape, Kind::Process, caller as usize) {
+            continue;
+        }
+        let call = calls::with_code(&mut rng, world, &shape, caller, code);
+        let error = plain_call(&mut scratch, &call.request, &mut call.buffer.clone());
+        if error == 0 {
+            scratch.table.copy_from_slice(&world.table);
+            done.get_or_insert(call);
+        } else if let Some(late) = REFUSALS[code as usize].iter().position(|&e| e == error)
+            && refused.as_ref().is_none_or(|(found, ..)| late > *found)
+        {
+            refused = Some((late, error, call));
+        }
+    }
+    let done = done.map(|call| ("done".to_string(), call));
+    let refused = refused.map(|(_, error, call)| (format!("refused with {error}"), call));
+    done.into_iter().chain(refused).collect()
+}
+
+/// One call by one of the two monitors; its error number.
+type Make = fn(&mut World, &Request, &mut [u8]) -> u32;
+
+fn plain_call(world: &mut World, request: &Request, buffer: &mut [u8]) -> u32 {
+    plain::call(&mut world.table, &mut world.store, request, buffer).error as u32
+}
+
+fn proved_call(world: &mut World, request: &Request, buffer: &mut [u8]) -> u32 {
+    let &Request { caller, code, a, b, c } = request;
+    monitor::call(&mut world.table, &mut world.store, caller, code, [a, b, c], buffer).error.number()
+}
+
+fn single_call(world: &World, call: &Call) -> Ratio {
+    let mut changed = world.clone();
+    plain_call(&mut changed, &call.request, &mut call.buffer.clone());
+    let undo: Vec<(usize, u32)> = (0..world.table.len())
+        .filter(|&at| changed.table[at] != world.table[at])
+        .map(|at| (at, world.table[at]))
+        .collect();
+    let action = |make: Make| {
+        let (mut world, undo) = (world.clone(), undo.clone());
+        let (request, mut buffer) = (call.request, call.buffer.clone());
+        move |n| {
+            timed(n, || {
+                std::hint::black_box(make(&mut world, std::hint::black_box(&request), &mut buffer));
+                for &(at, word) in &undo {
+                    world.table[at] = word;
+                }
+            })
+        }
+    };
+    let n = repetitions(action(plain_call));
+    ratio(ROUNDS, n, action(proved_call), action(plain_call))
+}
+
+// Many calls.
+
+/// The calls are drawn on the table as it stands when they are made. Both sides make them in pieces, in turn, and each piece's time
+/// is the median of the rounds; the ratio is that of the sums, and the quartiles are those of the pieces' ratios.
+fn mixed(world: &World) -> Ratio {
+    const PIECE: usize = 32;
+    let shape = world.shape();
+    let mut rng = Rng::new(7);
+    let mut along = world.clone();
+    let mut calls: Vec<Call> = Vec::new();
+    for _ in 0..1_024 {
+        let call = calls::any(&mut rng, &along, &shape);
+        plain_call(&mut along, &call.request, &mut call.buffer.clone());
+        calls.push(call);
+    }
+    let piece = |world: &mut World, calls: &mut [Call], make: Make| {
+        timed(1, || {
+            for call in calls.iter_mut() {
+                std::hint::black_box(make(world, &call.request, &mut call.buffer));
+            }
+        })
+    };
+    let mut times = vec![[Vec::new(), Vec::new()]; calls.len() / PIECE];
+    for _ in 0..LONG_ROUNDS {
+        let mut sides = [(world.clone(), proved_call as Make), (world.clone(), plain_call as Make)];
+        for (calls, times) in calls.chunks_mut(PIECE).zip(&mut times) {
+            for ((world, make), times) in sides.iter_mut().zip(times) {
+                times.push(piece(world, calls, *make));
+            }
+        }
+    }
+    let median = |times: &mut Vec<Duration>| {
+        times.sort();
+        times[times.len() / 2]
+    };
+    let pieces: Vec<[Duration; 2]> = times.iter_mut().map(|[a, b]| [median(a), median(b)]).collect();
+    let [proved, plain] = [0, 1].map(|side| pieces.iter().map(|piece| piece[side]).sum::<Duration>());
+    let mut ratios: Vec<f64> = pieces.iter().map(|[a, b]| a.as_secs_f64() / b.as_secs_f64()).collect();
+    ratios.sort_by(f64::total_cmp);
+    let (low, high) = (ratios[ratios.len() / 4], ratios[ratios.len() * 3 / 4]);
+    Ratio { median: proved.as_secs_f64() / plain.as_secs_f64(), low, high, plain }
+}
+
+// Replay, as whole programs.
+
+fn plain_replay() {
+    let mut input = Vec::new();
+    std::io::stdin().read_to_end(&mut input).expect("the input can be read");
+    std::io::stdout().write_all(&plain::replay(&input)).expect("the listing can be written");
+}
+
+fn replay() {
+    let here = PathBuf::from(env!("CARGO_MANIFEST_DIR"));
+    let program = env::var_os("MONITOR_REPLAY").map_or(here.join("../../target/bin/replay"), PathBuf::from);
+    if !program.exists() {
+        println!("\nNo replay program at {}: not measured.", program.display());
+        return;
+    }
+    let this = env::current_exe().expect("this program has a path");
+    let input = this.with_file_name("bench-replay-input");
+    heading("Replay, as whole programs, input from a file and output to none");
+    for (name, limits, calls) in [("small tables", tables::SMALL, 60_000), ("large tables", tables::LARGE, 20_000)] {
+        let script = scripts::valid(&mut Rng::new(9), limits, calls);
+        fs::write(&input, &script.bytes).expect("the input can be written");
+        let proved = |n| timed(n, || run(Command::new(&program), &input));
+        let plain = |n| {
+            timed(n, || {
+                let mut command = Command::new(&this);
+                command.arg(PLAIN_REPLAY);
+                run(command, &input);
+            })
+        };
+        line(&format!("{calls} calls, {name}"), ratio(LONG_ROUNDS, 1, proved, plain));
+    }
+    fs::remove_file(&input).expect("the input can be removed");
+}
+
+fn run(mut command: Command, input: &Path) {
+    let input = File::open(input).expect("the input is there");
+    let status = command.stdin(input).stdout(Stdio::null()).status().expect("the program runs");
+    assert!(status.success());
+}

@@ -1,0 +1,504 @@
+//! The eighteen calls. Each looks for its refusals first, in document 01's order, and writes only after the last of them.
+
+use crate::errors::Error::{self, *};
+use crate::seid::{Kind, Seid};
+use crate::table::*;
+
+#[derive(Clone, Copy, Debug, PartialEq, Eq)]
+pub struct Answer {
+    pub error: Error,
+    pub first: u32,
+    pub second: u32,
+}
+
+#[derive(Clone, Copy, Debug, Default, PartialEq, Eq)]
+pub struct Request {
+    pub caller: u32,
+    pub code: u32,
+    pub a: u32,
+    pub b: u32,
+    pub c: u32,
+}
+
+/// A call's two results, or its refusal.
+type Outcome = Result<(u32, u32), Error>;
+
+const DONE: Outcome = Ok((0, 0));
+
+pub fn call(table: &mut [u32], store: &mut [u8], request: &Request, buffer: &mut [u8]) -> Answer {
+    let (error, (first, second)) = match outcome(table, store, request, buffer) {
+        Ok(results) => (XOK, results),
+        Err(error) => (error, (0, 0)),
+    };
+    Answer { error, first, second }
+}
+
+fn outcome(table: &mut [u32], store: &mut [u8], request: &Request, buffer: &mut [u8]) -> Outcome {
+    let Some(shape) = check(table, store.len()) else {
+        return Err(XbTab);
+    };
+    let &Request { caller, code, a, b, c } = request;
+    let caller = caller as usize;
+    if caller >= shape.count(Kind::Process) || table[shape.at(Kind::Process, caller) + LIVE] == 0 {
+        return Err(XbPrSd);
+    }
+    let at = shape.at(Kind::Process, caller);
+    let mut caller = Caller {
+        at,
+        cell: shape.cell(Kind::Process, caller),
+        seid: Kind::Process.seid(caller, table[at + SERIAL]),
+        owner: table[at + OWNER],
+        group: table[at + GROUP],
+        shape: &shape,
+        table,
+        store,
+    };
+    match code {
+        1 => caller.spawn(a, b),
+        2 => caller.release_process(a),
+        3 => caller.build_segment(a, b, c),
+        4 => caller.rendezvous(a, b),
+        5 => caller.release_segment(a),
+        6 => caller.set_access(a, b),
+        7 => caller.create(a, b),
+        8 => caller.open(a, b),
+        9 => caller.close(a),
+        10 => caller.link(a),
+        11 => caller.unlink(a),
+        12 => caller.set_bits(a, b),
+        13 => caller.read_block(a, b, buffer),
+        14 => caller.write_block(a, b, buffer),
+        15 => caller.post(a, buffer),
+        16 => caller.receive(buffer),
+        17 => caller.status(a, buffer),
+        18 => caller.access(a),
+        _ => Err(XbdKcl),
+    }
+}
+
+/// A live process that makes a call on a well-formed table.
+struct Caller<'a> {
+    table: &'a mut [u32],
+    store: &'a mut [u8],
+    shape: &'a Shape,
+    /// The first word of its record.
+    at: usize,
+    cell: usize,
+    seid: u32,
+    owner: u32,
+    group: u32,
+}
+
+/// A slot: its index, the first word of its record, and its cell.
+#[derive(Clone, Copy)]
+struct Object {
+    index: usize,
+    at: usize,
+    cell: usize,
+}
+
+fn refuse_if(test: bool, error: Error) -> Result<(), Error> {
+    if test { Err(error) } else { Ok(()) }
+}
+
+/// Only five mode numbers are valid.
+pub fn valid_modes(modes: u32) -> bool {
+    matches!(modes, 1 | 2 | 3 | 11 | 15)
+}
+
+/// "Opens clash when either has 4, or one has 8 and the other 2."
+pub fn clash(x: u32, y: u32) -> bool {
+    (x | y) & 4 != 0 || x & 8 != 0 && y & 2 != 0 || y & 8 != 0 && x & 2 != 0
+}
+
+/// What the bits of an object grant to a process: read and write, at places 256 and 128.
+pub fn granted(bits: u32, same_owner: bool, same_group: bool) -> u32 {
+    let set = if same_owner {
+        bits
+    } else if same_group {
+        bits << 3
+    } else {
+        bits << 6
+    };
+    set & (READ | WRITE)
+}
+
+impl Caller<'_> {
+    fn slot(&self, kind: Kind, index: usize) -> Object {
+        Object { index, at: self.shape.at(kind, index), cell: self.shape.cell(kind, index) }
+    }
+
+    fn word(&self, object: Object, word: usize) -> u32 {
+        self.table[object.at + word]
+    }
+
+    /// Seid 0 means the calling process, in every call that takes a seid.
+    fn named(&self, seid: u32) -> u32 {
+        if seid == 0 { self.seid } else { seid }
+    }
+
+    // Finding.
+
+    /// Form and class, then level by `allowed` on the object's cell, then liveness and serial.
+    fn find(&self, kind: Kind, word: u32, allowed: impl Fn(usize) -> bool) -> Result<Object, Error> {
+        let seid = Seid::of(self.named(word));
+        refuse_if(!seid.fits(kind, self.shape.count(kind)), kind.absent())?;
+        let object = self.slot(kind, seid.index);
+        refuse_if(!allowed(object.cell), XnoAcc)?;
+        refuse_if(self.stale(object, seid.serial), kind.absent())?;
+        Ok(object)
+    }
+
+    fn stale(&self, object: Object, serial: u32) -> bool {
+        self.word(object, LIVE) == 0 || self.word(object, SERIAL) != serial
+    }
+
+    /// "Own is find with another cell giving 13, then owner unequal 14."
+    fn own(&self, kind: Kind, word: u32) -> Result<Object, Error> {
+        let object = self.find(kind, word, |cell| cell == self.cell)?;
+        refuse_if(self.word(object, OWNER) != self.owner, XnoOwner)?;
+        Ok(object)
+    }
+
+    fn flows_here(&self, cell: usize) -> bool {
+        self.shape.flow[cell][self.cell]
+    }
+
+    /// What today's bits of an object grant to the caller.
+    fn granted(&self, object: Object) -> u32 {
+        let same_owner = self.word(object, OWNER) == self.owner;
+        let same_group = self.word(object, GROUP) == self.group;
+        granted(self.word(object, BITS), same_owner, same_group)
+    }
+
+    fn lacks(&self, object: Object, access: u32) -> bool {
+        access & !self.granted(object) != 0
+    }
+
+    // Slots and entries.
+
+    /// The lowest slot of the caller's cell that isn't live and has a serial left.
+    fn free_slot(&self, kind: Kind) -> Option<Object> {
+        self.shape
+            .run(kind, self.cell)
+            .map(|index| self.slot(kind, index))
+            .find(|&slot| self.word(slot, LIVE) == 0 && self.word(slot, SERIAL) < MAX_SERIAL)
+    }
+
+    /// Makes a free slot live, with what all three kinds have in common; its new seid.
+    fn occupy(&mut self, kind: Kind, slot: Object, owner: u32, group: u32) -> u32 {
+        let serial = self.table[slot.at + SERIAL] + 1;
+        self.table[slot.at..slot.at + 4].copy_from_slice(&[1, serial, owner, group]);
+        kind.seid(slot.index, serial)
+    }
+
+    /// Clears a record but for its serial.
+    fn clear(&mut self, kind: Kind, index: usize) {
+        let record = &mut self.table[self.shape.record(kind, index)];
+        let serial = record[SERIAL];
+        record.fill(0);
+        record[SERIAL] = serial;
+    }
+
+    /// The word at which the caller's entry stands.
+    fn entry_at(&self, entries: usize, place: usize) -> usize {
+        self.at + entries + ENTRY_WORDS * place
+    }
+
+    fn empty_place(&self, entries: usize) -> Option<usize> {
+        (0..ENTRIES).find(|&place| self.table[self.entry_at(entries, place)] == 0)
+    }
+
+    fn put_entry(&mut self, entries: usize, place: usize, seid: u32, rights: u32) {
+        let at = self.entry_at(entries, place);
+        self.table[at] = seid;
+        self.table[at + 1] = rights;
+    }
+
+    /// The seid and rights that the caller holds at a place, if it is a place and holds something.
+    fn entry(&self, entries: usize, place: u32) -> Option<(u32, u32)> {
+        if place as usize >= ENTRIES {
+            return None;
+        }
+        let at = self.entry_at(entries, place as usize);
+        (self.table[at] != 0).then_some((self.table[at], self.table[at + 1]))
+    }
+
+    fn designator(&self, place: u32) -> Result<(u32, u32), Error> {
+        refuse_if(place as usize >= ENTRIES, XnSgDes)?;
+        self.entry(DESIGNATORS, place).ok_or(XbSgDes)
+    }
+
+    fn descriptor(&self, place: u32) -> Result<(u32, u32), Error> {
+        self.entry(DESCRIPTORS, place).ok_or(XbadOd)
+    }
+
+    /// The object of an entry, or None where the entry is stale. The table is well formed, so the slot is there.
+    fn object(&self, kind: Kind, word: u32) -> Option<Object> {
+        let seid = Seid::of(word);
+        let object = self.slot(kind, seid.index);
+        (!self.stale(object, seid.serial)).then_some(object)
+    }
+
+    /// Gives up the entry that stands at a word, if it holds anything: a process of the caller's cell holds it.
+    fn give_up(&mut self, kind: Kind, entry_at: usize) {
+        let seid = self.table[entry_at];
+        if seid == 0 {
+            return;
+        }
+        self.table[entry_at..entry_at + ENTRY_WORDS].fill(0);
+        let index = Seid::of(seid).index;
+        if self.shape.cell(kind, index) == self.cell {
+            self.table[self.shape.at(kind, index) + HOLDS] -= 1;
+            self.free_unheld(kind, index);
+        }
+    }
+
+    /// Frees a segment without references, and a file with neither links nor opens.
+    fn free_unheld(&mut self, kind: Kind, index: usize) {
+        let at = self.shape.at(kind, index);
+        let linked = kind == Kind::File && self.table[at + LINKS] != 0;
+        if self.table[at + HOLDS] == 0 && !linked {
+            self.clear(kind, index);
+        }
+    }
+
+    // Processes.
+
+    fn spawn(&mut self, owner: u32, group: u32) -> Outcome {
+        refuse_if(owner > MAX_ID || group > MAX_ID, XbParam)?;
+        refuse_if(self.owner != 0 && (owner != self.owner || group != self.group), XnoPriv)?;
+        let slot = self.free_slot(Kind::Process).ok_or(XnoProc)?;
+        let seid = self.occupy(Kind::Process, slot, owner, group);
+        self.table[slot.at + PARENT] = self.seid;
+        Ok((seid, 0))
+    }
+
+    fn release_process(&mut self, process: u32) -> Outcome {
+        let process = self.own(Kind::Process, process)?;
+        for place in 0..ENTRIES {
+            self.give_up(Kind::File, process.at + DESCRIPTORS + ENTRY_WORDS * place);
+            self.give_up(Kind::Segment, process.at + DESIGNATORS + ENTRY_WORDS * place);
+        }
+        self.clear(Kind::Process, process.index);
+        DONE
+    }
+
+    // Segments.
+
+    fn build_segment(&mut self, size: u32, bits: u32, sharable: u32) -> Outcome {
+        refuse_if(bits > MAX_BITS || sharable > 1, XbParam)?;
+        refuse_if(!segment_size(size), XbSgSz)?;
+        let place = self.empty_place(DESIGNATORS).ok_or(XodSpace)?;
+        let slot = self.free_slot(Kind::Segment).ok_or(XnoSpace)?;
+        let seid = self.occupy(Kind::Segment, slot, self.owner, self.group);
+        self.table[slot.at + BITS..=slot.at + HOLDS].copy_from_slice(&[bits, sharable, size, 1]);
+        self.put_entry(DESIGNATORS, place, seid, bits & (READ | WRITE));
+        Ok((seid, place as u32))
+    }
+
+    fn rendezvous(&mut self, segment: u32, access: u32) -> Outcome {
+        refuse_if(!matches!(access, 128 | 256 | 384), XbParam)?;
+        let writes = access & WRITE != 0;
+        let object =
+            self.find(Kind::Segment, segment, |cell| self.flows_here(cell) && (!writes || cell == self.cell))?;
+        refuse_if(self.word(object, SHARABLE) == 0, XsgNoAcc)?;
+        refuse_if(self.lacks(object, access), XdapViol)?;
+        let held = (0..ENTRIES).any(|place| self.table[self.entry_at(DESIGNATORS, place)] == segment);
+        refuse_if(held, XdupSg)?;
+        let place = self.empty_place(DESIGNATORS).ok_or(XodSpace)?;
+        self.put_entry(DESIGNATORS, place, segment, access);
+        if object.cell == self.cell {
+            self.table[object.at + HOLDS] += 1;
+        }
+        Ok((place as u32, 0))
+    }
+
+    fn release_segment(&mut self, designator: u32) -> Outcome {
+        self.designator(designator)?;
+        self.give_up(Kind::Segment, self.entry_at(DESIGNATORS, designator as usize));
+        DONE
+    }
+
+    fn set_access(&mut self, designator: u32, access: u32) -> Outcome {
+        refuse_if(!matches!(access, 0 | 128 | 256 | 384), XbParam)?;
+        let (seid, _) = self.designator(designator)?;
+        let object = self.object(Kind::Segment, seid).ok_or(XbSgSd)?;
+        refuse_if(access & WRITE != 0 && object.cell != self.cell, XnoAcc)?;
+        refuse_if(self.lacks(object, access), XdapViol)?;
+        self.put_entry(DESIGNATORS, designator as usize, seid, access);
+        DONE
+    }
+
+    fn access(&mut self, designator: u32) -> Outcome {
+        let (seid, access) = self.designator(designator)?;
+        let object = self.object(Kind::Segment, seid).ok_or(XbSgSd)?;
+        Ok((access & self.granted(object), 0))
+    }
+
+    // Files.
+
+    fn create(&mut self, bits: u32, modes: u32) -> Outcome {
+        refuse_if(bits > MAX_BITS, XbParam)?;
+        refuse_if(!valid_modes(modes), XbadModes)?;
+        let place = self.empty_place(DESCRIPTORS).ok_or(XodSpace)?;
+        let slot = self.free_slot(Kind::File).ok_or(XnoSpace)?;
+        let seid = self.occupy(Kind::File, slot, self.owner, self.group);
+        self.table[slot.at + BITS..=slot.at + HOLDS].copy_from_slice(&[bits, 0, 0, 1]);
+        self.put_entry(DESCRIPTORS, place, seid, modes);
+        Ok((seid, place as u32))
+    }
+
+    fn open(&mut self, file: u32, modes: u32) -> Outcome {
+        refuse_if(!valid_modes(modes), XbadModes)?;
+        let (reads, writes) = (modes & 1 != 0, modes & 2 != 0);
+        let object =
+            self.find(Kind::File, file, |cell| (!reads || self.flows_here(cell)) && (!writes || cell == self.cell))?;
+        let asked = if reads { READ } else { 0 } | if writes { WRITE } else { 0 };
+        refuse_if(self.lacks(object, asked), XdapViol)?;
+        refuse_if(object.cell == self.cell && self.clashes(file, modes), Xbusy)?;
+        let place = self.empty_place(DESCRIPTORS).ok_or(XodSpace)?;
+        self.put_entry(DESCRIPTORS, place, file, modes);
+        if object.cell == self.cell {
+            self.table[object.at + HOLDS] += 1;
+        }
+        Ok((place as u32, 0))
+    }
+
+    /// Whether a descriptor held in the file's own cell, the caller's, clashes with an open of it.
+    fn clashes(&self, file: u32, modes: u32) -> bool {
+        self.shape.run(Kind::Process, self.cell).any(|process| {
+            let at = self.shape.at(Kind::Process, process);
+            let (descriptors, _) = self.table[at + DESCRIPTORS..at + DESIGNATORS].as_chunks();
+            descriptors.iter().any(|&[seid, held]| seid == file && clash(modes, held))
+        })
+    }
+
+    fn close(&mut self, descriptor: u32) -> Outcome {
+        self.descriptor(descriptor)?;
+        self.give_up(Kind::File, self.entry_at(DESCRIPTORS, descriptor as usize));
+        DONE
+    }
+
+    fn link(&mut self, file: u32) -> Outcome {
+        let file = self.own(Kind::File, file)?;
+        refuse_if(self.word(file, LINKS) == MAX_LINKS, XbadLink)?;
+        self.table[file.at + LINKS] += 1;
+        DONE
+    }
+
+    fn unlink(&mut self, file: u32) -> Outcome {
+        let file = self.own(Kind::File, file)?;
+        refuse_if(self.word(file, LINKS) == 0, XbadLink)?;
+        self.table[file.at + LINKS] -= 1;
+        self.free_unheld(Kind::File, file.index);
+        DONE
+    }
+
+    fn set_bits(&mut self, seid: u32, bits: u32) -> Outcome {
+        refuse_if(bits > MAX_BITS, XbParam)?;
+        let kind = match Kind::of_class(Seid::of(self.named(seid)).class) {
+            Some(Kind::Segment) => Kind::Segment,
+            Some(Kind::File) => Kind::File,
+            _ => return Err(XnoObj),
+        };
+        let object = self.own(kind, seid)?;
+        self.table[object.at + BITS] = bits;
+        DONE
+    }
+
+    // Blocks.
+
+    /// The file of a descriptor that is to be used with a mode and an access, up to the judging of its bits.
+    fn opened(&self, descriptor: u32, mode: u32, wrong_mode: Error, access: u32) -> Result<Object, Error> {
+        let (seid, modes) = self.descriptor(descriptor)?;
+        refuse_if(modes & mode == 0, wrong_mode)?;
+        let file = self.object(Kind::File, seid).ok_or(XnoObj)?;
+        refuse_if(self.lacks(file, access), XdapViol)?;
+        Ok(file)
+    }
+
+    fn read_block(&mut self, descriptor: u32, block: u32, buffer: &mut [u8]) -> Outcome {
+        refuse_if(buffer.len() != BLOCK_BYTES, XbSz)?;
+        let file = self.opened(descriptor, 1, XnotReadable, READ)?;
+        refuse_if(block as usize >= self.shape.blocks, XbadBlockNo)?;
+        refuse_if(block >= self.word(file, SIZE), XendOfFile)?;
+        let stretch = &self.store[self.shape.stretch(file.index)];
+        let start = block as usize * BLOCK_BYTES;
+        buffer.copy_from_slice(&stretch[start..start + BLOCK_BYTES]);
+        DONE
+    }
+
+    fn write_block(&mut self, descriptor: u32, block: u32, buffer: &[u8]) -> Outcome {
+        refuse_if(buffer.len() != BLOCK_BYTES, XbSz)?;
+        let file = self.opened(descriptor, 2, XnotWritable, WRITE)?;
+        refuse_if(block as usize >= self.shape.blocks, XbadBlockNo)?;
+        let stretch = &mut self.store[self.shape.stretch(file.index)];
+        let size = &mut self.table[file.at + SIZE];
+        let start = block as usize * BLOCK_BYTES;
+        if *size < block {
+            stretch[*size as usize * BLOCK_BYTES..start].fill(0);
+        }
+        stretch[start..start + BLOCK_BYTES].copy_from_slice(buffer);
+        *size = (*size).max(block + 1);
+        DONE
+    }
+
+    // Messages.
+
+    fn post(&mut self, receiver: u32, buffer: &[u8]) -> Outcome {
+        refuse_if(buffer.len() != 12, XbSz)?;
+        let seid = Seid::of(self.named(receiver));
+        refuse_if(!seid.fits(Kind::Process, self.shape.count(Kind::Process)), XbPrSd)?;
+        let receiver = self.slot(Kind::Process, seid.index);
+        refuse_if(!self.shape.flow[self.cell][receiver.cell], XnoAcc)?;
+        let absent = self.stale(receiver, seid.serial);
+        let queued = self.word(receiver, QUEUED) as usize;
+        if receiver.cell == self.cell {
+            refuse_if(absent, XbPrSd)?;
+            refuse_if(queued == QUEUE, XpostEh)?;
+        } else if absent || queued == QUEUE {
+            return DONE; // the poster must not learn it
+        }
+        let at = receiver.at + MESSAGES + MESSAGE_WORDS * queued;
+        self.table[at] = self.seid;
+        for (word, bytes) in self.table[at + 1..at + MESSAGE_WORDS].iter_mut().zip(buffer.as_chunks().0) {
+            *word = u32::from_be_bytes(*bytes);
+        }
+        self.table[receiver.at + QUEUED] += 1;
+        DONE
+    }
+
+    fn receive(&mut self, buffer: &mut [u8]) -> Outcome {
+        refuse_if(buffer.len() != 16, XbSz)?;
+        refuse_if(self.table[self.at + QUEUED] == 0, XbNoMes)?;
+        self.table[self.at + QUEUED] -= 1;
+        let messages = &mut self.table[self.at + MESSAGES..self.at + PROCESS_WORDS];
+        for (bytes, word) in buffer.chunks_exact_mut(4).zip(&*messages) {
+            bytes.copy_from_slice(&word.to_be_bytes());
+        }
+        messages.copy_within(MESSAGE_WORDS.., 0);
+        messages[(QUEUE - 1) * MESSAGE_WORDS..].fill(0);
+        DONE
+    }
+
+    // Status.
+
+    fn status(&mut self, seid: u32, buffer: &mut [u8]) -> Outcome {
+        refuse_if(buffer.len() != 16, XbSz)?;
+        let kind = Kind::of_class(Seid::of(self.named(seid)).class).ok_or(XnoObj)?;
+        let object = self.find(kind, seid, |cell| self.flows_here(cell))?;
+        let level = self.shape.levels[object.cell];
+        let bits = if kind == Kind::Process { 0 } else { self.word(object, BITS) };
+        buffer[0] = kind.class() as u8;
+        buffer[1] = object.cell as u8;
+        buffer[2..4].copy_from_slice(&(self.word(object, OWNER) as u16).to_be_bytes());
+        buffer[4..6].copy_from_slice(&(self.word(object, GROUP) as u16).to_be_bytes());
+        buffer[6..8].copy_from_slice(&(bits as u16).to_be_bytes());
+        buffer[8] = level.security as u8;
+        buffer[9] = level.integrity as u8;
+        buffer[10..14].copy_from_slice(&level.compartments.to_be_bytes());
+        buffer[14..16].fill(0);
+        DONE
+    }
+}

@@ -1,0 +1,36 @@
+//! The error numbers. The variants are spelled as in document 01's table, so that `{:?}` writes an error's name.
+
+#[derive(Clone, Copy, Debug, PartialEq, Eq)]
+#[repr(u32)]
+pub enum Error {
+    XOK = 0,
+    XbTab = 1,
+    XbPrSd = 2,
+    XbdKcl = 3,
+    XbParam = 4,
+    XbSz = 5,
+    XbSgSz = 6,
+    XbadModes = 7,
+    XnSgDes = 8,
+    XbSgDes = 9,
+    XbadOd = 10,
+    XbSgSd = 11,
+    XnoObj = 12,
+    XnoAcc = 13,
+    XnoOwner = 14,
+    XnoPriv = 15,
+    XdapViol = 16,
+    XsgNoAcc = 17,
+    XdupSg = 18,
+    Xbusy = 19,
+    XnotReadable = 20,
+    XnotWritable = 21,
+    XbadBlockNo = 22,
+    XendOfFile = 23,
+    XbadLink = 24,
+    XodSpace = 25,
+    XnoSpace = 26,
+    XnoProc = 27,
+    XpostEh = 28,
+    XbNoMes = 29,
+}

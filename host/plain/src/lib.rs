@@ -1,0 +1,17 @@
+//! A monitor in ordinary Rust, written from document 01 and its readings alone.
+//!
+//! Nothing here is proved, and nothing here was taken from the proved library: the two are compared call by call, so the worth of
+//! this one lies in its being simple and independent. It is also the yardstick for speed: it judges the whole table at each call in
+//! one pass, makes the flow matrix once, and does no work that document 01 does not ask for.
+
+mod calls;
+mod errors;
+mod replay;
+mod seid;
+pub mod table;
+
+pub use calls::{Answer, Request, call, clash, granted, valid_modes};
+pub use errors::Error;
+pub use replay::{number, replay};
+pub use seid::{Kind, Seid};
+pub use table::{Level, Shape, check, setup};

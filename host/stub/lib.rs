@@ -1,0 +1,49 @@
+//! A stand-in for the proved library: the plain monitor behind the three C functions. It serves to try out the tests themselves,
+//! sound and with faults put in (see faults.sh); it is no part of what is delivered.
+
+use plain::{Request, call, check, setup};
+use std::slice::{from_raw_parts, from_raw_parts_mut};
+
+#[repr(C)]
+pub struct Answer {
+    error: u32,
+    first: u32,
+    second: u32,
+}
+
+/// # Safety
+/// As monitor.h says.
+#[unsafe(no_mangle)]
+pub unsafe extern "C" fn monitor_setup(table: *mut u32, words: usize, store_bytes: usize) -> u32 {
+    setup(unsafe { from_raw_parts_mut(table, words) }, store_bytes) as u32
+}
+
+/// # Safety
+/// As monitor.h says.
+#[unsafe(no_mangle)]
+pub unsafe extern "C" fn monitor_check(table: *const u32, words: usize, store_bytes: usize) -> u32 {
+    u32::from(check(unsafe { from_raw_parts(table, words) }, store_bytes).is_none())
+}
+
+/// # Safety
+/// As monitor.h says.
+#[unsafe(no_mangle)]
+pub unsafe extern "C" fn monitor_call(
+    table: *mut u32,
+    words: usize,
+    store: *mut u8,
+    bytes: usize,
+    caller: u32,
+    code: u32,
+    a: u32,
+    b: u32,
+    c: u32,
+    buffer: *mut u8,
+    length: usize,
+) -> Answer {
+    let (table, store, buffer) = unsafe {
+        (from_raw_parts_mut(table, words), from_raw_parts_mut(store, bytes), from_raw_parts_mut(buffer, length))
+    };
+    let answer = call(table, store, &Request { caller, code, a, b, c }, buffer);
+    Answer { error: answer.error as u32, first: answer.first, second: answer.second }
+}

@@ -1,0 +1,271 @@
+//! Random calls: mostly of a kind that may succeed on the table at hand, often just beside it, now and then quite wild.
+
+use crate::rng::Rng;
+use crate::tables::{VALID_MODES, World, bits, identity};
+use plain::table::*;
+use plain::{Kind, Request, Shape};
+
+#[derive(Clone, Debug, PartialEq, Eq)]
+pub struct Call {
+    pub request: Request,
+    pub buffer: Vec<u8>,
+}
+
+/// A process of the cells allowed, mostly a live one. None if there is no such cell.
+pub fn caller(rng: &mut Rng, world: &World, shape: &Shape, allowed: impl Fn(usize) -> bool) -> Option<u32> {
+    let slots: Vec<usize> =
+        (0..shape.count(Kind::Process)).filter(|&p| allowed(shape.cell(Kind::Process, p))).collect();
+    if slots.is_empty() {
+        return None;
+    }
+    let mut slot = rng.pick(&slots);
+    if !rng.chance(1, 32) {
+        for _ in 0..8 {
+            if world.live(shape, Kind::Process, slot) {
+                break;
+            }
+            slot = rng.pick(&slots);
+        }
+    }
+    Some(slot as u32)
+}
+
+/// A caller number beyond the table: it is in no cell.
+pub fn no_caller(rng: &mut Rng, shape: &Shape) -> u32 {
+    let count = shape.count(Kind::Process) as u32;
+    rng.pick(&[count, count + 1, 64, 65, 255, 256, 65536, u32::MAX])
+}
+
+/// A call by any process.
+pub fn any(rng: &mut Rng, world: &World, shape: &Shape) -> Call {
+    let caller = match rng.chance(1, 200) {
+        true => no_caller(rng, shape),
+        false => caller(rng, world, shape, |_| true).expect("there is a process slot"),
+    };
+    by(rng, world, shape, caller)
+}
+
+/// A call by the caller given.
+pub fn by(rng: &mut Rng, world: &World, shape: &Shape, caller: u32) -> Call {
+    let code = code(rng);
+    with_code(rng, world, shape, caller, code)
+}
+
+/// Codes that use things up come less often than those that make them.
+fn code(rng: &mut Rng) -> u32 {
+    match rng.below(100) {
+        0 => rng.pick(&[0, 19, 20, 21, 32, 255, 256 + 1, 65536 + 7, u32::MAX]),
+        1 => 2,
+        2..=5 => 1,
+        6..=13 => 8,
+        14..=20 => 15,
+        21..=27 => 4,
+        _ => rng.pick(&[1, 3, 3, 4, 5, 6, 7, 7, 8, 9, 10, 11, 12, 13, 13, 14, 14, 15, 16, 17, 18]),
+    }
+}
+
+pub fn with_code(rng: &mut Rng, world: &World, shape: &Shape, caller: u32, code: u32) -> Call {
+    let mut draw = Draw { rng, world, shape, process: caller as usize % shape.count(Kind::Process) };
+    let [a, b, c] = draw.arguments(code);
+    let buffer = draw.buffer(code);
+    Call { request: Request { caller, code, a, b, c }, buffer }
+}
+
+struct Draw<'a> {
+    rng: &'a mut Rng,
+    world: &'a World,
+    shape: &'a Shape,
+    /// The caller's slot; for a caller beyond the table, some slot.
+    process: usize,
+}
+
+impl Draw<'_> {
+    fn arguments(&mut self, code: u32) -> [u32; 3] {
+        let (a, b, c) = match code {
+            1 => (Some(self.own_identity(OWNER)), Some(self.own_identity(GROUP)), None),
+            2 => (Some(self.other_process()), None, None),
+            3 => (Some(self.segment_size()), Some(self.bits()), Some(self.rng.pick(&[0, 1, 1, 1, 1, 1, 2]))),
+            4 => (Some(self.seid_or_held(Kind::Segment)), Some(self.access()), None),
+            5 | 18 => (Some(self.place(DESIGNATORS)), None, None),
+            6 => (Some(self.place(DESIGNATORS)), Some(self.access()), None),
+            7 => (Some(self.bits()), Some(self.modes()), None),
+            8 => (Some(self.seid_or_held(Kind::File)), Some(self.modes()), None),
+            9 => (Some(self.place(DESCRIPTORS)), None, None),
+            10 | 11 => (Some(self.seid_or_held(Kind::File)), None, None),
+            12 => {
+                let kind = self.rng.pick(&[Kind::File, Kind::Segment]);
+                (Some(self.seid_or_held(kind)), Some(self.bits()), None)
+            }
+            13 | 14 => (Some(self.place(DESCRIPTORS)), Some(self.block()), None),
+            15 => (Some(self.receiver()), None, None),
+            17 => {
+                let kind = self.rng.pick(&Kind::ALL);
+                (Some(self.seid(kind)), None, None)
+            }
+            _ => (None, None, None),
+        };
+        // An unused argument may be anything.
+        [a, b, c].map(|argument| argument.unwrap_or_else(|| self.unused()))
+    }
+
+    fn unused(&mut self) -> u32 {
+        if self.rng.chance(1, 2) { 0 } else { self.rng.word() }
+    }
+
+    fn own_word(&self, word: usize) -> u32 {
+        self.world.table[self.shape.at(Kind::Process, self.process) + word]
+    }
+
+    fn own_identity(&mut self, word: usize) -> u32 {
+        match self.rng.below(16) {
+            0 => self.rng.pick(&[65535, 65536, 65537, u32::MAX]),
+            1..=4 => identity(self.rng),
+            _ => self.own_word(word),
+        }
+    }
+
+    fn segment_size(&mut self) -> u32 {
+        match self.rng.below(8) {
+            0 => self.rng.pick(&[0, 1, 511, 513, 65023, 65025, 65536, 66048, u32::MAX - 511]),
+            1 => self.rng.word(),
+            2 => self.rng.pick(&[512, 65024]),
+            _ => 512 * self.rng.between(1, 127),
+        }
+    }
+
+    fn bits(&mut self) -> u32 {
+        match self.rng.below(16) {
+            0 => self.rng.pick(&[511, 512, 513, 1023, u32::MAX]),
+            _ => bits(self.rng),
+        }
+    }
+
+    fn access(&mut self) -> u32 {
+        match self.rng.below(12) {
+            0 => self.rng.pick(&[0, 1, 2, 3, 64, 127, 129, 383, 385, 512, 640, u32::MAX]),
+            1..=2 => 0,
+            _ => self.rng.pick(&[128, 256, 256, 384]),
+        }
+    }
+
+    fn modes(&mut self) -> u32 {
+        match self.rng.below(8) {
+            0 => self.rng.between(0, 20),
+            1 => self.rng.pick(&[16 + 1, 256 + 1, u32::MAX, 9, 11]),
+            2..=4 => 1,
+            _ => self.rng.pick(&VALID_MODES),
+        }
+    }
+
+    fn block(&mut self) -> u32 {
+        let blocks = self.shape.blocks as u32;
+        match self.rng.below(8) {
+            0 => self.rng.pick(&[blocks, blocks + 1, 64, 65, 1 << 23, u32::MAX]),
+            1 => blocks - 1,
+            2..=4 => 0,
+            _ => self.rng.below(self.shape.blocks) as u32,
+        }
+    }
+
+    /// A place among the caller's entries, mostly one that is used.
+    fn place(&mut self, entries: usize) -> u32 {
+        match self.rng.below(16) {
+            0 => self.rng.pick(&[16, 17, 255, 256, u32::MAX]),
+            1..=3 => self.rng.below(ENTRIES) as u32,
+            _ => {
+                let used = self.used(entries);
+                if used.is_empty() { self.rng.below(ENTRIES) as u32 } else { self.rng.pick(&used) as u32 }
+            }
+        }
+    }
+
+    fn used(&self, entries: usize) -> Vec<usize> {
+        (0..ENTRIES).filter(|&place| self.world.entry(self.shape, self.process, entries, place).0 != 0).collect()
+    }
+
+    /// A seid, or one that the caller holds.
+    fn seid_or_held(&mut self, kind: Kind) -> u32 {
+        let entries = if kind == Kind::File { DESCRIPTORS } else { DESIGNATORS };
+        let used = self.used(entries);
+        if used.is_empty() || self.rng.chance(3, 4) {
+            return self.seid(kind);
+        }
+        self.world.entry(self.shape, self.process, entries, self.rng.pick(&used)).0
+    }
+
+    /// A slot's seid as it stands, mostly in the caller's cell; or something beside it.
+    fn seid(&mut self, kind: Kind) -> u32 {
+        let count = self.shape.count(kind);
+        let run = self.shape.run(kind, self.shape.cell(Kind::Process, self.process));
+        if count == 0 {
+            return self.rng.pick(&[0, kind.seid(0, 1), self.process as u32, u32::MAX]);
+        }
+        let mut index = 0;
+        for _ in 0..3 {
+            let near = !run.is_empty() && self.rng.chance(5, 8);
+            index = if near { run.start + self.rng.below(run.len()) } else { self.rng.below(count) };
+            if self.world.live(self.shape, kind, index) {
+                break;
+            }
+        }
+        let seid = self.world.seid(self.shape, kind, index);
+        match self.rng.below(40) {
+            0 => 0,
+            1 => self.rng.word(),
+            2 => kind.seid(self.rng.pick(&[count, count + 1, 255]).min(255), 1),
+            3 => seid & !65535,
+            4 => seid & 0x00ff_ffff | self.rng.pick(&[0, 4, 5, 129, 6, 128, 130, 255]) << 24,
+            5 => seid | 65535,
+            6 => seid & !65535 | (seid & 65535).saturating_sub(1).max(1),
+            7 => seid & !65535 | ((seid & 65535) + 1).min(65535),
+            8 => self.world.seid(self.shape, Kind::Process, self.process),
+            _ => seid,
+        }
+    }
+
+    /// A process to release: oneself less often, or no caller would be left.
+    fn other_process(&mut self) -> u32 {
+        let own = self.world.seid(self.shape, Kind::Process, self.process);
+        let first = self.seid(Kind::Process);
+        if (first == 0 || first == own) && self.rng.chance(3, 4) { self.seid(Kind::Process) } else { first }
+    }
+
+    /// Posts go up as often as they stay in the cell.
+    fn receiver(&mut self) -> u32 {
+        let cell = self.shape.cell(Kind::Process, self.process);
+        let above: Vec<usize> = (0..self.shape.count(Kind::Process))
+            .filter(|&p| {
+                let other = self.shape.cell(Kind::Process, p);
+                other != cell && self.shape.flow[cell][other]
+            })
+            .collect();
+        if above.is_empty() || self.rng.chance(1, 2) {
+            return self.seid(Kind::Process);
+        }
+        let index = self.rng.pick(&above);
+        let seid = self.world.seid(self.shape, Kind::Process, index);
+        match self.rng.below(6) {
+            0 => seid & !65535 | self.rng.between(1, 65535),
+            _ => seid,
+        }
+    }
+
+    /// The length that the call asks for, if it names one, or another; with bytes in it.
+    fn buffer(&mut self, code: u32) -> Vec<u8> {
+        let asked = match code {
+            13 | 14 => Some(512),
+            15 => Some(12),
+            16 | 17 => Some(16),
+            _ => None,
+        };
+        let length = match asked {
+            Some(length) if self.rng.chance(15, 16) => length,
+            None if self.rng.chance(3, 4) => 0,
+            _ if self.rng.chance(1, 2) => self.rng.pick(&[0, 1, 4, 11, 12, 13, 15, 16, 17, 511, 512, 513]),
+            _ => self.rng.below(514),
+        };
+        let mut buffer = vec![0; length];
+        self.rng.bytes(&mut buffer);
+        buffer
+    }
+}

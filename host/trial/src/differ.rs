@@ -1,0 +1,229 @@
+//! A monitor against the plain one: every answer, every word of the table, every byte of store and buffer.
+
+use crate::calls::{self, Call};
+use crate::damage;
+use crate::rng::Rng;
+use crate::tables::{self, World};
+use crate::tally::Tally;
+use crate::{Monitor, Plain};
+use plain::table::*;
+use plain::{Kind, Shape};
+use std::collections::BTreeMap;
+
+pub struct Differ<'a, M> {
+    pub monitor: &'a M,
+    pub rng: Rng,
+    pub tally: Tally,
+    pub calls: u64,
+}
+
+impl<'a, M: Monitor> Differ<'a, M> {
+    pub fn new(monitor: &'a M, rng: Rng) -> Self {
+        Differ { monitor, rng, tally: Tally::default(), calls: 0 }
+    }
+
+    /// Single calls, each on a random well-formed table as it was drawn; a table serves for some hundred of them.
+    pub fn single_calls(&mut self, at_least: u64) {
+        let end = self.calls + at_least;
+        while self.calls < end {
+            let limits = tables::limits(&mut self.rng);
+            let start = tables::well_formed(&mut self.rng, limits);
+            let shape = start.shape();
+            let (mut ours, mut theirs) = (start.clone(), start.clone());
+            let calls = if start.deserted(&shape) { 10 } else { 300 };
+            for _ in 0..calls {
+                let call = calls::any(&mut self.rng, &start, &shape);
+                let error = self.step(&start, &shape, &mut ours, &mut theirs, &call);
+                if error == 0 {
+                    for world in [&mut ours, &mut theirs] {
+                        world.table.copy_from_slice(&start.table);
+                        world.store.copy_from_slice(&start.store);
+                    }
+                }
+            }
+        }
+    }
+
+    /// Runs of calls on one table, which starts as set-up leaves it or as a random well-formed one, and is used until no process
+    /// is left.
+    pub fn long_runs(&mut self, at_least: u64, calls_each: u64) {
+        let end = self.calls + at_least;
+        for run in 0.. {
+            if self.calls >= end {
+                return;
+            }
+            let limits = tables::limits(&mut self.rng);
+            let start = match run % 2 {
+                0 => tables::fresh(&mut self.rng, limits),
+                _ => tables::well_formed(&mut self.rng, limits),
+            };
+            let shape = start.shape();
+            let (mut before, mut ours, mut theirs) = (start.clone(), start.clone(), start);
+            for _ in 0..calls_each {
+                let call = calls::any(&mut self.rng, &before, &shape);
+                let error = self.step(&before, &shape, &mut ours, &mut theirs, &call);
+                if error == 0 {
+                    before.table.copy_from_slice(&ours.table);
+                    if call.request.code == 2 && before.deserted(&shape) {
+                        break;
+                    }
+                }
+            }
+        }
+    }
+
+    fn step(&mut self, before: &World, shape: &Shape, ours: &mut World, theirs: &mut World, call: &Call) -> u32 {
+        let answer = same_call(self.monitor, ours, theirs, call);
+        self.tally.note(before, shape, call, answer);
+        self.calls += 1;
+        answer[0]
+    }
+
+    /// Damaged tables: the check, a call and set-up on each. Every named damage is done so many times, and random ones as often.
+    pub fn damaged(&mut self, times_each: usize) {
+        let named = damage::named();
+        let mut wanted: BTreeMap<usize, usize> = (0..named.len()).map(|which| (which, times_each)).collect();
+        while !wanted.is_empty() {
+            let limits = tables::limits(&mut self.rng);
+            let start = tables::well_formed(&mut self.rng, limits);
+            let shape = start.shape();
+            let mut done = Vec::new();
+            for (&which, times) in &mut wanted {
+                let mut world = start.clone();
+                if (named[which].apply)(&mut self.rng, &mut world, &shape).is_some() {
+                    assert_ne!(
+                        Plain.check(&world.table, world.store.len()),
+                        0,
+                        "still well formed: {}",
+                        named[which].name
+                    );
+                    *times -= 1;
+                    done.push((named[which].name.as_str(), world));
+                }
+                let mut world = start.clone();
+                damage::random(&mut self.rng, &mut world, &shape);
+                done.push(("at random", world));
+            }
+            wanted.retain(|_, times| *times > 0);
+            for (name, world) in done {
+                self.damaged_world(name, &start, &shape, world);
+            }
+        }
+    }
+
+    fn damaged_world(&mut self, name: &str, start: &World, shape: &Shape, world: World) {
+        let verdict = Plain.check(&world.table, world.store.len());
+        let ours = self.monitor.check(&world.table, world.store.len());
+        assert_eq!(ours, verdict, "the check of a table damaged thus: {name}\n{}", difference(shape, start, &world));
+        let call = calls::any(&mut self.rng, start, shape);
+        let (mut one, mut other) = (world.clone(), world.clone());
+        let answer = same_call(self.monitor, &mut one, &mut other, &call);
+        self.calls += 1;
+        if verdict != 0 {
+            assert_eq!(answer, [1, 0, 0], "a table damaged thus: {name}");
+            assert!(one == world, "a bad table was changed: {name}");
+            self.tally.bad_table();
+        }
+        same_setup(self.monitor, world);
+    }
+
+    /// Every code up to 20 with every length of buffer up to 513.
+    pub fn every_length(&mut self) {
+        let start = tables::well_formed(&mut self.rng, tables::MIDDLE);
+        let shape = start.shape();
+        for code in 0..=20 {
+            for length in 0..=513 {
+                let caller = calls::caller(&mut self.rng, &start, &shape, |_| true).expect("there is a process slot");
+                let mut call = calls::with_code(&mut self.rng, &start, &shape, caller, code);
+                call.buffer.resize(length, 0xa5);
+                let (mut ours, mut theirs) = (start.clone(), start.clone());
+                self.step(&start, &shape, &mut ours, &mut theirs, &call);
+            }
+        }
+    }
+
+    /// Set-up on good and on damaged configurations, over whatever stood in the records.
+    pub fn setups(&mut self, times: usize) {
+        for _ in 0..times {
+            let limits = tables::limits(&mut self.rng);
+            let mut world = World::configured(&tables::configuration(&mut self.rng, limits));
+            let shape = world.shape();
+            for word in &mut world.table[shape.at(Kind::Process, 0)..] {
+                *word = self.rng.word();
+            }
+            self.rng.bytes(&mut world.store);
+            if self.rng.chance(1, 2) {
+                damage::random(&mut self.rng, &mut world, &shape);
+            }
+            same_setup(self.monitor, world);
+        }
+    }
+}
+
+fn same_setup(monitor: &impl Monitor, world: World) {
+    let right = world.store.len();
+    // Other lengths of the store too, some of which are right only modulo 2^32.
+    for store_bytes in [right, right + 512, right + (1 << 32), usize::MAX, 0] {
+        let (mut ours, mut expected) = (world.table.clone(), world.table.clone());
+        let number = Plain.setup(&mut expected, store_bytes);
+        assert_eq!(monitor.setup(&mut ours, store_bytes), number, "set-up of {:?}", &ours[..ours.len().min(40)]);
+        assert!(ours == expected, "set-up left another table");
+        let verdict = Plain.check(&ours, store_bytes);
+        assert_eq!(monitor.check(&ours, store_bytes), verdict, "the check of what set-up left");
+    }
+}
+
+/// Makes one call with the monitor on one world and with the plain monitor on the other, and compares all that is left.
+fn same_call(monitor: &impl Monitor, ours: &mut World, theirs: &mut World, call: &Call) -> [u32; 3] {
+    let (mut our_buffer, mut their_buffer) = (call.buffer.clone(), call.buffer.clone());
+    let answer = monitor.call(&mut ours.table, &mut ours.store, &call.request, &mut our_buffer);
+    let expected = Plain.call(&mut theirs.table, &mut theirs.store, &call.request, &mut their_buffer);
+    if answer != expected || *ours != *theirs || our_buffer != their_buffer {
+        let shape = Shape::read(&theirs.table, theirs.store.len());
+        let place = shape.map_or(String::new(), |shape| difference(&shape, ours, theirs));
+        panic!(
+            "{:?} with a buffer of {}\nanswer {answer:?}, plain {expected:?}\n{place}\nbuffers equal: {}",
+            call.request,
+            call.buffer.len(),
+            our_buffer == their_buffer,
+        );
+    }
+    answer
+}
+
+/// The first words and bytes in which two worlds differ, in words.
+pub fn difference(shape: &Shape, ours: &World, theirs: &World) -> String {
+    let mut lines = Vec::new();
+    if ours.table.len() != theirs.table.len() || ours.store.len() != theirs.store.len() {
+        lines.push("lengths differ".to_string());
+    }
+    let words = ours.table.iter().zip(&theirs.table).enumerate().filter(|(_, (x, y))| x != y);
+    for (at, (x, y)) in words.take(8) {
+        lines.push(format!("{}: {x}, plain {y}", word_name(shape, at)));
+    }
+    if let Some(at) = ours.store.iter().zip(&theirs.store).position(|(x, y)| x != y) {
+        lines.push(format!(
+            "store from byte {at} on, block {} of file {}",
+            at / 512 % shape.blocks,
+            at / 512 / shape.blocks
+        ));
+    }
+    if lines.is_empty() { "table and store equal".to_string() } else { lines.join("\n") }
+}
+
+/// A word's place in the table, to be read in a report.
+fn word_name(shape: &Shape, at: usize) -> String {
+    if at < HEADER_WORDS {
+        return format!("header word {at}");
+    }
+    for kind in Kind::ALL {
+        for index in 0..shape.count(kind) {
+            let record = shape.record(kind, index);
+            if record.contains(&at) {
+                let cell = shape.cell(kind, index);
+                return format!("{kind:?} {index} of cell {cell}, word {}", at - record.start);
+            }
+        }
+    }
+    format!("cell word {}", at - HEADER_WORDS)
+}

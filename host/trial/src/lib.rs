@@ -1,0 +1,49 @@
+//! Random well-formed tables, damaged ones, random calls and replay scripts; and the trials made with them: one monitor against
+//! another, the invariants, what an observer may learn. A trial takes any `Monitor`, so the plain one is tried as the proved one is.
+
+pub mod calls;
+pub mod damage;
+pub mod differ;
+pub mod rng;
+pub mod scripts;
+pub mod secrecy;
+pub mod tables;
+pub mod tally;
+
+pub use calls::Call;
+pub use rng::Rng;
+pub use tables::World;
+
+/// A monitor under trial, with the shape of the C functions.
+pub trait Monitor {
+    fn setup(&self, table: &mut [u32], store_bytes: usize) -> u32;
+    fn check(&self, table: &[u32], store_bytes: usize) -> u32;
+    /// Error, first and second.
+    fn call(&self, table: &mut [u32], store: &mut [u8], request: &plain::Request, buffer: &mut [u8]) -> [u32; 3];
+}
+
+/// The plain monitor.
+pub struct Plain;
+
+impl Monitor for Plain {
+    fn setup(&self, table: &mut [u32], store_bytes: usize) -> u32 {
+        plain::setup(table, store_bytes) as u32
+    }
+
+    fn check(&self, table: &[u32], store_bytes: usize) -> u32 {
+        u32::from(plain::check(table, store_bytes).is_none())
+    }
+
+    fn call(&self, table: &mut [u32], store: &mut [u8], request: &plain::Request, buffer: &mut [u8]) -> [u32; 3] {
+        let answer = plain::call(table, store, request, buffer);
+        [answer.error as u32, answer.first, answer.second]
+    }
+}
+
+/// A number from the environment, or the one given.
+pub fn setting(name: &str, otherwise: u64) -> u64 {
+    match std::env::var(name) {
+        Ok(text) => text.parse().unwrap_or_else(|_| panic!("{name} is not a number: {text}")),
+        Err(_) => otherwise,
+    }
+}

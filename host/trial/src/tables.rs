@@ -1,0 +1,361 @@
+//! Random well-formed tables. They are drawn from the definition of "well formed", not from what set-up and calls reach: stale
+//! entries of lower cells' objects, stale senders and parents, serials at the top, full queues, opens that clash.
+
+use crate::rng::Rng;
+use plain::table::*;
+use plain::{Kind, Level, Seid, Shape};
+
+/// A table and its store.
+#[derive(Clone, Debug, PartialEq, Eq)]
+pub struct World {
+    pub table: Vec<u32>,
+    pub store: Vec<u8>,
+}
+
+impl World {
+    /// The header and the cells, and zeros for the rest, whether or not they are good.
+    pub fn configured(configuration: &[u32]) -> World {
+        let count = |word: usize| configuration[word] as usize;
+        let records = PROCESS_WORDS * count(1) + SEGMENT_WORDS * count(2) + FILE_WORDS * count(3);
+        let mut table = configuration.to_vec();
+        table.resize(configuration.len() + records, 0);
+        World { table, store: vec![0; count(3) * count(4) * BLOCK_BYTES] }
+    }
+
+    pub fn shape(&self) -> Shape {
+        Shape::read(&self.table, self.store.len()).expect("the configuration is good")
+    }
+
+    /// The seid that a slot has now, live or not; its serial may be 0.
+    pub fn seid(&self, shape: &Shape, kind: Kind, index: usize) -> u32 {
+        kind.seid(index, self.table[shape.at(kind, index) + SERIAL])
+    }
+
+    pub fn live(&self, shape: &Shape, kind: Kind, index: usize) -> bool {
+        self.table[shape.at(kind, index) + LIVE] == 1
+    }
+
+    /// Whether no process is live, so that every call is refused.
+    pub fn deserted(&self, shape: &Shape) -> bool {
+        (0..shape.count(Kind::Process)).all(|process| !self.live(shape, Kind::Process, process))
+    }
+
+    /// Whether a held seid no longer names anything.
+    pub fn stale(&self, shape: &Shape, kind: Kind, word: u32) -> bool {
+        let index = Seid::of(word).index;
+        !self.live(shape, kind, index) || self.seid(shape, kind, index) != word
+    }
+
+    /// The two words of a process's entry; `entries` is DESCRIPTORS or DESIGNATORS.
+    pub fn entry(&self, shape: &Shape, process: usize, entries: usize, place: usize) -> (u32, u32) {
+        let at = shape.at(Kind::Process, process) + entries + ENTRY_WORDS * place;
+        (self.table[at], self.table[at + 1])
+    }
+
+    pub fn set_entry(&mut self, shape: &Shape, process: usize, entries: usize, place: usize, entry: (u32, u32)) {
+        let at = shape.at(Kind::Process, process) + entries + ENTRY_WORDS * place;
+        (self.table[at], self.table[at + 1]) = entry;
+    }
+}
+
+/// How large a table may be.
+#[derive(Clone, Copy, Debug)]
+pub struct Limits {
+    pub cells: usize,
+    pub slots: usize,
+    pub blocks: usize,
+    /// For the whole store.
+    pub store_blocks: usize,
+}
+
+pub const SMALL: Limits = Limits { cells: 3, slots: 6, blocks: 3, store_blocks: 8 };
+pub const MIDDLE: Limits = Limits { cells: 6, slots: 20, blocks: 4, store_blocks: 32 };
+pub const LARGE: Limits = Limits { cells: 16, slots: 64, blocks: 64, store_blocks: 64 };
+
+/// Mostly small tables, so that many calls are made; some of full size.
+pub fn limits(rng: &mut Rng) -> Limits {
+    rng.pick(&[SMALL, SMALL, SMALL, SMALL, SMALL, MIDDLE, MIDDLE, MIDDLE, LARGE])
+}
+
+/// Good header and cell words.
+pub fn configuration(rng: &mut Rng, limits: Limits) -> Vec<u32> {
+    let cells = 1 + rng.below(limits.cells);
+    let mut levels: Vec<Level> = Vec::new();
+    let spread = rng.below(3);
+    while levels.len() < cells {
+        let level = level(rng, spread);
+        if !levels.contains(&level) {
+            levels.push(level);
+        }
+    }
+    let blocks = 1 + rng.below(limits.blocks);
+    let processes = cells + rng.below(limits.slots - cells + 1);
+    let segments = rng.below(limits.slots + 1);
+    let files = rng.below(limits.slots.min(limits.store_blocks / blocks) + 1);
+    let mut words: Vec<u32> = [cells, processes, segments, files, blocks, 0, 0, 0].map(|n| n as u32).to_vec();
+    // One process slot for each cell; all others, and the segments and files, go to random cells.
+    let mut slots = vec![[1u32, 0, 0]; cells];
+    for (kind, extra) in [processes - cells, segments, files].into_iter().enumerate() {
+        for _ in 0..extra {
+            slots[rng.below(cells)][kind] += 1;
+        }
+    }
+    for (level, slots) in levels.iter().zip(slots) {
+        words.extend([level.security, level.integrity, level.compartments]);
+        words.extend(slots);
+        words.extend([identity(rng), identity(rng)]);
+    }
+    words
+}
+
+/// A level from a few that are often comparable, or from all.
+fn level(rng: &mut Rng, spread: usize) -> Level {
+    match spread {
+        0 => Level { security: rng.between(0, 15), integrity: 0, compartments: rng.pick(&[0, 0, 1]) },
+        1 => Level { security: rng.between(0, 3), integrity: rng.between(0, 2), compartments: rng.pick(&[0, 1, 2, 3]) },
+        _ => {
+            Level { security: rng.between(0, 15), integrity: rng.between(0, 15), compartments: rng.word() & rng.word() }
+        }
+    }
+}
+
+/// An owner or a group: few values, so that they are often equal.
+pub fn identity(rng: &mut Rng) -> u32 {
+    rng.pick(&[0, 0, 1, 1, 1, 2, 300, 65535])
+}
+
+pub fn bits(rng: &mut Rng) -> u32 {
+    match rng.below(8) {
+        0 => rng.between(0, MAX_BITS),
+        1 => 0,
+        2 => 4,
+        3 => 0o604,
+        _ => rng.pick(&[0o644, 0o666, 0o640, 0o777, 0o400, 0o200, 0o060, 0o006]),
+    }
+}
+
+pub const VALID_MODES: [u32; 5] = [1, 2, 3, 11, 15];
+
+/// A well-formed table and a store of random bytes.
+pub fn well_formed(rng: &mut Rng, limits: Limits) -> World {
+    let mut world = World::configured(&configuration(rng, limits));
+    let shape = world.shape();
+    fill(rng, &mut world, &shape, |_| true);
+    world
+}
+
+/// The table after set-up.
+pub fn fresh(rng: &mut Rng, limits: Limits) -> World {
+    let mut world = World::configured(&configuration(rng, limits));
+    plain::setup(&mut world.table, world.store.len());
+    world
+}
+
+/// A table in daily use: most slots live, half of the entries used. For the benchmark.
+pub fn busy(rng: &mut Rng, configuration: &[u32]) -> World {
+    let mut world = World::configured(configuration);
+    let shape = world.shape();
+    let mood = Mood { live: 6, entries: 4, top_serials: false, quiet_files: 0 };
+    fill_in_mood(rng, &mood, &mut world, &shape, |_| true);
+    world
+}
+
+/// Draws anew the records and the store of the cells chosen. What they may hold in other cells is read there, so that a table
+/// with good records elsewhere becomes well formed, or stays so.
+pub fn fill(rng: &mut Rng, world: &mut World, shape: &Shape, chosen: impl Fn(usize) -> bool) {
+    let mood = Mood {
+        live: 2 + rng.below(7),
+        entries: rng.pick(&[1, 3, 5, 8]),
+        top_serials: rng.chance(1, 4),
+        quiet_files: rng.draw() & rng.draw(),
+    };
+    fill_in_mood(rng, &mood, world, shape, chosen);
+}
+
+fn fill_in_mood(rng: &mut Rng, mood: &Mood, world: &mut World, shape: &Shape, chosen: impl Fn(usize) -> bool) {
+    let cells: Vec<usize> = (0..shape.cells).filter(|&cell| chosen(cell)).collect();
+    for &cell in &cells {
+        for kind in Kind::ALL {
+            for index in shape.run(kind, cell) {
+                world.table[shape.record(kind, index)].fill(0);
+                head(rng, mood, world, shape, kind, index);
+            }
+        }
+        for file in shape.run(Kind::File, cell) {
+            rng.bytes(&mut world.store[shape.stretch(file)]);
+        }
+    }
+    for &cell in &cells {
+        for process in shape.run(Kind::Process, cell) {
+            if world.live(shape, Kind::Process, process) {
+                holdings(rng, mood, world, shape, process, cell);
+            }
+        }
+    }
+    for &cell in &cells {
+        count_holds(rng, world, shape, cell);
+    }
+}
+
+/// What makes one table differ from another as a whole.
+struct Mood {
+    /// Of eight slots, how many are live.
+    live: usize,
+    /// Of eight entries, how many are used.
+    entries: usize,
+    top_serials: bool,
+    /// One bit for each file slot.
+    quiet_files: u64,
+}
+
+fn serial(rng: &mut Rng, mood: &Mood, live: bool) -> u32 {
+    if mood.top_serials && rng.chance(1, 2) {
+        return rng.pick(&[65535, 65535, 65534, 65533]);
+    }
+    match rng.below(8) {
+        0 if !live => 0,
+        1 => rng.between(1, MAX_SERIAL),
+        2 => rng.pick(&[65534, 65535]),
+        _ => rng.between(1, 5),
+    }
+}
+
+/// A record but for what it holds and who holds it.
+fn head(rng: &mut Rng, mood: &Mood, world: &mut World, shape: &Shape, kind: Kind, index: usize) {
+    let live = rng.chance(mood.live, 8);
+    let serial = serial(rng, mood, live);
+    let record = &mut world.table[shape.record(kind, index)];
+    record[SERIAL] = serial;
+    if !live {
+        return;
+    }
+    record[LIVE] = 1;
+    record[OWNER] = identity(rng);
+    record[GROUP] = identity(rng);
+    match kind {
+        Kind::Process => {
+            if rng.chance(2, 3) {
+                let run = shape.run(Kind::Process, shape.cell(kind, index));
+                let parent = run.start + rng.below(run.len());
+                let serial = if rng.chance(1, 2) { rng.between(1, 4) } else { rng.between(1, MAX_SERIAL) };
+                record[PARENT] = Kind::Process.seid(parent, serial);
+            }
+        }
+        Kind::Segment => {
+            record[BITS] = bits(rng);
+            record[SHARABLE] = u32::from(rng.chance(4, 5));
+            record[SIZE] = 512 * rng.pick(&[1, 2, 3, 64, 126, 127]);
+        }
+        Kind::File => {
+            record[BITS] = bits(rng);
+            record[LINKS] = rng.pick(&[0, 0, 0, 1, 1, 2, 254, 255]);
+            record[SIZE] = rng.below(shape.blocks + 1) as u32;
+        }
+    }
+}
+
+/// The objects that a process of a cell may hold: those of cells that flow to it, in the own cell only live ones.
+fn candidates(world: &World, shape: &Shape, kind: Kind, cell: usize) -> Vec<usize> {
+    (0..shape.count(kind))
+        .filter(|&index| {
+            let from = shape.cell(kind, index);
+            let serial = world.table[shape.at(kind, index) + SERIAL];
+            let own_cell = from == cell && kind != Kind::Process;
+            shape.flow[from][cell] && serial >= 1 && (!own_cell || world.live(shape, kind, index))
+        })
+        .collect()
+}
+
+/// A seid of a candidate. Where it may be stale it sometimes is.
+fn held(rng: &mut Rng, world: &World, shape: &Shape, kind: Kind, index: usize, cell: usize) -> u32 {
+    let serial = world.table[shape.at(kind, index) + SERIAL];
+    let must_be_live = kind != Kind::Process && shape.cell(kind, index) == cell;
+    let older = !must_be_live && rng.chance(1, 4);
+    kind.seid(index, if older { rng.between(1, serial) } else { serial })
+}
+
+fn holdings(rng: &mut Rng, mood: &Mood, world: &mut World, shape: &Shape, process: usize, cell: usize) {
+    // Some files stay quiet: nobody of their own cell has them open, though a higher reader may.
+    let quiet = |file: usize| shape.cell(Kind::File, file) == cell && mood.quiet_files >> file & 1 == 1;
+    let mut files = candidates(world, shape, Kind::File, cell);
+    files.retain(|&file| !quiet(file));
+    let segments = candidates(world, shape, Kind::Segment, cell);
+    let senders = candidates(world, shape, Kind::Process, cell);
+    let full = rng.chance(1, 8); // now and then no place is empty
+    for place in 0..ENTRIES {
+        if !files.is_empty() && (full || rng.chance(mood.entries, 8)) {
+            let file = rng.pick(&files);
+            let modes = if shape.cell(Kind::File, file) == cell { rng.pick(&VALID_MODES) } else { 1 };
+            let seid = held(rng, world, shape, Kind::File, file, cell);
+            world.set_entry(shape, process, DESCRIPTORS, place, (seid, modes));
+        }
+        if !segments.is_empty() && (full || rng.chance(mood.entries, 8)) {
+            // The first of some draws that is not held already.
+            let seid = (0..8)
+                .map(|_| {
+                    let segment = rng.pick(&segments);
+                    held(rng, world, shape, Kind::Segment, segment, cell)
+                })
+                .find(|&seid| (0..place).all(|earlier| world.entry(shape, process, DESIGNATORS, earlier).0 != seid));
+            if let Some(seid) = seid {
+                let own = shape.cell(Kind::Segment, Seid::of(seid).index) == cell;
+                let access = if own { rng.pick(&[0, 128, 256, 384]) } else { rng.pick(&[0, 256, 256]) };
+                world.set_entry(shape, process, DESIGNATORS, place, (seid, access));
+            }
+        }
+    }
+    let queued = rng.pick(&[0, 0, 1, 2, 3, 7, 8, 8]);
+    let at = shape.at(Kind::Process, process);
+    world.table[at + QUEUED] = queued as u32;
+    for message in 0..queued {
+        let sender = rng.pick(&senders); // the process itself at least may have sent it
+        let seid = held(rng, world, shape, Kind::Process, sender, cell);
+        let text = [rng.word(), rng.word(), rng.word()];
+        let words = at + MESSAGES + MESSAGE_WORDS * message;
+        world.table[words] = seid;
+        world.table[words + 1..words + MESSAGE_WORDS].copy_from_slice(&text);
+    }
+}
+
+/// Opens and references by counting. A live object that nothing keeps is given to a process or gets a link, or is freed.
+fn count_holds(rng: &mut Rng, world: &mut World, shape: &Shape, cell: usize) {
+    for (kind, entries) in [(Kind::File, DESCRIPTORS), (Kind::Segment, DESIGNATORS)] {
+        for process in shape.run(Kind::Process, cell) {
+            for place in 0..ENTRIES {
+                let (seid, _) = world.entry(shape, process, entries, place);
+                let index = Seid::of(seid).index;
+                if seid != 0 && shape.cell(kind, index) == cell {
+                    world.table[shape.at(kind, index) + HOLDS] += 1;
+                }
+            }
+        }
+        for index in shape.run(kind, cell) {
+            let record = &mut world.table[shape.record(kind, index)];
+            let kept = record[HOLDS] > 0 || kind == Kind::File && record[LINKS] > 0;
+            if record[LIVE] == 1 && !kept {
+                keep_or_free(rng, world, shape, kind, entries, index);
+            }
+        }
+    }
+}
+
+fn keep_or_free(rng: &mut Rng, world: &mut World, shape: &Shape, kind: Kind, entries: usize, index: usize) {
+    if kind == Kind::File && rng.chance(1, 2) {
+        world.table[shape.at(kind, index) + LINKS] = 1;
+        return;
+    }
+    let run = shape.run(Kind::Process, shape.cell(kind, index));
+    let process = run.start + rng.below(run.len());
+    let place = rng.below(ENTRIES);
+    if world.live(shape, Kind::Process, process) && world.entry(shape, process, entries, place).0 == 0 {
+        let rights = if kind == Kind::File { rng.pick(&VALID_MODES) } else { rng.pick(&[0, 128, 256, 384]) };
+        let seid = world.seid(shape, kind, index);
+        world.set_entry(shape, process, entries, place, (seid, rights));
+        world.table[shape.at(kind, index) + HOLDS] = 1;
+    } else {
+        let record = &mut world.table[shape.record(kind, index)];
+        let serial = record[SERIAL];
+        record.fill(0);
+        record[SERIAL] = serial;
+    }
+}

@@ -1,0 +1,361 @@
+//! What a trial has met: each code's successes, each refusal of its list, and some situations that are easily missed. A trial that
+//! never met one of them fails, so that a pass says something.
+
+use crate::calls::Call;
+use crate::tables::World;
+use plain::table::*;
+use plain::{Kind, Seid, Shape};
+use std::collections::BTreeMap;
+use std::fmt;
+
+pub const CODES: usize = 18;
+pub const ERRORS: usize = 30;
+
+/// The refusals in each call's own list. A 12 of call 14 cannot arise: write is held only in the own cell, and there nothing is stale.
+pub const REFUSALS: [&[u32]; CODES + 1] = [
+    &[],
+    &[4, 15, 27],
+    &[2, 13, 14],
+    &[4, 6, 25, 26],
+    &[4, 11, 13, 17, 16, 18, 25],
+    &[8, 9],
+    &[4, 8, 9, 11, 13, 16],
+    &[4, 7, 25, 26],
+    &[7, 12, 13, 16, 19, 25],
+    &[10],
+    &[12, 13, 14, 24],
+    &[12, 13, 14, 24],
+    &[4, 11, 12, 13, 14],
+    &[5, 10, 20, 12, 16, 22, 23],
+    &[5, 10, 21, 16, 22],
+    &[5, 2, 13, 28],
+    &[5, 29],
+    &[5, 12, 13, 2, 11],
+    &[8, 9, 11],
+];
+
+pub const SITUATIONS: [&str; 37] = [
+    "spawn passes over a free slot of serial 65535",
+    "spawn reaches serial 65535",
+    "spawn of another owner by owner 0",
+    "create passes over a free slot of serial 65535",
+    "build with write-only access",
+    "release of oneself by seid 0",
+    "release of oneself by the real seid",
+    "release frees a file",
+    "release frees a segment",
+    "release leaves a file open elsewhere",
+    "release of a process with stale entries",
+    "release of a process with messages",
+    "rendezvous in a lower cell",
+    "release of a segment: stale",
+    "release of a segment: freed",
+    "release of a segment: still referred to",
+    "release of a segment: another cell's, live",
+    "set access beyond the stored access",
+    "open from a higher cell beside an exclusive open",
+    "exclusive open beside a reader in a higher cell",
+    "open refused by the caller's own descriptor",
+    "close of a stale descriptor",
+    "close frees the file",
+    "close leaves a linked file",
+    "close of another cell's live file",
+    "unlink frees the file",
+    "unlink leaves an open file",
+    "read refused to the owner though all may read",
+    "write fills a hole",
+    "write extends by one block",
+    "write over a block",
+    "post up: delivered",
+    "post up: dropped, queue full",
+    "post up: dropped, not live",
+    "post up: dropped, other serial",
+    "post to oneself by seid 0",
+    "access limited by today's bits",
+];
+
+pub struct Tally {
+    /// By code and error: successes, and refusals from the call's own list.
+    own: [[u64; ERRORS]; CODES + 1],
+    bad_table: u64,
+    bad_caller: u64,
+    bad_code: u64,
+    situations: BTreeMap<&'static str, u64>,
+}
+
+impl Default for Tally {
+    fn default() -> Tally {
+        Tally {
+            own: [[0; ERRORS]; CODES + 1],
+            bad_table: 0,
+            bad_caller: 0,
+            bad_code: 0,
+            situations: SITUATIONS.map(|name| (name, 0)).into(),
+        }
+    }
+}
+
+impl Tally {
+    /// Notes a call on a table that was not well formed.
+    pub fn bad_table(&mut self) {
+        self.bad_table += 1;
+    }
+
+    /// Notes a call on a well-formed table. Panics on an error that the call's list does not have.
+    pub fn note(&mut self, before: &World, shape: &Shape, call: &Call, [error, first, second]: [u32; 3]) {
+        let request = &call.request;
+        let (caller, code) = (request.caller as usize, request.code as usize);
+        if caller >= shape.count(Kind::Process) || !before.live(shape, Kind::Process, caller) {
+            assert_eq!(error, 2, "a caller that is not there: {call:?}");
+            self.bad_caller += 1;
+        } else if !(1..=CODES).contains(&code) {
+            assert_eq!(error, 3, "a code that is not there: {call:?}");
+            self.bad_code += 1;
+        } else {
+            assert!(
+                error == 0 || REFUSALS[code].contains(&error),
+                "{error} is not in the list of call {code}: {call:?}"
+            );
+            self.own[code][error as usize] += 1;
+            let mut scene = Scene { tally: self, before, shape, call, caller };
+            match error {
+                0 => scene.success(first, second),
+                _ => scene.refusal(error),
+            }
+        }
+        assert!(error == 0 || (first, second) == (0, 0), "a refusal with results: {call:?}");
+    }
+
+    fn met(&mut self, situation: &'static str, true_here: bool) {
+        let count = self.situations.get_mut(situation).expect("the situation is listed");
+        *count += u64::from(true_here);
+    }
+
+    /// What has not been met.
+    pub fn missing(&self) -> Vec<String> {
+        let mut missing = Vec::new();
+        for (code, errors) in self.own.iter().enumerate().skip(1) {
+            for error in [0].iter().chain(REFUSALS[code]) {
+                if errors[*error as usize] == 0 {
+                    missing.push(format!("call {code} with error {error}"));
+                }
+            }
+        }
+        for (count, name) in [(self.bad_table, "table"), (self.bad_caller, "caller"), (self.bad_code, "code")] {
+            if count == 0 {
+                missing.push(format!("a bad {name}"));
+            }
+        }
+        missing.extend(self.situations.iter().filter(|(_, count)| **count == 0).map(|(name, _)| name.to_string()));
+        missing
+    }
+
+    pub fn assert_complete(&self) {
+        let missing = self.missing();
+        assert!(missing.is_empty(), "never met:\n  {}", missing.join("\n  "));
+    }
+}
+
+impl fmt::Display for Tally {
+    fn fmt(&self, f: &mut fmt::Formatter) -> fmt::Result {
+        writeln!(f, "refused alike: table {}, caller {}, code {}", self.bad_table, self.bad_caller, self.bad_code)?;
+        for (code, errors) in self.own.iter().enumerate().skip(1) {
+            write!(f, "call {code:2}: done {:6}; refused", errors[0])?;
+            for &error in REFUSALS[code] {
+                write!(f, "  {error}: {}", errors[error as usize])?;
+            }
+            writeln!(f)?;
+        }
+        for (name, count) in &self.situations {
+            writeln!(f, "{count:8}  {name}")?;
+        }
+        Ok(())
+    }
+}
+
+/// One call on a well-formed table, looked at for the situations.
+struct Scene<'a> {
+    tally: &'a mut Tally,
+    before: &'a World,
+    shape: &'a Shape,
+    call: &'a Call,
+    caller: usize,
+}
+
+impl Scene<'_> {
+    fn word(&self, kind: Kind, index: usize, word: usize) -> u32 {
+        self.before.table[self.shape.at(kind, index) + word]
+    }
+
+    fn own_word(&self, word: usize) -> u32 {
+        self.word(Kind::Process, self.caller, word)
+    }
+
+    /// A lower slot of the same cell is free but has no serial left.
+    fn passed_over(&self, kind: Kind, taken: usize) -> bool {
+        let start = self.shape.run(kind, self.shape.cell(kind, taken)).start;
+        (start..taken).any(|slot| self.word(kind, slot, LIVE) == 0 && self.word(kind, slot, SERIAL) == MAX_SERIAL)
+    }
+
+    fn success(&mut self, first: u32, _second: u32) {
+        let request = self.call.request;
+        match request.code {
+            1 => {
+                let seid = Seid::of(first);
+                let over = self.passed_over(Kind::Process, seid.index);
+                let other_owner = request.a != self.own_word(OWNER);
+                self.tally.met("spawn passes over a free slot of serial 65535", over);
+                self.tally.met("spawn reaches serial 65535", seid.serial == MAX_SERIAL);
+                self.tally.met("spawn of another owner by owner 0", other_owner);
+            }
+            2 => self.release_process(request.a),
+            3 => self.tally.met("build with write-only access", request.b & (READ | WRITE) == WRITE),
+            4 => {
+                let cell = self.shape.cell(Kind::Segment, Seid::of(request.a).index);
+                let lower = cell != self.shape.cell(Kind::Process, self.caller);
+                self.tally.met("rendezvous in a lower cell", lower);
+            }
+            5 => self.give_up(Kind::Segment, request.a as usize),
+            6 => {
+                let (_, stored) = self.before.entry(self.shape, self.caller, DESIGNATORS, request.a as usize);
+                self.tally.met("set access beyond the stored access", request.b & !stored != 0);
+            }
+            7 => {
+                let over = self.passed_over(Kind::File, Seid::of(first).index);
+                self.tally.met("create passes over a free slot of serial 65535", over);
+            }
+            8 => self.open(request.a, request.b),
+            9 => self.give_up(Kind::File, request.a as usize),
+            11 => {
+                let file = Seid::of(request.a).index;
+                let last = self.word(Kind::File, file, LINKS) == 1;
+                let open = self.word(Kind::File, file, HOLDS) != 0;
+                self.tally.met("unlink frees the file", last && !open);
+                self.tally.met("unlink leaves an open file", last && open);
+            }
+            14 => {
+                let (seid, _) = self.before.entry(self.shape, self.caller, DESCRIPTORS, request.a as usize);
+                let size = self.word(Kind::File, Seid::of(seid).index, SIZE);
+                self.tally.met("write fills a hole", request.b > size);
+                self.tally.met("write extends by one block", request.b == size);
+                self.tally.met("write over a block", request.b < size);
+            }
+            15 => self.post(request.a),
+            18 => {
+                let (_, stored) = self.before.entry(self.shape, self.caller, DESIGNATORS, request.a as usize);
+                self.tally.met("access limited by today's bits", first != stored);
+            }
+            _ => {}
+        }
+    }
+
+    fn release_process(&mut self, named: u32) {
+        let own = self.before.seid(self.shape, Kind::Process, self.caller);
+        let process = Seid::of(if named == 0 { own } else { named }).index;
+        let cell = self.shape.cell(Kind::Process, process);
+        self.tally.met("release of oneself by seid 0", named == 0);
+        self.tally.met("release of oneself by the real seid", named == own);
+        self.tally.met("release of a process with messages", self.word(Kind::Process, process, QUEUED) != 0);
+        for (kind, entries) in [(Kind::File, DESCRIPTORS), (Kind::Segment, DESIGNATORS)] {
+            let held: Vec<u32> = (0..ENTRIES)
+                .map(|place| self.before.entry(self.shape, process, entries, place).0)
+                .filter(|&seid| seid != 0)
+                .collect();
+            let stale = held.iter().any(|&seid| self.before.stale(self.shape, kind, seid));
+            self.tally.met("release of a process with stale entries", stale);
+            for &seid in &held {
+                let index = Seid::of(seid).index;
+                if self.shape.cell(kind, index) != cell {
+                    continue;
+                }
+                let last =
+                    self.word(kind, index, HOLDS) as usize == held.iter().filter(|&&other| other == seid).count();
+                match kind {
+                    Kind::File => {
+                        let linked = self.word(kind, index, LINKS) != 0;
+                        self.tally.met("release frees a file", last && !linked);
+                        self.tally.met("release leaves a file open elsewhere", !last);
+                    }
+                    _ => self.tally.met("release frees a segment", last),
+                }
+            }
+        }
+    }
+
+    fn give_up(&mut self, kind: Kind, place: usize) {
+        let entries = if kind == Kind::File { DESCRIPTORS } else { DESIGNATORS };
+        let (seid, _) = self.before.entry(self.shape, self.caller, entries, place);
+        let index = Seid::of(seid).index;
+        let stale = self.before.stale(self.shape, kind, seid);
+        let own = self.shape.cell(kind, index) == self.shape.cell(Kind::Process, self.caller);
+        let last = own && self.word(kind, index, HOLDS) == 1;
+        match kind {
+            Kind::File => {
+                let linked = own && self.word(kind, index, LINKS) != 0;
+                self.tally.met("close of a stale descriptor", stale);
+                self.tally.met("close frees the file", last && !linked);
+                self.tally.met("close leaves a linked file", last && linked);
+                self.tally.met("close of another cell's live file", !own && !stale);
+            }
+            _ => {
+                self.tally.met("release of a segment: stale", stale);
+                self.tally.met("release of a segment: freed", last);
+                self.tally.met("release of a segment: still referred to", own && !last);
+                self.tally.met("release of a segment: another cell's, live", !own && !stale);
+            }
+        }
+    }
+
+    fn open(&mut self, file: u32, modes: u32) {
+        let cell = self.shape.cell(Kind::File, Seid::of(file).index);
+        let higher = cell != self.shape.cell(Kind::Process, self.caller);
+        let held = |process: usize, by: fn(u32) -> bool| {
+            (0..ENTRIES).any(|place| {
+                let (seid, modes) = self.before.entry(self.shape, process, DESCRIPTORS, place);
+                seid == file && by(modes)
+            })
+        };
+        let processes = 0..self.shape.count(Kind::Process);
+        let exclusive = higher && self.shape.run(Kind::Process, cell).any(|process| held(process, |modes| modes == 15));
+        let reader = modes == 15 && processes.into_iter().any(|process| held(process, |_| true));
+        self.tally.met("open from a higher cell beside an exclusive open", exclusive);
+        self.tally.met("exclusive open beside a reader in a higher cell", reader);
+    }
+
+    fn post(&mut self, named: u32) {
+        self.tally.met("post to oneself by seid 0", named == 0);
+        let receiver = Seid::of(named).index;
+        let cell = self.shape.cell(Kind::Process, self.caller);
+        if named == 0 || self.shape.cell(Kind::Process, receiver) == cell {
+            return;
+        }
+        let live = self.before.live(self.shape, Kind::Process, receiver);
+        let same = self.before.seid(self.shape, Kind::Process, receiver) == named;
+        let full = self.word(Kind::Process, receiver, QUEUED) as usize == QUEUE;
+        self.tally.met("post up: delivered", live && same && !full);
+        self.tally.met("post up: dropped, queue full", live && same && full);
+        self.tally.met("post up: dropped, not live", !live);
+        self.tally.met("post up: dropped, other serial", live && !same);
+    }
+
+    fn refusal(&mut self, error: u32) {
+        let request = self.call.request;
+        match (request.code, error) {
+            (8, 19) => {
+                let held = (0..ENTRIES).any(|place| {
+                    let (seid, modes) = self.before.entry(self.shape, self.caller, DESCRIPTORS, place);
+                    seid == request.a && plain::clash(modes, request.b)
+                });
+                self.tally.met("open refused by the caller's own descriptor", held);
+            }
+            (13, 16) => {
+                let (seid, _) = self.before.entry(self.shape, self.caller, DESCRIPTORS, request.a as usize);
+                let file = Seid::of(seid).index;
+                let owner = self.word(Kind::File, file, OWNER) == self.own_word(OWNER);
+                let all_may = self.word(Kind::File, file, BITS) & 4 != 0;
+                self.tally.met("read refused to the owner though all may read", owner && all_may);
+            }
+            _ => {}
+        }
+    }
+}

@@ -1,0 +1,75 @@
+//! The plain monitor by itself, on random tables: what every monitor of document 01 must keep, and what it must not tell.
+
+use trial::tally::Tally;
+use trial::{Monitor, Plain, Rng, calls, damage, secrecy, tables};
+
+/// Every call on a well-formed table leaves it well formed, and a refused one changes nothing.
+#[test]
+fn calls_keep_tables_well_formed() {
+    let mut rng = Rng::for_trial("calls_keep_tables_well_formed", 1);
+    let mut tally = Tally::default();
+    tally.bad_table(); // is tried below
+    let mut made = 0;
+    while made < trial::setting("TRIAL_CALLS", 300_000) {
+        let limits = tables::limits(&mut rng);
+        let mut world = match rng.chance(1, 4) {
+            true => tables::fresh(&mut rng, limits),
+            false => tables::well_formed(&mut rng, limits),
+        };
+        let shape = world.shape();
+        assert_eq!(Plain.check(&world.table, world.store.len()), 0, "the table drawn is well formed");
+        for _ in 0..200 {
+            let call = calls::any(&mut rng, &world, &shape);
+            let before = world.clone();
+            let mut buffer = call.buffer.clone();
+            let answer = Plain.call(&mut world.table, &mut world.store, &call.request, &mut buffer);
+            tally.note(&before, &shape, &call, answer);
+            if answer[0] != 0 {
+                assert!(world == before && buffer == call.buffer, "a refusal changed something: {call:?}");
+            }
+            if !matches!(call.request.code, 13 | 16 | 17) {
+                assert_eq!(buffer, call.buffer, "only 13, 16 and 17 change the buffer: {call:?}");
+            }
+            if call.request.code != 14 {
+                assert!(world.store == before.store, "only 14 writes the store: {call:?}");
+            }
+            assert_eq!(Plain.check(&world.table, world.store.len()), 0, "left a bad table: {call:?}");
+            made += 1;
+        }
+    }
+    println!("{tally}");
+    tally.assert_complete();
+}
+
+/// Every named damage makes a table bad.
+#[test]
+fn damages_are_found() {
+    let mut rng = Rng::for_trial("damages_are_found", 2);
+    for damage in damage::named() {
+        let mut done = 0;
+        let mut tried = 0;
+        while done < 30 {
+            tried += 1;
+            assert!(tried < 20_000, "no table has a place for this damage: {}", damage.name);
+            let limits = tables::limits(&mut rng);
+            let mut world = tables::well_formed(&mut rng, limits);
+            let shape = world.shape();
+            if (damage.apply)(&mut rng, &mut world, &shape).is_some() {
+                assert_eq!(Plain.check(&world.table, world.store.len()), 1, "not found: {}", damage.name);
+                done += 1;
+            }
+        }
+    }
+}
+
+#[test]
+fn nothing_flows_down() {
+    let mut rng = Rng::for_trial("nothing_flows_down", 3);
+    let mut met = secrecy::Met::default();
+    for _ in 0..trial::setting("TRIAL_RUNS", 2_000) {
+        let limits = tables::limits(&mut rng);
+        secrecy::pair_of_runs(&Plain, &mut rng, limits, 40, &mut met);
+    }
+    println!("{met:#?}");
+    met.assert_complete();
+}
