@@ -1,0 +1,61 @@
+-- A property of the rule of a call, shown code by code: each code's part knows that the call has it.
+use mathlib.Core.Path.{_≡_}
+use mathlib.Core.Bool.{cond}
+use mathlib.Core.List.{List, []}
+use Prim.Native.Nat.{ℕ}
+use lib.Dec.{eqb}
+use borrow.Author.Tests.{eqb-true}
+use Rattle.rules.specs.Layout.{Addr}
+use Rattle.rules.specs.Rule.{Rule, rule, effect}
+use Rattle.rules.specs.Call01.{spawn}
+use Rattle.rules.specs.Call02.{releaseProcess}
+use Rattle.rules.specs.Call03.{buildSegment}
+use Rattle.rules.specs.Call04.{rendezvous}
+use Rattle.rules.specs.Call05.{releaseSegment}
+use Rattle.rules.specs.Call06.{setAccess}
+use Rattle.rules.specs.Call07.{create}
+use Rattle.rules.specs.Call08.{openFile}
+use Rattle.rules.specs.Call09.{close}
+use Rattle.rules.specs.Call10.{link}
+use Rattle.rules.specs.Call11.{unlink}
+use Rattle.rules.specs.Call12.{setBits}
+use Rattle.rules.specs.Call13.{readBlock}
+use Rattle.rules.specs.Call14.{writeBlock}
+use Rattle.rules.specs.Call15.{post}
+use Rattle.rules.specs.Call16.{receive}
+use Rattle.rules.specs.Call17.{status}
+use Rattle.rules.specs.Call18.{accessOf}
+use Rattle.rules.specs.Step.{Call, ruleOf}
+use Rattle.laws.proofs.Tests.{cond-both}
+
+pub record Coded (h : List ℕ) (r : Addr → ℕ) (st : List ℕ) (k : Call) (P : Rule → Type 0) : Type 0 where
+  pub call-1 : k .code ≡ 1 → P (spawn h r (k .caller) (k .a) (k .b) (k .buffer))
+  pub call-2 : k .code ≡ 2 → P (releaseProcess h r (k .caller) (k .a) (k .buffer))
+  pub call-3 : k .code ≡ 3 → P (buildSegment h r (k .caller) (k .a) (k .b) (k .c) (k .buffer))
+  pub call-4 : k .code ≡ 4 → P (rendezvous h r (k .caller) (k .a) (k .b) (k .buffer))
+  pub call-5 : k .code ≡ 5 → P (releaseSegment h r (k .caller) (k .a) (k .buffer))
+  pub call-6 : k .code ≡ 6 → P (setAccess h r (k .caller) (k .a) (k .b) (k .buffer))
+  pub call-7 : k .code ≡ 7 → P (create h r (k .caller) (k .a) (k .b) (k .buffer))
+  pub call-8 : k .code ≡ 8 → P (openFile h r (k .caller) (k .a) (k .b) (k .buffer))
+  pub call-9 : k .code ≡ 9 → P (close h r (k .caller) (k .a) (k .buffer))
+  pub call-10 : k .code ≡ 10 → P (link h r (k .caller) (k .a) (k .buffer))
+  pub call-11 : k .code ≡ 11 → P (unlink h r (k .caller) (k .a) (k .buffer))
+  pub call-12 : k .code ≡ 12 → P (setBits h r (k .caller) (k .a) (k .b) (k .buffer))
+  pub call-13 : k .code ≡ 13 → P (readBlock h r st (k .caller) (k .a) (k .b) (k .buffer))
+  pub call-14 : k .code ≡ 14 → P (writeBlock h r (k .caller) (k .a) (k .b) (k .buffer))
+  pub call-15 : k .code ≡ 15 → P (post h r (k .caller) (k .a) (k .buffer))
+  pub call-16 : k .code ≡ 16 → P (receive h r (k .caller) (k .buffer))
+  pub call-17 : k .code ≡ 17 → P (status h r (k .caller) (k .a) (k .buffer))
+  pub call-18 : k .code ≡ 18 → P (accessOf h r (k .caller) (k .a) (k .buffer))
+  -- a code that is no call's
+  pub other : P (rule [] (effect 0 0 (k .buffer) [] []))
+
+pub coded : (h : List ℕ) (r : Addr → ℕ) (st : List ℕ) (k : Call) (P : Rule → Type 0) → Coded h r st k P → P (ruleOf h r st k)
+unfolding ruleOf
+coded h r st k P x =
+    or 1 (x .call-1) (or 2 (x .call-2) (or 3 (x .call-3) (or 4 (x .call-4) (or 5 (x .call-5) (or 6 (x .call-6) (or 7 (x .call-7) (or 8 (x .call-8)
+    (or 9 (x .call-9) (or 10 (x .call-10) (or 11 (x .call-11) (or 12 (x .call-12) (or 13 (x .call-13) (or 14 (x .call-14) (or 15 (x .call-15) (or 16 (x .call-16)
+    (or 17 (x .call-17) (or 18 (x .call-18) (x .other))))))))))))))))))
+  where
+    or : {x y : Rule} (n : ℕ) → (k .code ≡ n → P x) → P y → P (cond (eqb (k .code) n) x y)
+    or {x} {y} n p q = cond-both P (eqb (k .code) n) x y (λ e. p (eqb-true (k .code) n e)) (λ e. q)

@@ -1,0 +1,180 @@
+-- The edges that document 01 marks P, under one statement: `edges`, at the end.
+use mathlib.Core.Path.{_≡_, refl}
+use mathlib.Core.Bool.{Bool, true, false, cond, _&&_}
+use mathlib.Core.List.{List, [], _∷_}
+use Prim.Native.Nat.{ℕ, _+_, _<_, _≤_}
+use native.Mathlib.Omega.{arith}
+use lib.Dec.{ltb, eqb}
+use lib.ListN.{length}
+use borrow.Author.Tests.{eq-eqb, ne-eqb, ltb-true, leb-false}
+use Rattle.rules.specs.Words.{allBelow, sumBelow, lowest}
+use Rattle.rules.specs.Claim.{Holds}
+use Rattle.rules.specs.Level.{Level, level, has, within, flowsTo}
+use Rattle.rules.specs.Layout.{maxSerial, Kind, process, slots, cellWord, cellSlots, configuration, firstSlot, cellOf, flows, Addr, at, rd, live, serial}
+use Rattle.rules.specs.Seid.{class, seid, indexOf, formed, orSelf, present}
+use Rattle.rules.specs.Modes.{validModes}
+use Rattle.rules.specs.Rights.{rights, mayRead, mayWrite, access}
+use Rattle.rules.specs.WellFormed.{wellFormed}
+use Rattle.rules.specs.Errors.{XOK}
+use Rattle.rules.specs.Rule.{store}
+use Rattle.rules.specs.Find.{inOwnCell, freeSlot, noSlot}
+use Rattle.rules.specs.Call15.{textBytes, post}
+use Rattle.rules.specs.Step.{State, Call, step, badCode, ruleOf}
+use Rattle.laws.proofs.Tests.{and-right, refuted, both-ways, cond-false}
+use Rattle.laws.proofs.Search.{lowest-hit}
+use Rattle.laws.proofs.Seids.{class-some, is-formed}
+use Rattle.levels.proofs.Flow.{flows-says, flows-when, reflexive}
+use Rattle.kept.proofs.Refusals.{Clear}
+use Rattle.promises.proofs.Refusals.{Untouched, goes-on}
+use Rattle.promises.proofs.Stale.{stale-post}
+
+-- ---- levels
+
+not-more-secure : (a b : Level) → b .security < a .security → flowsTo a b ≡ false
+not-more-secure a b l = refuted (flowsTo a b) (λ e. omega (arith, flows-says a b e .secure))
+
+not-less-trusty : (a b : Level) → a .integrity < b .integrity → flowsTo a b ≡ false
+not-less-trusty a b l = refuted (flowsTo a b) (λ e. omega (arith, flows-says a b e .trusty))
+
+not-outside : (a b : Level) (k : ℕ) → k < 32 → has (a .compartments) k ≡ true → has (b .compartments) k ≡ false → flowsTo a b ≡ false
+not-outside a b k l x y = refuted (flowsTo a b) (λ e. both-ways (has (b .compartments) k) (flows-says a b e .inside k l x) y)
+
+same-compartments : (a b : Level) → a .security ≤ b .security → b .integrity ≤ a .integrity → a .compartments ≡ b .compartments → flowsTo a b ≡ true
+same-compartments a b s i c = flows-when a b (record { secure = s; inside = λ k l p. rw c at p; trusty = i })
+
+-- ---- owner bits
+
+owner-none : (u g group : ℕ) → rights u g u group 4 ≡ 0
+unfolding rights
+owner-none u g group = rw (eq-eqb u u refl)
+
+others-420 : (u g owner group : ℕ) → (u ≡ owner → ⊥) → (g ≡ group → ⊥) → rights u g owner group 420 ≡ 4
+unfolding rights
+others-420 u g owner group x y = rw (ne-eqb u owner x, ne-eqb g group y)
+
+-- ---- slots
+
+-- a slot found has a serial below the last
+not-worn : (h : List ℕ) (r : Addr → ℕ) (k : Kind) (c : ℕ) → noSlot h r k c ≡ false → r (at k (freeSlot h r k c) serial) ≡ maxSerial → ⊥
+unfolding freeSlot
+not-worn h r k c n e =
+    let test : ℕ → Bool = λ i. eqb (r (at k i live)) 0 && ltb (r (at k i serial)) maxSerial in
+    let i : ℕ = lowest test (cellSlots h k c) (firstSlot h k c) in
+    let hit = lowest-hit test (cellSlots h k c) (firstSlot h k c) (leb-false (firstSlot h k c + cellSlots h k c) i n) in
+    omega (arith, ltb-true (r (at k i serial)) maxSerial (and-right (eqb (r (at k i live)) 0) (ltb (r (at k i serial)) maxSerial) hit))
+
+-- one cell of two process slots, neither live; the serial of slot 0 is 65535, that of slot 1 is 0
+abbrev pub two-slots : List ℕ
+two-slots = 1 ∷ 2 ∷ 0 ∷ 0 ∷ 1 ∷ 0 ∷ 0 ∷ 0 ∷ 0 ∷ 0 ∷ 0 ∷ 2 ∷ 0 ∷ 0 ∷ 0 ∷ 0 ∷ []
+
+abbrev pub first-worn : Addr → ℕ
+first-worn a = cond (eqb (a .slot) 0 && eqb (a .word) serial) maxSerial 0
+
+second-taken : freeSlot two-slots first-worn process 0 ≡ 1
+unfolding freeSlot lowest cellWord firstSlot sumBelow
+second-taken = refl
+
+-- ---- a post up
+
+-- caller and receiver of a post from one cell up to another, with text of the right length, to a seid in form whose slot is not live with its serial
+pub record PostUp (s : State) (k : Call) (h : List ℕ) (r : Addr → ℕ) : Type 0 where
+  pub well : Holds (wellFormed (s .table) (length (s .store)))
+  pub caller-in : k .caller < slots h process
+  pub caller-live : r (at process (k .caller) live) ≡ 1
+  pub is-post : k .code ≡ 15
+  pub text : length (k .buffer) ≡ textBytes
+  pub form : formed h process (k .a) ≡ true
+  pub up : flows h (cellOf h process (k .caller)) (cellOf h process (indexOf (k .a))) ≡ true
+  pub other-cell : cellOf h process (indexOf (k .a)) ≡ cellOf h process (k .caller) → ⊥
+  pub absent : present r process (k .a) ≡ false
+
+abbrev pub AbsentAbove : State → Call → Type 0
+AbsentAbove s k = PostUp s k (configuration (s .table)) (rd (configuration (s .table)) (s .table))
+
+-- XOK, and nothing changed
+abbrev pub OnlyXOK : State → Call → Type 0
+OnlyXOK s k = (step s k .answered .error ≡ XOK) × Untouched s k (step s k)
+
+module _ (s : State) (k : Call) (x : AbsentAbove s k) where
+  abbrev h : List ℕ
+  h = configuration (s .table)
+
+  abbrev r : Addr → ℕ
+  r = rd (configuration (s .table)) (s .table)
+
+  its-rule : ruleOf h r (s .store) k ≡ post h r (k .caller) (k .a) (k .buffer)
+  unfolding ruleOf
+  its-rule = rw (x .is-post)
+
+  its-seid : orSelf r (k .caller) (k .a) ≡ k .a
+  unfolding orSelf
+  its-seid = cond-false (eqb (k .a) 0) _ _ (ne-eqb (k .a) 0 (class-some (k .a) (class process) (omega arith) (is-formed _ _ (k .a) (x .form) .class-is)))
+
+  -- none of its refusals holds
+  nothing-refused : Clear (post h r (k .caller) (k .a) (k .buffer) .refusals)
+  unfolding post
+  nothing-refused =
+      let other : inOwnCell h (k .caller) process (k .a) ≡ false = ne-eqb _ _ (x .other-cell) in
+      rw (its-seid, eq-eqb (length (k .buffer)) textBytes (x .text), x .form, x .up, other) (refl, (refl, (refl, (refl, (refl, tt)))))
+
+  dropped-above : OnlyXOK s k
+  unfolding badCode
+  dropped-above =
+      let c : badCode (k .code) ≡ false = rw (x .is-post) in (
+        goes-on s k (x .well) (x .caller-in) (x .caller-live) c (rw its-rule nothing-refused),
+        stale-post s k (x .is-post) (rw its-seid (x .absent)) .1,
+      )
+
+-- ---- all of them
+
+pub record Edges : Type 0 where
+  -- "security 1 flows to 3, not back"
+  pub security-up : (i c : ℕ) → flowsTo (level 1 i c) (level 3 i c) ≡ true
+  pub security-back : (i c : ℕ) → flowsTo (level 3 i c) (level 1 i c) ≡ false
+  -- "integrity 5 to 3, not back"
+  pub integrity-down : (s c : ℕ) → flowsTo (level s 5 c) (level s 3 c) ≡ true
+  pub integrity-back : (s c : ℕ) → flowsTo (level s 3 c) (level s 5 c) ≡ false
+  -- "one extra compartment forbids": one that a has and b has not; so compartments 0 and 1 do not flow to 0 alone, though back they do
+  pub extra-compartment : (a b : Level) (k : ℕ) → k < 32 → has (a .compartments) k ≡ true → has (b .compartments) k ≡ false → flowsTo a b ≡ false
+  pub extra-forbids : flowsTo (level 1 5 3) (level 1 5 1) ≡ false
+  pub fewer-flows : flowsTo (level 1 5 1) (level 1 5 3) ≡ true
+  -- "equal flows"
+  pub equal : (a : Level) → flowsTo a a ≡ true
+  -- "process 3 serial 7 is 67305479"
+  pub a-seid : seid (class process) 3 7 ≡ 67305479
+  -- "bits 4 give the owner nothing": whatever the groups
+  pub owner-read : (u g group : ℕ) → mayRead (rights u g u group 4) ≡ false
+  pub owner-write : (u g group : ℕ) → mayWrite (rights u g u group 4) ≡ false
+  -- "bits 420 give others 256": those who are neither the owner nor of the group
+  pub others : (u g owner group : ℕ) → (u ≡ owner → ⊥) → (g ≡ group → ⊥)
+      → access (mayRead (rights u g owner group 420)) (mayWrite (rights u g owner group 420)) ≡ 256
+  -- "modes 9 invalid, 11 valid"
+  pub modes-9 : validModes 9 ≡ false
+  pub modes-11 : validModes 11 ≡ true
+  -- "free serial 65535 is passed over": the slot that creation takes never has it; and where only the first of two slots has, the second is taken
+  pub worn : (h : List ℕ) (r : Addr → ℕ) (k : Kind) (c i : ℕ) → noSlot h r k c ≡ false → r (at k i serial) ≡ 65535 → freeSlot h r k c ≡ i → ⊥
+  pub passed-over : freeSlot two-slots first-worn process 0 ≡ 1
+  -- "post up to an absent process is XOK with nothing changed"
+  pub post-up : (s : State) (k : Call) → AbsentAbove s k → OnlyXOK s k
+
+pub edges : Edges
+unfolding seid mayRead mayWrite access validModes flowsTo within allBelow
+edges = record {
+  security-up = λ i c. same-compartments (level 1 i c) (level 3 i c) (omega arith) (omega arith) refl;
+  security-back = λ i c. not-more-secure (level 3 i c) (level 1 i c) (omega arith);
+  integrity-down = λ s c. same-compartments (level s 5 c) (level s 3 c) (omega arith) (omega arith) refl;
+  integrity-back = λ s c. not-less-trusty (level s 3 c) (level s 5 c) (omega arith);
+  extra-compartment = not-outside;
+  extra-forbids = refl;
+  fewer-flows = refl;
+  equal = reflexive;
+  a-seid = refl;
+  owner-read = λ u g group. rw (owner-none u g group);
+  owner-write = λ u g group. rw (owner-none u g group);
+  others = λ u g owner group x y. rw (others-420 u g owner group x y);
+  modes-9 = refl;
+  modes-11 = refl;
+  worn = λ h r k c i n e q. not-worn h r k c n (rw q e);
+  passed-over = second-taken;
+  post-up = dropped-above;
+}

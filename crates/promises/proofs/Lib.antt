@@ -1,0 +1,12 @@
+-- What the rules promise, statement by statement.
+pub mod Coded
+pub mod Refusals
+pub mod After
+pub mod Stale
+pub mod Edges
+pub mod Listing
+pub mod Outcomes
+pub mod Queue
+pub mod Mail
+pub mod Fresh
+pub mod Single

@@ -1,0 +1,266 @@
+-- What each call writes of a process's queue: receive takes the oldest message away, post adds one behind the others, release clears all, and no other call writes there.
+use mathlib.Core.Path.{_≡_, refl, sym, ap, _∙_}
+use mathlib.Core.Bool.{cond, _&&_, not}
+use mathlib.Core.List.{List, [], _∷_}
+use Prim.Native.Nat.{ℕ, zero, suc, _+_, _-_, _*_, _≤_, _<_}
+use native.Mathlib.Omega.{arith}
+use native.Mathlib.Decide.{ℕ-discrete}
+use lib.Dec.{ltb, eqb}
+use borrow.Author.Tests.{leb-false}
+use Rattle.rules.specs.Words.{tabFrom}
+use Rattle.rules.specs.Layout.{Kind, process, segment, file, cellOf, Addr, at, live, serial, owner, group, parent, queue, entries, heldAt, usedAt, messages, messageWords, messagesAt, messageAt, bits, size, holders, links, opens}
+use Rattle.rules.specs.Seid.{indexOf, orSelf, present, seidAt}
+use Rattle.rules.specs.Rule.{Word, _≔_, Rule, over, sameAddr}
+use Rattle.rules.specs.Find.{inOwnCell, entered, oneMore, oneLess, givenUp, kept, zeros, freeSlot, freeEntry}
+use Rattle.rules.specs.Call01.{spawn}
+use Rattle.rules.specs.Call02.{dropped, droppedTo, released, releaseProcess}
+use Rattle.rules.specs.Call03.{buildSegment}
+use Rattle.rules.specs.Call04.{rendezvous}
+use Rattle.rules.specs.Call05.{releaseSegment}
+use Rattle.rules.specs.Call06.{setAccess}
+use Rattle.rules.specs.Call07.{create}
+use Rattle.rules.specs.Call08.{openFile}
+use Rattle.rules.specs.Call09.{close}
+use Rattle.rules.specs.Call10.{link}
+use Rattle.rules.specs.Call11.{unlinked, unlink}
+use Rattle.rules.specs.Call13.{readBlock}
+use Rattle.rules.specs.Call14.{writeBlock}
+use Rattle.rules.specs.Call15.{queued, post}
+use Rattle.rules.specs.Call16.{movedUp, receive}
+use Rattle.rules.specs.Call18.{accessOf}
+use Rattle.rules.specs.Step.{Call, ruleOf}
+use Rattle.laws.proofs.Tests.{cond-both}
+use Rattle.laws.proofs.Written.{AllOf, nil, also, all-append, all-if, all-map, hit, miss, over-append, over-miss}
+use Rattle.laws.proofs.Shape.{in-run}
+use Rattle.kept.proofs.Fine.{Object}
+use Rattle.kept.proofs.Refusals.{Clear}
+use Rattle.kept.proofs.Records.{InRecord, word-in, apart-word, tab-in, tab-past, tab-at, freed-in}
+use Rattle.kept.proofs.Made.{placed, no-process, object-words}
+use Rattle.kept.proofs.Keeps.{Caller}
+use Rattle.kept.proofs.Found.{free-slot, free-entry}
+use Rattle.kept.proofs.Codes.{by-bits, by-status}
+use Rattle.promises.proofs.Coded.{coded}
+
+-- ---- writes that leave process p as it is, but for its entries
+
+module _ (p : ℕ) where
+  abbrev pub Spares : Word → Type 0
+  Spares x = x .at .kind ≡ process → x .at .slot ≡ p → (8 ≤ x .at .word) × (x .at .word < messagesAt)
+
+  pub spared : {ws : List Word} → AllOf Spares ws → (j : ℕ) → (8 ≤ j → j < messagesAt → ⊥) → (r : Addr → ℕ) → over r ws (at process p j) ≡ r (at process p j)
+  spared a j out = over-miss (at process p j) (all-map (λ x f e.
+      let w = f (sym (ap (λ (b : Addr). b .kind) e)) (sym (ap (λ (b : Addr). b .slot) e)) in
+      let same : j ≡ x .at .word = ap (λ (b : Addr). b .word) e in
+      out (omega arith) (omega arith)) a)
+
+  -- an object's words, another process's, and an entry's
+  of-object : (k : Kind) → Object k → (i : ℕ) {ws : List Word} → AllOf (InRecord k i) ws → AllOf Spares ws
+  of-object k o i a = all-map (λ x w e f. absurd (no-process k o (sym (w .0) ∙ e))) a
+
+  of-other : (q : ℕ) → (q ≡ p → ⊥) → {ws : List Word} → AllOf (InRecord process q) ws → AllOf Spares ws
+  of-other q n a = all-map (λ x w e f. absurd (n (sym (w .1) ∙ f))) a
+
+  object-word : (k : Kind) → Object k → (i j v : ℕ) {ws : List Word} → AllOf Spares ws → AllOf Spares ((at k i j ≔ v) ∷ ws)
+  object-word k o i j v a = also (λ e f. absurd (no-process k o e)) a
+
+  entry-word : (q j v : ℕ) → 8 ≤ j → j < messagesAt → {ws : List Word} → AllOf Spares ws → AllOf Spares ((at process q j ≔ v) ∷ ws)
+  entry-word q j v lo hi a = also (λ e f. (lo, hi)) a
+
+  of-entry : (k : Kind) → Object k → (q d s u : ℕ) → d < entries → AllOf Spares (entered k q d s u)
+  of-entry k o q d s u l =
+      let y = placed k o d l in
+      entry-word q (heldAt k d) s (omega arith) (omega arith) (entry-word q (usedAt k d) u (omega arith) (omega arith) nil)
+
+  of-unlinked : (r : Addr → ℕ) (i : ℕ) → AllOf Spares (unlinked r i)
+  unfolding unlinked
+  of-unlinked r i = all-if Spares (eqb (r (at file i links)) 1 && eqb (r (at file i opens)) 0) _ _
+      (λ e. of-object file tt i (freed-in file i)) (λ e. object-word file tt i links (r (at file i links) - 1) nil)
+
+  of-queued : (q : ℕ) → (q ≡ p → ⊥) → (me n : ℕ) (buffer : List ℕ) → AllOf Spares (queued me q buffer n)
+  unfolding queued
+  of-queued q ne me n buffer = other _ _ (other _ _ (other _ _ (other _ _ (other _ _ nil))))
+    where
+      other : (j v : ℕ) {ws : List Word} → AllOf Spares ws → AllOf Spares ((at process q j ≔ v) ∷ ws)
+      other j v a = also (λ e f. absurd (ne f)) a
+
+  -- a holder more or less
+  of-more : (h : List ℕ) (r : Addr → ℕ) (k : Kind) → Object k → (q s : ℕ) → AllOf Spares (oneMore h r q k s)
+  of-more h r k o q s =
+      let w = object-words k o in
+      all-if Spares (inOwnCell h q k s) _ _ (λ e. of-object k o (indexOf s) (word-in k (indexOf s) (holders k) _ (omega arith) nil)) (λ e. nil)
+
+  of-less : (r : Addr → ℕ) (k : Kind) → Object k → (i : ℕ) → AllOf Spares (oneLess r k i)
+  unfolding oneLess
+  of-less r k o i =
+      let w = object-words k o in
+      of-object k o i (all-if (InRecord k i) (eqb (r (at k i (holders k))) 1 && not (kept r k i)) _ _ (λ e. freed-in k i) (λ e. word-in k i (holders k) _ (omega arith) nil))
+
+  of-given-up : (h : List ℕ) (r : Addr → ℕ) (k : Kind) → Object k → (q d s : ℕ) → d < entries → AllOf Spares (givenUp h r k q d s)
+  unfolding givenUp
+  of-given-up h r k o q d s l = all-append _ (of-entry k o q d 0 0 l) (all-if Spares (inOwnCell h q k s) _ _ (λ e. of-less r k o (indexOf s)) (λ e. nil))
+
+  of-one : (h : List ℕ) (r : Addr → ℕ) (k : Kind) → Object k → (q d : ℕ) → d < entries → AllOf Spares (dropped h r k q d)
+  unfolding dropped
+  of-one h r k o q d l = all-if Spares (eqb (r (at process q (heldAt k d))) 0) _ _ (λ e. nil) (λ e. of-given-up h r k o q d (r (at process q (heldAt k d))) l)
+
+  of-dropped : (h : List ℕ) (r : Addr → ℕ) (k : Kind) → Object k → (q n : ℕ) → n ≤ entries → AllOf Spares (droppedTo h r k q n)
+  unfolding droppedTo
+  of-dropped h r k o q zero l = nil
+  of-dropped h r k o q (suc n) l = all-append _ (of-dropped h r k o q n (omega arith)) (of-one h (over r (droppedTo h r k q n)) k o q n (omega arith))
+
+  of-released : (h : List ℕ) (r : Addr → ℕ) (q : ℕ) → (q ≡ p → ⊥) → AllOf Spares (released h r q)
+  unfolding released
+  of-released h r q n =
+      all-append _ (of-dropped h r file tt q entries (omega arith))
+      (all-append _ (of-dropped h (over r (droppedTo h r file q entries)) segment tt q entries (omega arith)) (of-other q n (freed-in process q)))
+
+-- ---- the queue that a call leaves
+
+-- the process lives as before, its messages stand where they stood, and there may be more behind them
+pub record Later (r q : Addr → ℕ) (p : ℕ) : Type 0 where
+  pub same-live : q (at process p live) ≡ r (at process p live)
+  pub no-fewer : r (at process p queue) ≤ q (at process p queue)
+  pub same-message : (m j : ℕ) → m < r (at process p queue) → j < messageWords → q (at process p (messageAt m j)) ≡ r (at process p (messageAt m j))
+
+later-spared : (r : Addr → ℕ) (p : ℕ) {ws : List Word} → AllOf (Spares p) ws → Later r (over r ws) p
+later-spared r p a =
+    let e = spared p a queue (λ x y. omega arith) r in
+    record {
+      same-live = spared p a live (λ x y. omega arith) r;
+      no-fewer = omega arith;
+      same-message = λ m j ml jl. spared p a (messageAt m j) (λ x y. omega arith) r;
+    }
+
+-- a message added behind n others
+module _ (r : Addr → ℕ) (p me : ℕ) (buffer : List ℕ) where
+  abbrev n : ℕ
+  n = r (at process p queue)
+
+  -- a word of neither the queue's length nor the new message
+  misses : (j : ℕ) → (j ≡ queue → ⊥) → (messageAt n 0 ≤ j → ⊥) → over r (queued me p buffer n) (at process p j) ≡ r (at process p j)
+  unfolding queued
+  misses j x y = over-miss (at process p j)
+      (also (apart-word process p j queue x) (also (apart-word process p j (messageAt n 0) (λ e. y (omega arith))) (also (apart-word process p j (messageAt n 1) (λ e. y (omega arith)))
+      (also (apart-word process p j (messageAt n 2) (λ e. y (omega arith))) (also (apart-word process p j (messageAt n 3) (λ e. y (omega arith))) nil))))) r
+
+  one-longer : over r (queued me p buffer n) (at process p queue) ≡ n + 1
+  unfolding over queued
+  one-longer = over-miss (at process p queue)
+      (also (apart-word process p queue (messageAt n 0) (λ e. omega arith)) (also (apart-word process p queue (messageAt n 1) (λ e. omega arith))
+      (also (apart-word process p queue (messageAt n 2) (λ e. omega arith)) (also (apart-word process p queue (messageAt n 3) (λ e. omega arith)) nil))))
+      (λ b. cond (sameAddr b (at process p queue)) (n + 1) (r b))
+      ∙ hit (at process p queue) (at process p queue) (n + 1) n refl
+
+  later-posted : Later r (over r (queued me p buffer n)) p
+  later-posted = record {
+    same-live = misses live (λ e. omega arith) (λ l. omega arith);
+    no-fewer = omega (arith, one-longer);
+    same-message = λ m j ml jl. misses (messageAt m j) (λ e. omega arith) (λ l. omega arith);
+  }
+
+-- the oldest message taken away: every other moves up
+pub record Shifted (r q : Addr → ℕ) (p : ℕ) : Type 0 where
+  pub same-live : q (at process p live) ≡ r (at process p live)
+  pub one-fewer : q (at process p queue) ≡ r (at process p queue) - 1
+  pub moved : (m j : ℕ) → m + 1 < messages → j < messageWords → q (at process p (messageAt m j)) ≡ r (at process p (messageAt (m + 1) j))
+
+module _ (r : Addr → ℕ) (p : ℕ) where
+  abbrev pub taken : List Word
+  taken = (at process p queue ≔ r (at process p queue) - 1) ∷ movedUp r p
+
+  taken-in : AllOf (InRecord process p) taken
+  unfolding movedUp zeros
+  taken-in = word-in process p queue _ (omega arith)
+      (all-append _ (tab-in process p (λ k. r (at process p (k + messageWords))) messagesAt (messageWords * (messages - 1)) (omega arith))
+      (tab-in process p (λ w. 0) (messageAt (messages - 1) 0) messageWords (omega arith)))
+
+  -- the length written, the messages moved, the last one cleared
+  shortened : Addr → ℕ
+  shortened b = cond (sameAddr b (at process p queue)) (r (at process p queue) - 1) (r b)
+
+  ups : List Word
+  ups = tabFrom messagesAt (messageWords * (messages - 1)) (λ k. at process p k ≔ r (at process p (k + messageWords)))
+
+  before-last : (j : ℕ) → j < messageAt (messages - 1) 0 → over r taken (at process p j) ≡ over shortened ups (at process p j)
+  unfolding over movedUp shortened ups zeros
+  before-last j l =
+      ap (λ (f : Addr → ℕ). f (at process p j)) (over-append shortened ups (zeros process p (messageAt (messages - 1) 0) messageWords))
+      ∙ tab-past process p (λ w. 0) (messageAt (messages - 1) 0) messageWords (over shortened ups) j (λ x y. omega arith)
+
+  low : (j : ℕ) → j < messagesAt → over r taken (at process p j) ≡ shortened (at process p j)
+  unfolding ups
+  low j l = before-last j (omega arith)
+      ∙ tab-past process p (λ k. r (at process p (k + messageWords))) messagesAt (messageWords * (messages - 1)) shortened j (λ x y. omega arith)
+
+  pub shifted : Shifted r (over r taken) p
+  unfolding shortened ups
+  shifted = record {
+    same-live = low live (omega arith) ∙ miss (at process p live) (at process p queue) _ (r (at process p live)) (apart-word process p live queue (λ e. omega arith));
+    one-fewer = low queue (omega arith) ∙ hit (at process p queue) (at process p queue) _ (r (at process p queue)) refl;
+    moved = λ m j ml jl. let e : messageAt m j + messageWords ≡ messageAt (m + 1) j = omega arith in
+        before-last (messageAt m j) (omega arith)
+        ∙ tab-at process p (λ k. r (at process p (k + messageWords))) messagesAt (messageWords * (messages - 1)) shortened (messageAt m j) (omega arith) (omega arith)
+        ∙ ap (λ (w : ℕ). r (at process p w)) e;
+  }
+
+-- ---- every call but a release of p and a receive by p
+
+module _ (h : List ℕ) (r : Addr → ℕ) (st : List ℕ) (k : Call) (p : ℕ) (me : Caller h r (k .caller)) (lives : r (at process p live) ≡ 1) where
+  abbrev caller : ℕ
+  caller = k .caller
+
+  abbrev given : ℕ
+  given = orSelf r (k .caller) (k .a)
+
+  -- the slot that spawn takes is not live
+  by-spawn : Clear (spawn h r caller (k .a) (k .b) (k .buffer) .refusals) → AllOf (Spares p) (spawn h r caller (k .a) (k .b) (k .buffer) .effects .words)
+  unfolding spawn
+  by-spawn ok =
+      let q = freeSlot h r process (cellOf h process caller) in
+      let f = free-slot h r process (cellOf h process caller) (me .shape) (in-run h (me .shape) process caller (me .in-range) .0) (ok .1 .1 .0) in
+      of-other p q (λ e. omega (arith, f .is-free, ap (λ (i : ℕ). r (at process i live)) e))
+      (word-in process q live _ (omega arith) (word-in process q serial _ (omega arith) (word-in process q owner _ (omega arith)
+      (word-in process q group _ (omega arith) (word-in process q parent _ (omega arith) nil)))))
+
+  by-post : Clear (post h r caller (k .a) (k .buffer) .refusals) → Later r (over r (post h r caller (k .a) (k .buffer) .effects .words)) p
+  unfolding post over queued
+  by-post ok =
+      let q = indexOf given in
+      cond-both (λ ws. Later r (over r ws) p) (present r process given && ltb (r (at process q queue)) messages) (queued (seidAt r process caller) q (k .buffer) (r (at process q queue))) []
+      (λ e. elim (ℕ-discrete q p) [
+        | yes x ↦ rw x (later-posted r p (seidAt r process caller) (k .buffer))
+        | no x ↦ later-spared r p (of-queued p q x (seidAt r process caller) (r (at process q queue)) (k .buffer))
+      ])
+      (λ e. later-spared r p nil)
+
+  pub later : (k .code ≡ 2 → indexOf given ≡ p → ⊥) → (k .code ≡ 16 → caller ≡ p → ⊥) → Clear (ruleOf h r st k .refusals)
+      → Later r (over r (ruleOf h r st k .effects .words)) p
+  unfolding releaseProcess buildSegment rendezvous releaseSegment setAccess create openFile close link unlink readBlock writeBlock receive accessOf
+  later x y =
+      let P : Rule → Type 0 = λ z. Clear (z .refusals) → Later r (over r (z .effects .words)) p in
+      coded h r st k P (record {
+        call-1 = λ e ok. later-spared r p (by-spawn ok);
+        call-2 = λ e ok. later-spared r p (of-released p h r (indexOf given) (x e));
+        call-3 = λ e ok. later-spared r p (all-append _ (by-made segment tt (freeSlot h r segment (cellOf h process caller))) (of-entry p segment tt caller (freeEntry r segment caller) _ _ (free-entry r segment caller (ok .1 .1 .0) .in-record)));
+        call-4 = λ e ok. later-spared r p (all-append _ (of-entry p segment tt caller (freeEntry r segment caller) _ _ (free-entry r segment caller (ok .1 .1 .1 .1 .1 .1 .1 .0) .in-record)) (of-more p h r segment tt caller given));
+        call-5 = λ e ok. later-spared r p (of-given-up p h r segment tt caller (k .a) _ (leb-false entries (k .a) (ok .0)));
+        call-6 = λ e ok. let l = leb-false entries (k .a) (ok .1 .0) in later-spared r p (entry-word p caller (usedAt segment (k .a)) _ (omega arith) (omega arith) nil);
+        call-7 = λ e ok. later-spared r p (all-append _ (by-made file tt (freeSlot h r file (cellOf h process caller))) (of-entry p file tt caller (freeEntry r file caller) _ _ (free-entry r file caller (ok .1 .1 .0) .in-record)));
+        call-8 = λ e ok. later-spared r p (all-append _ (of-entry p file tt caller (freeEntry r file caller) _ _ (free-entry r file caller (ok .1 .1 .1 .1 .1 .1 .0) .in-record)) (of-more p h r file tt caller given));
+        call-9 = λ e ok. later-spared r p (of-given-up p h r file tt caller (k .a) _ (leb-false entries (k .a) (ok .0)));
+        call-10 = λ e ok. later-spared r p (object-word p file tt (indexOf given) links _ nil);
+        call-11 = λ e ok. later-spared r p (of-unlinked p r (indexOf given));
+        call-12 = λ e. by-bits h r st k P (λ v j o ok. later-spared r p (object-word p j o (indexOf v) bits _ nil));
+        call-13 = λ e ok. later-spared r p nil;
+        call-14 = λ e ok. later-spared r p (object-word p file tt _ size _ nil);
+        call-15 = λ e. by-post;
+        call-16 = λ e ok. later-spared r p (of-other p caller (y e) (taken-in r caller));
+        call-17 = λ e. by-status h r st k P (λ v j ok. later-spared r p nil);
+        call-18 = λ e ok. later-spared r p nil;
+        other = λ ok. later-spared r p nil;
+      })
+    where
+      by-made : (j : Kind) → Object j → (i : ℕ) {x0 x1 x2 x3 x4 x5 x6 x7 : ℕ} → AllOf (Spares p)
+          ((at j i 0 ≔ x0) ∷ (at j i 1 ≔ x1) ∷ (at j i 2 ≔ x2) ∷ (at j i 3 ≔ x3) ∷ (at j i 4 ≔ x4) ∷ (at j i 5 ≔ x5) ∷ (at j i 6 ≔ x6) ∷ (at j i 7 ≔ x7) ∷ [])
+      by-made j o i = object-word p j o i 0 _ (object-word p j o i 1 _ (object-word p j o i 2 _ (object-word p j o i 3 _ (object-word p j o i 4 _ (object-word p j o i 5 _
+          (object-word p j o i 6 _ (object-word p j o i 7 _ nil)))))))

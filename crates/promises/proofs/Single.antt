@@ -1,0 +1,166 @@
+-- No identifier is handed out twice: in a run from set-up, and from any well-formed state, two creating calls (1, 3 or 7) that succeed never answer the same seid,
+-- though objects go and their slots are used again; nor is a first process's ever answered.
+use mathlib.Core.Path.{_≡_, refl, sym, ap, _∙_}
+use mathlib.Core.Bool.{Bool, true, false, _||_}
+use mathlib.Core.List.{List, _∷_}
+use Prim.Native.Nat.{ℕ, _+_, _≤_, _<_}
+use native.Mathlib.Omega.{arith}
+use lib.Dec.{eqb}
+use lib.ListN.{length}
+use borrow.Author.Tests.{eqb-true}
+use Rattle.rules.specs.Claim.{Holds}
+use Rattle.rules.specs.Layout.{maxSerial, Kind, process, segment, file, cells, slots, configuration, firstSlot, cellOf, Addr, at, rd, live, serial, heldAt, usedAt}
+use Rattle.rules.specs.Seid.{class, seid, classOf, indexOf, serialOf}
+use Rattle.rules.specs.Errors.{XOK}
+use Rattle.rules.specs.Rule.{Rule, Word, _≔_, over}
+use Rattle.rules.specs.Find.{freeSlot, noSlot, freeEntry, entered}
+use Rattle.rules.specs.Call01.{spawn}
+use Rattle.rules.specs.Call03.{buildSegment}
+use Rattle.rules.specs.Call07.{create}
+use Rattle.rules.specs.SetUp.{canSetUp, setUpTable}
+use Rattle.rules.specs.Step.{State, Call, step, next, run, ruleOf, wholeRule}
+use Rattle.laws.proofs.Tests.{or-rest, split}
+use Rattle.laws.proofs.Seids.{class-seid, index-seid, serial-seid, class-inj}
+use Rattle.laws.proofs.Shape.{good-of, in-run}
+use Rattle.laws.proofs.Written.{AllOf, nil, also, hit, over-miss}
+use Rattle.kept.proofs.Fine.{Object}
+use Rattle.kept.proofs.Refusals.{Clear}
+use Rattle.kept.proofs.Records.{apart-word, words-some}
+use Rattle.kept.proofs.Made.{no-process}
+use Rattle.kept.proofs.Keeps.{Caller}
+use Rattle.kept.proofs.Found.{free-slot}
+use Rattle.kept.proofs.Kept.{Well, kept, conf-kept, run-kept, run-conf-kept, run-serials-kept}
+use Rattle.promises.proofs.Refusals.{own, own-clear, done}
+use Rattle.promises.proofs.After.{its-caller, read-after}
+use Rattle.promises.proofs.Fresh.{set-up-formed, set-up-configuration, set-up-serial, first-in, configured-shape}
+
+-- the calls that give a new object's seid, as their first result
+abbrev pub creates : ℕ → Bool
+creates n = eqb n 1 || (eqb n 3 || eqb n 7)
+
+-- ---- one creating call
+
+-- the slot that a rule takes, the seid that it gives, and the serial that it leaves in the slot
+record Handed (h : List ℕ) (r : Addr → ℕ) (x : Rule) : Type 0 where
+  kind : Kind
+  slot : ℕ
+  in-range : slot < slots h kind
+  not-worn : r (at kind slot serial) < maxSerial
+  given : x .effects .first ≡ seid (class kind) slot (r (at kind slot serial) + 1)
+  left : over r (x .effects .words) (at kind slot serial) ≡ r (at kind slot serial) + 1
+
+-- a serial written, and not written again
+serial-written : (r : Addr → ℕ) (j : Kind) (i n : ℕ) (ws : List Word) → AllOf (λ x. at j i serial ≡ x .at → ⊥) ws
+    → over r ((at j i live ≔ 1) ∷ (at j i serial ≔ n) ∷ ws) (at j i serial) ≡ n
+unfolding over
+serial-written r j i n ws a = over-miss (at j i serial) a _ ∙ hit (at j i serial) (at j i serial) n _ refl
+
+module _ (h : List ℕ) (r : Addr → ℕ) (k : Call) (me : Caller h r (k .caller)) where
+  abbrev cell : ℕ
+  cell = cellOf h process (k .caller)
+
+  abbrev free : Kind → ℕ
+  free j = freeSlot h r j (cellOf h process (k .caller))
+
+  handed : (j : Kind) (x : Rule) → noSlot h r j cell ≡ false → x .effects .first ≡ seid (class j) (free j) (r (at j (free j) serial) + 1)
+      → over r (x .effects .words) (at j (free j) serial) ≡ r (at j (free j) serial) + 1 → Handed h r x
+  handed j x room given left =
+      let f = free-slot h r j cell (me .shape) (in-run h (me .shape) process (k .caller) (me .in-range) .0) room in
+      record { kind = j; slot = free j; in-range = f .in-range; not-worn = f .not-worn; given = given; left = left }
+
+  -- words of the record but for its serial
+  apart : (j : Kind) (i n : ℕ) → 2 ≤ n → at j i serial ≡ at j i n → ⊥
+  apart j i n l = apart-word j i serial n (λ e. omega arith)
+
+  -- the six words after an object's serial, and the entry for it
+  object-rest : (j : Kind) → Object j → (i d : ℕ) {x2 x3 x4 x5 x6 x7 v u : ℕ} → AllOf (λ x. at j i serial ≡ x .at → ⊥)
+      ((at j i 2 ≔ x2) ∷ (at j i 3 ≔ x3) ∷ (at j i 4 ≔ x4) ∷ (at j i 5 ≔ x5) ∷ (at j i 6 ≔ x6) ∷ (at j i 7 ≔ x7) ∷ entered j (k .caller) d v u)
+  object-rest j o i d =
+      also (apart j i 2 (omega arith)) (also (apart j i 3 (omega arith)) (also (apart j i 4 (omega arith)) (also (apart j i 5 (omega arith))
+      (also (apart j i 6 (omega arith)) (also (apart j i 7 (omega arith)) (also (other (heldAt j d)) (also (other (usedAt j d)) nil)))))))
+    where
+      other : (w : ℕ) → at j i serial ≡ at process (k .caller) w → ⊥
+      other w e = no-process j o (ap (λ (a : Addr). a .kind) e)
+
+  by-rule : (st : List ℕ) → creates (k .code) ≡ true → Clear (ruleOf h r st k .refusals) → Handed h r (ruleOf h r st k)
+  unfolding ruleOf spawn buildSegment create
+  by-rule st t = split _ (eqb (k .code) 1)
+      (λ e. rw (eqb-true (k .code) 1 e) (λ ok. handed process _ (ok .1 .1 .0) refl (serial-written r process (free process) _ _
+      (also (apart process (free process) 2 (omega arith)) (also (apart process (free process) 3 (omega arith)) (also (apart process (free process) 4 (omega arith)) nil))))))
+      (λ n. split _ (eqb (k .code) 3)
+      (λ e. rw (eqb-true (k .code) 3 e) (λ ok. handed segment _ (ok .1 .1 .1 .0) refl (serial-written r segment (free segment) _ _ (object-rest segment tt (free segment) (freeEntry r segment (k .caller))))))
+      (λ m. rw (eqb-true (k .code) 7 (or-rest (eqb (k .code) 3) (eqb (k .code) 7) (or-rest (eqb (k .code) 1) _ t n) m))
+      (λ ok. handed file _ (ok .1 .1 .1 .0) refl (serial-written r file (free file) _ _ (object-rest file tt (free file) (freeEntry r file (k .caller)))))))
+
+-- ---- two of them
+
+-- one seid comes of one slot and one serial
+same-parts : (j l : Kind) (i m n o : ℕ) → i < 256 → m < 256 → n < 65536 → o < 65536 → seid (class j) i n ≡ seid (class l) m o → (j ≡ l) × (i ≡ m) × (n ≡ o)
+same-parts j l i m n o a b c d e = (
+  class-inj j l (sym (class-seid (class j) i n a c) ∙ ap classOf e ∙ class-seid (class l) m o b d),
+  sym (index-seid (class j) i n a c) ∙ ap indexOf e ∙ index-seid (class l) m o b d,
+  sym (serial-seid (class j) i n a c) ∙ ap serialOf e ∙ serial-seid (class l) m o b d,
+)
+
+small : (s : State) → Well s → (j : Kind) (i : ℕ) → i < slots (configuration (s .table)) j → i < 256
+small s w j i l = omega (arith, good-of (s .table) (length (s .store)) w .shape .few j)
+
+module _ (s : State) (k : Call) (w : Well s) (c : creates (k .code) ≡ true) (ok : step s k .answered .error ≡ XOK) where
+  created : Handed (configuration (s .table)) (rd (configuration (s .table)) (s .table)) (own s k)
+  created = by-rule _ _ k (its-caller s k w ok) (s .store) c (own-clear s k ok)
+
+  answered : step s k .answered .first ≡ seid (class (created .kind)) (created .slot) (rd (configuration (s .table)) (s .table) (at (created .kind) (created .slot) serial) + 1)
+  unfolding wholeRule
+  answered = done s k ok .first ∙ created .given
+
+  -- the slot's serial from then on
+  counted : rd (configuration (s .table)) (next s k .table) (at (created .kind) (created .slot) serial)
+      ≡ rd (configuration (s .table)) (s .table) (at (created .kind) (created .slot) serial) + 1
+  counted = read-after s k w ok (at (created .kind) (created .slot) serial) (created .in-range, omega (arith, words-some (created .kind))) ∙ created .left
+
+-- a seid of a serial that its slot has reached is not handed out, whatever calls come before
+not-again : (s : State) → Well s → (j : Kind) (i n : ℕ) → i < slots (configuration (s .table)) j → n ≤ rd (configuration (s .table)) (s .table) (at j i serial) → n ≤ maxSerial
+    → (between : List Call) (k : Call) → creates (k .code) ≡ true → step (run s between) k .answered .error ≡ XOK
+    → seid (class j) i n ≡ step (run s between) k .answered .first → ⊥
+not-again s w j i n il reached fits between k c ok same =
+    let u = run s between in
+    let v = run-kept s between w in
+    let b = created u k v c ok in
+    let conf : configuration (u .table) ≡ configuration (s .table) = run-conf-kept s between w in
+    let x = same-parts j (b .kind) i (b .slot) n _ (small s w j i il) (small u v (b .kind) (b .slot) (b .in-range)) (omega arith) (omega (arith, b .not-worn)) (same ∙ answered u k v c ok) in
+    let there : rd (configuration (u .table)) (u .table) (at (b .kind) (b .slot) serial) ≡ rd (configuration (s .table)) (u .table) (at j i serial) = rw (conf, x .0, x .1) in
+    omega (arith, run-serials-kept s between w j i il, x .2)
+
+-- after a creating call that succeeds and whatever other calls, no creating call answers that seid again
+pub once : (s : State) → Well s → (k : Call) (between : List Call) (k′ : Call) → creates (k .code) ≡ true → creates (k′ .code) ≡ true
+    → step s k .answered .error ≡ XOK → step (run (next s k) between) k′ .answered .error ≡ XOK
+    → step s k .answered .first ≡ step (run (next s k) between) k′ .answered .first → ⊥
+once s w k between k′ c c′ ok ok′ same =
+    let a = created s k w c ok in
+    let conf : configuration (next s k .table) ≡ configuration (s .table) = conf-kept s k w in
+    not-again (next s k) (kept s k w) (a .kind) (a .slot) (rd (configuration (s .table)) (s .table) (at (a .kind) (a .slot) serial) + 1)
+    (rw conf (a .in-range)) (rw conf (omega (arith, counted s k w c ok))) (omega (arith, a .not-worn)) between k′ c′ ok′ (sym (answered s k w c ok) ∙ same)
+
+-- so too in a run: whatever calls come before the first
+pub never-twice : (s : State) → Well s → (before : List Call) (k : Call) (between : List Call) (k′ : Call) → creates (k .code) ≡ true → creates (k′ .code) ≡ true
+    → step (run s before) k .answered .error ≡ XOK → step (run (next (run s before) k) between) k′ .answered .error ≡ XOK
+    → step (run s before) k .answered .first ≡ step (run (next (run s before) k) between) k′ .answered .first → ⊥
+never-twice s w before = once (run s before) (run-kept s before w)
+
+-- from set-up on: any run of calls on the table that it leaves, with the store as it stood
+pub from-set-up : (t store : List ℕ) → Holds (canSetUp t (length store)) → (before : List Call) (k : Call) (between : List Call) (k′ : Call)
+    → let s : State = run (record { table = setUpTable t (length store); store = store }) before in
+    let u : State = run (next s k) between in
+    creates (k .code) ≡ true → creates (k′ .code) ≡ true → step s k .answered .error ≡ XOK → step u k′ .answered .error ≡ XOK
+    → step s k .answered .first ≡ step u k′ .answered .first → ⊥
+from-set-up t store c = never-twice (record { table = setUpTable t (length store); store = store }) (set-up-formed t (length store) c)
+
+-- nor is a first process's, which has serial 1 in the cell's first slot
+pub first-process-never : (t store : List ℕ) → Holds (canSetUp t (length store)) → (c : ℕ) → c < cells (configuration t) → (between : List Call) (k : Call)
+    → let u : State = run (record { table = setUpTable t (length store); store = store }) between in
+    creates (k .code) ≡ true → step u k .answered .error ≡ XOK
+    → seid (class process) (firstSlot (configuration t) process c) 1 ≡ step u k .answered .first → ⊥
+first-process-never t store w c l =
+    let conf = set-up-configuration t (length store) w in
+    not-again (record { table = setUpTable t (length store); store = store }) (set-up-formed t (length store) w) process (firstSlot (configuration t) process c) 1
+    (rw conf (first-in (configuration t) (configured-shape t (length store) w) c l)) (rw conf (omega (arith, set-up-serial t (length store) w c l))) (omega arith)

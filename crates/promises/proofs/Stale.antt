@@ -1,0 +1,232 @@
+-- Stale identifiers. A seid that names no object is refused by every call that takes a seid, save a post to another cell, which is dropped; a held entry that is stale
+-- is refused by every use of it, save giving it up, which succeeds and touches no object. (All but the last are so in every state, well formed or not.)
+use mathlib.Core.Path.{_≡_, refl, sym, ap, _∙_}
+use mathlib.Core.Bool.{Bool, true, false, cond, _&&_, _||_, not}
+use mathlib.Core.List.{List, [], _∷_}
+use Prim.Native.Nat.{ℕ, _<_}
+use native.Mathlib.Omega.{arith}
+use native.Mathlib.Decide.{ℕ-discrete}
+use lib.Dec.{leb, eqb}
+use lib.ListN.{length}
+use borrow.Author.Tests.{eqb-true, ne-eqb, lt-leb}
+use Rattle.rules.specs.Claim.{Holds}
+use Rattle.rules.specs.Layout.{Kind, process, segment, file, slots, configuration, Addr, at, Valid, rd, live, serial, entries, heldAt, usedAt}
+use Rattle.rules.specs.Seid.{class, seid, classOf, formed, seidAt, orSelf, present}
+use Rattle.rules.specs.WellFormed.{wellFormed}
+use Rattle.rules.specs.Errors.{XOK, XnSgDes, XbSgDes, XbadOd}
+use Rattle.rules.specs.Rule.{_⇒_, Effect, effect, Rule, rule, write, store, over}
+use Rattle.rules.specs.Find.{inOwnCell, entered, givenUp}
+use Rattle.rules.specs.Call02.{releaseProcess}
+use Rattle.rules.specs.Call04.{rendezvous}
+use Rattle.rules.specs.Call05.{releaseSegment}
+use Rattle.rules.specs.Call06.{setAccess}
+use Rattle.rules.specs.Call08.{openFile}
+use Rattle.rules.specs.Call09.{close}
+use Rattle.rules.specs.Call10.{link}
+use Rattle.rules.specs.Call11.{unlink}
+use Rattle.rules.specs.Call12.{setBits, setBitsOf}
+use Rattle.rules.specs.Call13.{readBlock}
+use Rattle.rules.specs.Call14.{writeBlock}
+use Rattle.rules.specs.Call15.{post}
+use Rattle.rules.specs.Call17.{status, statusOf}
+use Rattle.rules.specs.Call18.{accessOf}
+use Rattle.rules.specs.Step.{State, Call, step, ruleOf, badCode, wholeRule}
+use Rattle.laws.proofs.Tests.{and-both, passed, not-of, refuted, both-ways, or-rest, split, cond-both}
+use Rattle.laws.proofs.Seids.{index-seid, serial-seid, present-is}
+use Rattle.laws.proofs.Shape.{good-of}
+use Rattle.laws.proofs.Written.{nil, also, rd-write, conf-write, over-miss}
+use Rattle.kept.proofs.Fine.{Object, fine-of}
+use Rattle.kept.proofs.Refusals.{Clear}
+use Rattle.kept.proofs.Records.{all-valid}
+use Rattle.kept.proofs.Made.{placed}
+use Rattle.kept.proofs.Exchange.{entered-in, entered-held, entered-used}
+use Rattle.promises.proofs.Refusals.{Untouched, own, own-clear, goes-on, done, refused, nothing-done, effects}
+
+-- the calls that take a seid, but for post: 2, 4, 8, 10, 11, 12, 17; and of which kinds
+abbrev pub takesSeid : ℕ → Bool
+takesSeid n = eqb n 2 || (eqb n 4 || (eqb n 8 || (eqb n 10 || (eqb n 11 || (eqb n 12 || eqb n 17)))))
+
+abbrev pub takes : Kind → ℕ → Bool
+takes process n = eqb n 2 || eqb n 17
+takes segment n = eqb n 4 || (eqb n 12 || eqb n 17)
+takes file n = eqb n 8 || (eqb n 10 || (eqb n 11 || (eqb n 12 || eqb n 17)))
+
+-- a word names an object for a call: it has the form of a kind that the call takes, whose slot is live with that serial
+abbrev pub Names : List ℕ → (Addr → ℕ) → ℕ → ℕ → Type 0
+Names h r code v = (j : Kind) × (takes j code ≡ true) × (formed h j v ≡ true) × (present r j v ≡ true)
+
+-- the calls that use an entry for objects of a kind: 13 and 14 a descriptor, 6 and 18 a designator
+abbrev pub usesEntry : Kind → ℕ → Bool
+usesEntry process n = false
+usesEntry segment n = eqb n 6 || eqb n 18
+usesEntry file n = eqb n 13 || eqb n 14
+
+-- the call that gives up an entry
+abbrev pub givesUpEntry : Kind → ℕ
+givesUpEntry process = 0
+givesUpEntry segment = 5
+givesUpEntry file = 9
+
+either : {P : Type 0} (a b : Bool) → a || b ≡ true → (a ≡ true → P) → (b ≡ true → P) → P
+either {P} a b t f g = split P a f (λ e. g (or-rest a b t e))
+
+module _ (s : State) (k : Call) where
+  abbrev h : List ℕ
+  h = configuration (s .table)
+
+  abbrev r : Addr → ℕ
+  r = rd (configuration (s .table)) (s .table)
+
+  -- the seid that a call is given, 0 being the caller's own
+  abbrev pub given : ℕ
+  given = orSelf (rd (configuration (s .table)) (s .table)) (k .caller) (k .a)
+
+  -- what the entry that a call is given holds
+  abbrev pub entryHolds : Kind → ℕ
+  entryHolds j = rd (configuration (s .table)) (s .table) (at process (k .caller) (heldAt j (k .a)))
+
+  -- ---- seids
+
+  by-class : (x : Bool) (f g : Rule) → (Clear (f .refusals) → Names h r (k .code) given) → (Clear (g .refusals) → Names h r (k .code) given) → Clear (cond x f g .refusals) → Names h r (k .code) given
+  by-class x f g a b = cond-both (λ (y : Rule). Clear (y .refusals) → Names h r (k .code) given) x f g (λ e. a) (λ e. b)
+
+  named : takesSeid (k .code) ≡ true → Clear (own s k .refusals) → Names h r (k .code) given
+  unfolding ruleOf releaseProcess rendezvous openFile link unlink setBits status
+  named t c =
+      let n : ℕ = k .code in
+      either (eqb n 2) _ t (λ e. let q = rw (eqb-true n 2 e) at c in (process, rw (eqb-true n 2 e), passed _ (q .0), passed _ (q .1 .1 .0)))
+      (λ t. either (eqb n 4) _ t (λ e. let q = rw (eqb-true n 4 e) at c in (segment, rw (eqb-true n 4 e), passed _ (q .1 .0), passed _ (q .1 .1 .1 .0)))
+      (λ t. either (eqb n 8) _ t (λ e. let q = rw (eqb-true n 8 e) at c in (file, rw (eqb-true n 8 e), passed _ (q .1 .0), passed _ (q .1 .1 .1 .0)))
+      (λ t. either (eqb n 10) _ t (λ e. let q = rw (eqb-true n 10 e) at c in (file, rw (eqb-true n 10 e), passed _ (q .0), passed _ (q .1 .1 .0)))
+      (λ t. either (eqb n 11) _ t (λ e. let q = rw (eqb-true n 11 e) at c in (file, rw (eqb-true n 11 e), passed _ (q .0), passed _ (q .1 .1 .0)))
+      (λ t. either (eqb n 12) _ t
+      (λ e. by-class (eqb (classOf given) (class segment)) _ _ (for-bits segment (rw (eqb-true n 12 e))) (for-bits file (rw (eqb-true n 12 e))) (rw (eqb-true n 12 e) at c))
+      (λ e. by-class (eqb (classOf given) (class process)) _ _ (for-status process (rw (eqb-true n 17 e)))
+      (by-class (eqb (classOf given) (class segment)) _ _ (for-status segment (rw (eqb-true n 17 e))) (for-status file (rw (eqb-true n 17 e)))) (rw (eqb-true n 17 e) at c)))))))
+    where
+      for-bits : (j : Kind) → takes j (k .code) ≡ true → Clear (setBitsOf h r (k .caller) given (k .b) (k .buffer) j .refusals) → Names h r (k .code) given
+      for-bits j t q = (j, t, passed _ (q .1 .0), passed _ (q .1 .1 .1 .0))
+
+      for-status : (j : Kind) → takes j (k .code) ≡ true → Clear (statusOf h r (k .caller) given (k .buffer) j .refusals) → Names h r (k .code) given
+      for-status j t q = (j, t, passed _ (q .1 .0), passed _ (q .1 .1 .1 .0))
+
+  -- a seid that names no object of a kind that the call takes
+  pub stale-seid : takesSeid (k .code) ≡ true
+      → ((j : Kind) → takes j (k .code) ≡ true → formed (configuration (s .table)) j given ≡ true → present (rd (configuration (s .table)) (s .table)) j given ≡ false)
+      → step s k .answered .error ≡ XOK → ⊥
+  stale-seid t nothing e =
+      let n = named t (own-clear s k e) in
+      both-ways (present r (n .0) given) (n .3) (nothing (n .0) (n .1) (n .2))
+
+  -- a live caller's own seid, which 0 stands for, is never stale
+  pub own-seid-present : Holds (wellFormed (s .table) (length (s .store))) → k .caller < slots (configuration (s .table)) process
+      → rd (configuration (s .table)) (s .table) (at process (k .caller) live) ≡ 1
+      → present (rd (configuration (s .table)) (s .table)) process (seidAt (rd (configuration (s .table)) (s .table)) process (k .caller)) ≡ true
+  unfolding seidAt
+  own-seid-present w l alive =
+      let g = good-of (s .table) (length (s .store)) w in
+      let mine = fine-of h r (g .records) .own process (k .caller) l in
+      let n : ℕ = r (at process (k .caller) serial) in
+      let small : k .caller < 256 = omega (arith, g .shape .few process) in
+      let fits : n < 65536 = omega (arith, mine .serial-fits) in
+      let ix = index-seid (class process) (k .caller) n small fits in
+      present-is r process (seid (class process) (k .caller) n)
+      (record { is-live = rw ix alive; same-serial = rw ix (sym (serial-seid (class process) (k .caller) n small fits)) })
+
+  -- ---- posts
+
+  -- in the own cell it is refused; in another, as ever, it leaves everything as it was
+  pub stale-post : k .code ≡ 15 → present (rd (configuration (s .table)) (s .table)) process given ≡ false
+      → (inOwnCell (configuration (s .table)) (k .caller) process given ≡ true → step s k .answered .error ≡ XOK → ⊥) × Untouched s k (step s k)
+  unfolding ruleOf wholeRule post
+  stale-post c gone = (
+    λ mine e. let q = rw c at (own-clear s k e) in
+        both-ways (inOwnCell h (k .caller) process given && not (present r process given)) (and-both (inOwnCell h (k .caller) process given) (not (present r process given)) mine (not-of (present r process given) gone)) (q .1 .1 .1 .0),
+    elim (ℕ-discrete (step s k .answered .error) XOK) [
+      | yes e ↦ nothing-done s k e (rw (c, gone))
+      | no n ↦ refused s k n
+    ],
+  )
+
+  -- ---- entries
+
+  pub stale-entry : (j : Kind) → usesEntry j (k .code) ≡ true → present (rd (configuration (s .table)) (s .table)) j (entryHolds j) ≡ false
+      → step s k .answered .error ≡ XOK → ⊥
+  unfolding ruleOf setAccess accessOf readBlock writeBlock
+  stale-entry process u gone e = both-ways true refl (sym u)
+  stale-entry segment u gone e =
+      let c = own-clear s k e in
+      both-ways (present r segment (entryHolds segment)) (either (eqb (k .code) 6) (eqb (k .code) 18) u
+      (λ e. let q = rw (eqb-true (k .code) 6 e) at c in passed _ (q .1 .1 .1 .0))
+      (λ e. let q = rw (eqb-true (k .code) 18 e) at c in passed _ (q .1 .1 .0))) gone
+  stale-entry file u gone e =
+      let c = own-clear s k e in
+      both-ways (present r file (entryHolds file)) (either (eqb (k .code) 13) (eqb (k .code) 14) u
+      (λ e. let q = rw (eqb-true (k .code) 13 e) at c in passed _ (q .1 .1 .1 .1 .0))
+      (λ e. let q = rw (eqb-true (k .code) 14 e) at c in passed _ (q .1 .1 .1 .1 .0))) gone
+
+  -- ---- giving up
+
+  -- XOK and two zeros; the entry's two words become 0, and no other word of the table, no byte of the store or of the buffer changes
+  pub record GivenUp (j : Kind) : Type 0 where
+    pub error : step s k .answered .error ≡ XOK
+    pub first : step s k .answered .first ≡ 0
+    pub second : step s k .answered .second ≡ 0
+    pub held : rd (configuration (s .table)) (step s k .state .table) (at process (k .caller) (heldAt j (k .a))) ≡ 0
+    pub used : rd (configuration (s .table)) (step s k .state .table) (at process (k .caller) (usedAt j (k .a))) ≡ 0
+    pub others : (b : Addr) → Valid (configuration (s .table)) b → (b ≡ at process (k .caller) (heldAt j (k .a)) → ⊥)
+        → (b ≡ at process (k .caller) (usedAt j (k .a)) → ⊥)
+        → rd (configuration (s .table)) (step s k .state .table) b ≡ rd (configuration (s .table)) (s .table) b
+    pub same-configuration : configuration (step s k .state .table) ≡ configuration (s .table)
+    pub store : step s k .state .store ≡ s .store
+    pub buffer : step s k .buffer ≡ k .buffer
+
+  module _ (j : Kind) (o : Object j) (w : Holds (wellFormed (s .table) (length (s .store)))) (in-range : k .caller < slots h process)
+      (alive : r (at process (k .caller) live) ≡ 1) (known : k .a < entries) (some : entryHolds j ≡ 0 → ⊥) (gone : present r j (entryHolds j) ≡ false) where
+    -- a held object of the own cell is there: so this one is another cell's
+    elsewhere : inOwnCell h (k .caller) j (entryHolds j) ≡ false
+    elsewhere = refuted (inOwnCell h (k .caller) j (entryHolds j)) (λ e.
+        let x = fine-of h r (good-of (s .table) (length (s .store)) w .records) .entry j o (k .caller) (k .a) in-range known in
+        let c = eqb-true _ _ e in
+        both-ways (present r j (entryHolds j)) (present-is r j (entryHolds j) (record { is-live = x .current-live some c; same-serial = x .current-serial some c })) gone)
+
+    written : givenUp h r j (k .caller) (k .a) (entryHolds j) ≡ entered j (k .caller) (k .a) 0 0
+    unfolding givenUp
+    written = rw elsewhere
+
+    by-rule : (x y : ℕ) → badCode (k .code) ≡ false
+        → own s k ≡ rule ((leb entries (k .a) ⇒ x) ∷ (eqb (entryHolds j) 0 ⇒ y) ∷ []) (effect 0 0 (k .buffer) (givenUp h r j (k .caller) (k .a) (entryHolds j)) [])
+        → GivenUp j
+    unfolding wholeRule
+    by-rule x y code is =
+        let ok = goes-on s k w in-range alive code (rw is (lt-leb entries (k .a) known, (ne-eqb (entryHolds j) 0 some, tt))) in
+        let d = done s k ok in
+        let e : effects s k ≡ effect 0 0 (k .buffer) (entered j (k .caller) (k .a) 0 0) [] =
+        ap (λ (x : Rule). x .effects) is ∙ ap (λ ws. effect 0 0 (k .buffer) ws []) written in
+        let t : step s k .state .table ≡ write h (s .table) (entered j (k .caller) (k .a) 0 0) =
+        d .table ∙ ap (λ (x : Effect). write h (s .table) (x .words)) e in
+        let y = placed j o (k .a) known in
+        let in-it = entered-in r j o (k .caller) (k .a) 0 0 known in
+        let valid = all-valid h process (k .caller) in-range in-it in
+        let reads : (b : Addr) → Valid h b → rd h (step s k .state .table) b ≡ over r (entered j (k .caller) (k .a) 0 0) b =
+        λ b v. ap (λ (l : List ℕ). rd h l b) t ∙ rd-write h (s .table) valid (good-of (s .table) (length (s .store)) w .words) b v in
+        record {
+          error = ok;
+          first = d .first ∙ ap (λ (x : Effect). x .first) e;
+          second = d .second ∙ ap (λ (x : Effect). x .second) e;
+          held = reads _ (in-range, omega arith) ∙ entered-held r j o (k .caller) (k .a) 0 0 known;
+          used = reads _ (in-range, omega arith) ∙ entered-used r j o (k .caller) (k .a) 0 0 known;
+          others = λ b v x y. reads b v ∙ over-miss b (also x (also y nil)) r;
+          same-configuration = ap configuration t ∙ conf-write h (s .table) (entered j (k .caller) (k .a) 0 0) refl;
+          store = d .store ∙ ap (λ (x : Effect). store h (s .store) (x .bytes)) e;
+          buffer = d .buffer ∙ ap (λ (x : Effect). x .buffer) e;
+        }
+
+  -- of a well-formed state and a live caller
+  pub stale-given-up : (j : Kind) → Object j → Holds (wellFormed (s .table) (length (s .store))) → k .caller < slots (configuration (s .table)) process
+      → rd (configuration (s .table)) (s .table) (at process (k .caller) live) ≡ 1 → k .code ≡ givesUpEntry j → k .a < entries → (entryHolds j ≡ 0 → ⊥)
+      → present (rd (configuration (s .table)) (s .table)) j (entryHolds j) ≡ false → GivenUp j
+  unfolding ruleOf badCode releaseSegment close
+  stale-given-up process o w l a c known some gone = absurd o
+  stale-given-up segment o w l a c known some gone = by-rule segment o w l a known some gone XnSgDes XbSgDes (rw c) (rw c)
+  stale-given-up file o w l a c known some gone = by-rule file o w l a known some gone XbadOd XbadOd (rw c) (rw c)

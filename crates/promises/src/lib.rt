@@ -1,0 +1,1 @@
+// What the rules promise: proofs only.
