@@ -50,17 +50,17 @@ cond-some true m n p q e = omega arith
 cond-some false m n p q e = omega arith
 
 -- a chain of choices that comes to a number that is not 0 comes to it whatever follows
-sooner : (b : Bool) (n x y : ℕ) → ((x ≡ 0 → ⊥) → x ≡ y) → (cond b n x ≡ 0 → ⊥) → cond b n x ≡ cond b n y
+pub sooner : (b : Bool) (n x y : ℕ) → ((x ≡ 0 → ⊥) → x ≡ y) → (cond b n x ≡ 0 → ⊥) → cond b n x ≡ cond b n y
 sooner true n x y f e = refl
 sooner false n x y f e = f e
 
 -- and one that comes to 0 comes to what follows
-later : (b : Bool) (n x y z : ℕ) → 0 < n → (x ≡ 0 → y ≡ z) → cond b n x ≡ 0 → cond b n y ≡ z
+pub later : (b : Bool) (n x y z : ℕ) → 0 < n → (x ≡ 0 → y ≡ z) → cond b n x ≡ 0 → cond b n y ≡ z
 later true n x y z l f e = absurd (omega arith)
 later false n x y z l f e = f e
 
 -- the four choices that refuse an open before the search
-never : (x : ℕ) → (_≡_ {A = ℕ} 0 0 → ⊥) → 0 ≡ x
+pub never : (x : ℕ) → (_≡_ {A = ℕ} 0 0 → ⊥) → 0 ≡ x
 never x n = absurd (n refl)
 
 module _ (a b c d : Bool) (x : ℕ) where

@@ -10,3 +10,4 @@ pub mod Holders
 pub mod Finds
 pub mod Posts
 pub mod FilesLaws
+pub mod BlocksLaws
