@@ -9,3 +9,5 @@ pub mod Room
 pub mod Holders
 pub mod Finds
 pub mod Posts
+pub mod FilesLaws
+pub mod BlocksLaws

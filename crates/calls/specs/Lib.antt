@@ -3,3 +3,4 @@ pub mod World
 pub mod Left
 pub mod Mail
 pub mod Finds
+pub mod Blocks

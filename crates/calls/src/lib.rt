@@ -1,5 +1,6 @@
 // The eighteen calls over the lent table, store and buffer.
 mod base;
+mod blocks;
 mod files;
 mod mail;
 mod objects;

@@ -1,0 +1,56 @@
+-- `blocks::read_store` meets its contract: the whole buffer is the block.
+use Rattle.calls.proofs.BlocksLaws.{sets-all, part-length}
+use Rattle.rules.specs.Layout.{blockBytes}
+use Rattle.rules.specs.Words.{part}
+use Prim.Native.Nat.{_+_, _-_, _*_}
+use mathlib.Core.Path.{_≡_, sym, _∙_}
+use native.Mathlib.Omega.{arith}
+use borrow.Author.Needs.{needs}
+use Rattle.calls.proofs.blocks.read_store.Statement.{statement}
+use Rattle.calls.proofs.blocks.read_store.Tie as tie
+
+mul-from : tie.Need-mul-from
+mul-from c = search needs
+
+mul-from-2 : tie.Need-mul-from-2
+mul-from-2 c = search needs
+
+add-from : tie.Need-add-from
+add-from c = search needs
+
+add-to : tie.Need-add-to
+add-to c = search needs
+
+sub-put-bytes : tie.Need-sub-put-bytes
+sub-put-bytes c = search needs
+
+part-put-bytes-start : tie.Need-part-put-bytes-start
+part-put-bytes-start c = search needs
+
+part-put-bytes-end : tie.Need-part-put-bytes-end
+part-put-bytes-end c = search needs
+
+put-bytes-requires : tie.Need-put-bytes-requires
+put-bytes-requires c κs = search needs
+
+same-length : tie.Need-same-length
+same-length c = search needs
+
+returns : tie.Need-returns
+unfolding part
+returns c = let a = c .before .before .before .before .before .before .before .args in let k : a .f * a .n + a .b * blockBytes + blockBytes - (a .f * a .n + a .b * blockBytes) ≡ blockBytes = omega arith in (rw k at (c .before .before .put-bytes .ensures)) ∙ sets-all _ _ (part-length (a .store .now) (a .f * a .n + a .b * blockBytes) blockBytes (omega arith) ∙ sym (c .before .before .before .before .before .before .before .pre .2))
+
+pub read-store-spec : {M : Type 1} → statement M
+read-store-spec =
+    tie.close
+    (tie.spec
+    mul-from
+    mul-from-2
+    add-from
+    add-to
+    sub-put-bytes
+    part-put-bytes-start
+    part-put-bytes-end
+    put-bytes-requires
+    same-length
+    returns)
