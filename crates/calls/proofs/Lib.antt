@@ -4,3 +4,4 @@ pub mod Leaves
 pub mod Given
 pub mod Named
 pub mod Entries
+pub mod SegmentsLaws
