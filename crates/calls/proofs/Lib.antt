@@ -5,3 +5,4 @@ pub mod Given
 pub mod Named
 pub mod Entries
 pub mod SegmentsLaws
+pub mod ProcessesLaws

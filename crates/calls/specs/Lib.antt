@@ -2,3 +2,4 @@
 pub mod World
 pub mod Left
 pub mod Seen
+pub mod Holding

@@ -1,6 +1,7 @@
 // The eighteen calls over the lent table, store and buffer.
 mod base;
 mod files;
+mod processes;
 mod segments;
 
 // "An answer is the number and two words."
