@@ -6,3 +6,6 @@ pub mod Named
 pub mod Entries
 pub mod SegmentsLaws
 pub mod ProcessesLaws
+pub mod Room
+pub mod Holders
+pub mod Finds

@@ -14,16 +14,16 @@ use Rattle.rules.specs.Layout.{Kind, process, segment, file, recordWords, confi
 use Rattle.rules.specs.Seid.{class, isSeid, indexOf}
 use Rattle.rules.specs.Rule.{Word, _≔_, write, over}
 use Rattle.rules.specs.Find.{inOwnCell, entered, zeros, freed, kept, oneLess, givenUp}
-use Rattle.rules.specs.Call02.{dropped, droppedTo}
+use Rattle.rules.specs.Call02.{dropped, droppedTo, released}
 use Rattle.laws.proofs.Tests.{split, both-ways}
 use Rattle.laws.proofs.Seids.{is-formed, class-some, class-pos}
 use Rattle.laws.proofs.Written.{AllOf, nil, also, all-append, all-if, all-map, Valids, over-append, write-append, over-same, over-miss, length-write, rd-write, conf-write}
 use Rattle.calls.specs.declared.World.{World}
-use Rattle.calls.specs.World.{Known, rdBy}
+use Rattle.calls.specs.World.{offsetBy, rdBy, Known, freedAt}
 use Rattle.calls.specs.Holding.{EntryFormed, HoldingAt, Holding}
-use Rattle.calls.proofs.Worlds.{see}
+use Rattle.calls.proofs.Worlds.{see, spot}
 use Rattle.calls.proofs.Named.{Is}
-use Rattle.calls.proofs.Given.{Thing, a-segment, a-file}
+use Rattle.calls.proofs.Given.{Thing, a-segment, a-file, freed-is}
 
 -- two readings that agree at each word of a record
 abbrev Agree : List ℕ → (Addr → ℕ) → (Addr → ℕ) → Type 0
@@ -222,3 +222,42 @@ module _ {t : List ℕ} {w : World} {k : Kind} (th : Thing k) (q : ℕ) (holding
   pub none-yet : t ≡ write (configuration t) t (droppedTo (configuration t) (rd (configuration t) t) k q 0)
   unfolding droppedTo
   none-yet = refl
+
+-- ---- a process released
+
+-- the designators once the descriptors are given up
+module _ {t : List ℕ} {w : World} (q : ℕ) (files : Holding t w file q) (segments : Holding t w segment q) {t₁ : List ℕ}
+    (e₁ : t₁ ≡ write (configuration t) t (droppedTo (configuration t) (rd (configuration t) t) file q entries)) where
+  pub then-segments : Holding t₁ w segment q
+  then-segments =
+      let h : List ℕ = configuration t in
+      let r : Addr → ℕ = rd h t in
+      let ws : List Word = droppedTo h r file q entries in
+      let c : configuration (write h t ws) ≡ h = conf-write h t ws refl in
+      let same : (d : ℕ) → d < entries → rd h (write h t ws) (at process q (heldAt segment d)) ≡ r (at process q (heldAt segment d)) =
+      λ d l. sym (reads a-file q files entries (omega arith) (at process q (heldAt segment d)) (files .here, held-in a-segment d l))
+      ∙ far a-file q files entries (omega arith) .beside (heldAt segment d) (λ e m. (λ x. omega arith, λ x. omega arith)) in
+      rw e₁ (record {
+        known = known-write (files .known) ws;
+        words = rw (c, length-write h t ws) (files .words);
+        here = rw c (files .here);
+        homed = rw c (files .homed);
+        formed = rw c (λ d l. rw (same d l) (segments .formed d l));
+      })
+
+  -- the record cleared, which begins at a place
+  pub released-is : {t₂ t₃ : List ℕ} {place : ℕ}
+      → t₂ ≡ write (configuration t₁) t₁ (droppedTo (configuration t₁) (rd (configuration t₁) t₁) segment q entries) → place ≡ offsetBy w (at process q 0)
+      → t₃ ≡ freedAt t₂ place (recordWords process) → t₃ ≡ write (configuration t) t (released (configuration t) (rd (configuration t) t) q)
+  unfolding released
+  released-is {t₂} {t₃} {place} e₂ pe e₃ =
+      let h : List ℕ = configuration t in
+      let r : Addr → ℕ = rd h t in
+      let ws : List Word = droppedTo h r file q entries in
+      let c : configuration t₁ ≡ h = ap configuration e₁ ∙ conf-write h t ws refl in
+      let then : Holding t₁ w segment q = then-segments in
+      let agree : Agree h (rd h t₁) (over r ws) = λ a v. ap (λ (u : List ℕ). rd h u a) e₁ ∙ sym (reads a-file q files entries (omega arith) a v) in
+      let same : droppedTo h (rd h t₁) segment q entries ≡ droppedTo h (over r ws) segment q entries =
+      all-same h a-segment q (files .here) (rd h t₁) (rw c at (then .formed)) (over r ws) agree entries (omega arith) in
+      let two : t₂ ≡ write h t₁ (droppedTo h (over r ws) segment q entries) = e₂ ∙ rw (c, same) in
+      rw (write-append h t ws, write-append, ← e₁, ← two) (e₃ ∙ rw (pe, spot (files .known) (at process q 0)) (sym (freed-is h t₂ process q)))

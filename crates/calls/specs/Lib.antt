@@ -3,3 +3,4 @@ pub mod World
 pub mod Left
 pub mod Seen
 pub mod Holding
+pub mod Finds

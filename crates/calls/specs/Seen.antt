@@ -1,10 +1,9 @@
 -- What the caller sees of the object that a word names, and nothing where the word has not the form of one.
-use mathlib.Core.Bool.{Bool, true, false, not}
+use mathlib.Core.Bool.{false}
 use mathlib.Core.List.{List}
 use Prim.Native.Nat.{ℕ}
-use lib.Dec.{eqb}
 use Rattle.rules.specs.Layout as rules
-use Rattle.rules.specs.Layout.{cellOf, Addr, at, sharable}
+use Rattle.rules.specs.Layout.{Addr}
 use Rattle.rules.specs.Seid.{indexOf, present}
 use Rattle.rules.specs.Find.{inOwnCell, rightsAt}
 use Rattle.ids.specs.declared.SegmentIs.{SegmentIs}
@@ -14,11 +13,8 @@ use Rattle.calls.specs.declared.segments.Segment.{Segment}
 abbrev pub seenSegment : List ℕ → (Addr → ℕ) → ℕ → SegmentIs → Segment
 seenSegment h r p (Is s) =
     record {
-      named = true;
       present = present r rules.segment (s .0);
-      cell = cellOf h rules.segment (indexOf (s .0));
       own = inOwnCell h p rules.segment (s .0);
-      sharable = not (eqb (r (at rules.segment (indexOf (s .0)) sharable)) 0);
       rights = rightsAt r p rules.segment (indexOf (s .0));
     }
-seenSegment h r p Not = record { named = false; present = false; cell = 0; own = false; sharable = false; rights = 0 }
+seenSegment h r p Not = record { present = false; own = false; rights = 0 }

@@ -1,6 +1,7 @@
 // The eighteen calls over the lent table, store and buffer.
 mod base;
 mod files;
+mod objects;
 mod processes;
 mod segments;
 

@@ -2,122 +2,240 @@
 ghost use mathlib.Core.Path.{_≡_};
 ghost use mathlib.Core.List.{List};
 ghost use Prim.Native.Nat.{ℕ, _<_};
-ghost use Rattle.rules.specs.Layout.{process, segment, configuration, cellOf, rd};
+ghost use lib.ListN.{set};
+ghost use Rattle.rules.specs.Layout.{process, segment, at, heldAt, usedAt, configuration, cellOf, flowMatrix, rd};
 ghost use Rattle.rules.specs.Rule.{write};
-ghost use Rattle.rules.specs.Seid.{present};
-ghost use Rattle.rules.specs.Find.{givenUp, rightsAt};
+ghost use Rattle.rules.specs.Find.{givenUp, freeEntry};
+ghost use Rattle.rules.specs.WellFormed.{segmentSize};
+ghost use Rattle.rules.specs.Call03.{buildSegment};
+ghost use Rattle.rules.specs.Call04.{alreadyHeld, rendezvous};
 ghost use Rattle.rules.specs.Call05.{releaseSegment};
 ghost use Rattle.rules.specs.Call06.{setAccess};
 ghost use Rattle.rules.specs.Call18.{accessOf};
-ghost use Rattle.calls.specs.World.{Known, Sound};
+ghost use Rattle.calls.specs.World.{offsetBy, Known, Sound};
 ghost use Rattle.calls.specs.Left.{Left};
 ghost use Rattle.calls.specs.Seen.{seenSegment};
 use crate::Answer;
 use crate::World;
 use crate::base::answered;
+use crate::base::empty_at;
 use crate::base::give_up;
 use crate::base::in_process;
 use crate::base::in_segment;
 use crate::base::process_place;
 use crate::base::put_process;
 use crate::base::refused;
+use crate::base::segment_base;
 use crate::base::segment_cell;
 use crate::base::segment_place;
+use crate::objects::free_slot;
+use crate::objects::make;
+use crate::objects::my_place;
+use crate::objects::or_self;
+use crate::objects::run_end;
+use crate::objects::segment_flows;
+use crate::objects::segment_own;
+use crate::objects::segment_present;
+use crate::objects::segment_rights;
+use crate::objects::take_up;
 use ids::SegmentId;
 use ids::SegmentIs;
+use ids::seid;
 use rights::access;
 use rights::asks_read;
 use rights::asks_write;
 use rights::lacks;
 use rights::may_read;
 use rights::may_write;
-use rights::rights;
 use rights::valid_access;
-use rules::BITS;
+use rules::CELL_SEGMENTS;
 use rules::DESIGNATORS;
 use rules::ENTRIES;
 use rules::GROUP;
 use rules::LIVE;
+use rules::MAX_BITS;
+use rules::MAX_CELLS;
 use rules::OWNER;
+use rules::SEGMENT_CLASS;
+use rules::SEGMENT_WORDS;
 use rules::SERIAL;
 use rules::SHARABLE;
 use rules::XB_PARAM;
 use rules::XB_SG_DES;
 use rules::XB_SG_SD;
+use rules::XB_SG_SZ;
 use rules::XDAP_VIOL;
+use rules::XDUP_SG;
 use rules::XN_SG_DES;
 use rules::XNO_ACC;
+use rules::XNO_SPACE;
+use rules::XOD_SPACE;
 use rules::XOK;
+use rules::XSG_NO_ACC;
 use words::first;
 use words::wide;
 
-// What the caller sees of the segment that a word names: whether the word has a segment's form, whether the slot is live with that serial, its cell, whether that
-// is the caller's own, whether it is sharable, and the caller's rights today.
+// What the caller sees of the segment that a word names: whether its slot is live with that serial, whether it is of the caller's cell, and the caller's rights
+// today. Where the word has not a segment's form, there is nothing to see.
 struct Segment {
-    named: bool,
     present: bool,
-    cell: u32,
     own: bool,
-    sharable: bool,
     rights: u32,
 }
 
-// "A seid names an object only if the slot is live with that serial."
-fn is_present(t: &[u32], w: World, s: SegmentId) -> bool
-    requires { ⌜ Known (now t) w ⌝ }
-    ensures { λ r. ⌜ r ≡ present (rd (configuration (now (t .entry))) (now (t .entry))) segment (s .0) ⌝ }
-{
-    let i = s.index();
-    (in_segment(t, w, i, LIVE) == 1) & (in_segment(t, w, i, SERIAL) == s.serial())
-}
-
-// "Bits are judged anew at each use."
-fn rights_at(t: &[u32], w: World, i: u32) -> u32
-    requires { ⌜ Known (now t) w ⌝ }
-    ensures { λ r. ⌜ r ≡ rightsAt (rd (configuration (now (t .entry))) (now (t .entry))) (w .me) segment i ⌝ }
-{
-    let me = w.me;
-    let u = in_process(t, w, me, OWNER);
-    let g = in_process(t, w, me, GROUP);
-    rights(
-        u,
-        g,
-        in_segment(t, w, i, OWNER),
-        in_segment(t, w, i, GROUP),
-        in_segment(t, w, i, BITS),
-    )
-}
-
-// Where the word has not a segment's form, there is nothing to see.
 fn look(t: &[u32], w: World, s: SegmentIs) -> Segment
     requires { ⌜ Known (now t) w ⌝ }
     ensures { λ r. ⌜ r ≡ seenSegment (configuration (now (t .entry))) (rd (configuration (now (t .entry))) (now (t .entry))) (w .me) s ⌝ }
 {
     match s {
         SegmentIs::Is(g) => {
-            let i = g.index();
-            let present = is_present(t, w, g);
-            let cell = segment_cell(t, w, i);
-            let own = cell == w.home;
-            let sharable = in_segment(t, w, i, SHARABLE) != 0;
-            let rights = rights_at(t, w, i);
+            let present = segment_present(t, w, g);
+            let own = segment_own(t, w, g);
+            let rights = segment_rights(t, w, g.index());
             Segment {
-                named: true,
                 present,
-                cell,
                 own,
-                sharable,
                 rights,
             }
         }
         SegmentIs::Not => Segment {
-            named: false,
             present: false,
-            cell: 0,
             own: false,
-            sharable: false,
             rights: 0,
         },
+    }
+}
+
+// The caller's lowest empty designator; 16 where none is empty.
+fn free_designator(t: &[u32], w: World) -> u32
+    requires { ⌜ Known (now t) w ⌝ }
+    ensures { λ r. ⌜ r ≡ freeEntry (rd (configuration (now (t .entry))) (now (t .entry))) segment (w .me) ⌝ }
+{
+    empty_at(t, my_place(w, DESIGNATORS))
+}
+
+// The caller's designator d comes to hold s, used so.
+fn enter(t: &mut [u32], w: World, d: u32, s: u32, u: u32)
+    ensures { λ _. ⌜ now (t .exit) ≡ set (set (now (t .entry)) (offsetBy w (at process (w .me) (heldAt segment d))) s) (offsetBy w (at process (w .me) (usedAt segment d))) u ⌝ }
+{
+    let me = w.me;
+    put_process(t, w, me, DESIGNATORS + 2 * wide(d), s);
+    put_process(t, w, me, DESIGNATORS + 1 + 2 * wide(d), u);
+}
+
+// The caller holds this seid.
+fn already_held(t: &[u32], w: World, s: u32) -> bool
+    requires { ⌜ Known (now t) w ⌝ }
+    ensures { λ r. ⌜ r ≡ alreadyHeld (rd (configuration (now (t .entry))) (now (t .entry))) (w .me) s ⌝ }
+{
+    let me = w.me;
+    let mut held = false;
+    let mut d: u32 = 0;
+    while wide(d) < ENTRIES {
+        held = held | (in_process(t, w, me, DESIGNATORS + 2 * wide(d)) == s);
+        d += 1;
+    }
+    held
+}
+
+// "A multiple of 512 in 512..65024."
+fn is_size(n: u32) -> bool
+    ensures { λ r. ⌜ r ≡ segmentSize n ⌝ }
+{
+    (n % 512 == 0) & ((512 <= n) & (n <= 65024))
+}
+
+// 3. Build segment.
+pub(crate) fn build_segment(t: &mut [u32], w: World, a: u32, b: u32, c: u32) -> Answer
+    requires { ⌜ Sound (now t) w ⌝ }
+    ensures { λ r. ⌜ ((buffer : List ℕ) → Left (now (t .entry)) (λ h q. buildSegment h q (w .me) a b c buffer) r (now (t .exit))) ⌝ }
+{
+    let d = free_designator(t, w);
+    let g = free_slot(t, w, segment_base(w), SEGMENT_WORDS, CELL_SEGMENTS);
+    let end = run_end(t, w, CELL_SEGMENTS);
+    let e = first(
+        (MAX_BITS < b) | (1 < c),
+        XB_PARAM,
+        first(
+            !is_size(a),
+            XB_SG_SZ,
+            first(
+                ENTRIES <= wide(d),
+                XOD_SPACE,
+                first(end <= g, XNO_SPACE, XOK),
+            ),
+        ),
+    );
+    if e != XOK {
+        return refused(e);
+    }
+    let me = w.me;
+    let serial = in_segment(t, w, g, SERIAL) + 1;
+    let s = seid(SEGMENT_CLASS, g, serial);
+    let owner = in_process(t, w, me, OWNER);
+    let group = in_process(t, w, me, GROUP);
+    make(t, segment_place(w, g, LIVE), serial, owner, group, b, c, a);
+    let used = access(may_read(b / 64), may_write(b / 64));
+    enter(t, w, d, s, used);
+    answered(s, d)
+}
+
+// 4. Rendezvous.
+pub(crate) fn rendezvous(
+    t: &mut [u32],
+    w: World,
+    m: [[bool; MAX_CELLS]; MAX_CELLS],
+    a: u32,
+    b: u32,
+) -> Answer
+    requires { ⌜ Sound (now t) w × (m ≡ flowMatrix (configuration (now t))) ⌝ }
+    ensures { λ r. ⌜ ((buffer : List ℕ) → Left (now (t .entry)) (λ h q. rendezvous h q (w .me) a b buffer) r (now (t .exit))) ⌝ }
+{
+    let me = w.me;
+    let s = or_self(t, w, a);
+    let bad = (b == 0) | !valid_access(b);
+    match SegmentId::check(s, w.segments) {
+        SegmentIs::Is(g) => {
+            let i = g.index();
+            let d = free_designator(t, w);
+            let entry = process_place(w, me, DESIGNATORS + 2 * wide(d));
+            let own = segment_own(t, w, g);
+            let forbidden = !segment_flows(t, w, m, g) | (asks_write(b) & !own);
+            let present = segment_present(t, w, g);
+            let unsharable = in_segment(t, w, i, SHARABLE) == 0;
+            let lacking = lacks(segment_rights(t, w, i), asks_read(b), asks_write(b));
+            let e = first(
+                bad,
+                XB_PARAM,
+                first(
+                    forbidden,
+                    XNO_ACC,
+                    first(
+                        !present,
+                        XB_SG_SD,
+                        first(
+                            unsharable,
+                            XSG_NO_ACC,
+                            first(
+                                lacking,
+                                XDAP_VIOL,
+                                first(
+                                    already_held(t, w, s),
+                                    XDUP_SG,
+                                    first(ENTRIES <= wide(d), XOD_SPACE, XOK),
+                                ),
+                            ),
+                        ),
+                    ),
+                ),
+            );
+            if e != XOK {
+                return refused(e);
+            }
+            take_up(t, entry, s, b, segment_place(w, i, LIVE), own);
+            answered(d, 0)
+        }
+        SegmentIs::Not => refused(first(bad, XB_PARAM, XB_SG_SD)),
     }
 }
 
