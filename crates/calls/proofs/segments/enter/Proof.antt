@@ -48,7 +48,7 @@ same-length : tie.Need-same-length
 same-length c = search needs
 
 returns : tie.Need-returns
-returns c = both _ _ _ _ _ _ (c .before .before .before .before .before .before .before .before .wide .ensures) (c .before .before .before .before .before .before .before .put-process .ensures) (c .before .before .before .wide2 .ensures) (c .before .before .put-process2 .ensures)
+returns c = both (c .before .before .before .before .before .before .before .before .before .before .before .args .w) (c .before .before .before .before .before .before .before .before .before .before .before .args .t .now) (c .before .before .before .before .before .before .before .before .before .before .before .args .w .me) (c .before .before .before .before .before .before .before .before .before .before .before .args .d) (c .before .before .before .before .before .before .before .before .before .before .before .args .s) (c .before .before .before .before .before .before .before .before .before .before .before .args .u) (c .before .before .before .before .before .before .before .before .wide .ensures) (c .before .before .before .before .before .before .before .put-process .ensures) (c .before .before .before .wide2 .ensures) (c .before .before .put-process2 .ensures)
 
 pub enter-spec : {M : Type 1} → statement M
 enter-spec =
