@@ -4,3 +4,6 @@ pub mod Leaves
 pub mod Given
 pub mod Named
 pub mod Entries
+pub mod Room
+pub mod Holders
+pub mod Finds

@@ -1,6 +1,7 @@
 // The eighteen calls over the lent table, store and buffer.
 mod base;
 mod files;
+mod objects;
 
 // "An answer is the number and two words."
 pub struct Answer {

@@ -1,0 +1,82 @@
+-- Room: the code's searches for a free slot and an empty entry are the rule's, over the kind.
+use mathlib.Core.Path.{_≡_, refl, sym, ap, _∙_}
+use mathlib.Core.Bool.{Bool, _&&_}
+use mathlib.Core.List.{List}
+use Prim.Native.Nat.{ℕ, suc, _+_, _*_, _≤_, _<_}
+use native.Mathlib.Omega.{arith}
+use native.Mathlib.Numerals.{add-one}
+use lib.Dec.{eqb, ltb}
+use lib.ListN.{getD}
+use Rattle.rules.specs.Words.{sumBelow, lowest}
+use Rattle.rules.specs.Layout.{maxSlots, maxSerial, Kind, process, segment, file, headerWords, cellWords, recordWords, configuration, cells, slots, cellWord, cellSlots, cellSlotsWord, firstSlot, cellOf, Addr, at, offset, rd, heldAt, entries, live, serial}
+use Rattle.rules.specs.Find.{freeSlot, freeEntry}
+use Rattle.laws.proofs.Search.{lowest-same, lowest-le}
+use Rattle.laws.proofs.Below.{sum-more, sum-grows}
+use Rattle.laws.proofs.Places.{conf-cells, conf-cell}
+use Rattle.laws.proofs.Shape.{in-run}
+use Rattle.calls.specs.declared.World.{World}
+use Rattle.calls.specs.World.{baseBy, offsetBy, rdBy, Known, Sound, firstBy, freeTest, freeAt, emptyTest, emptyAt}
+use Rattle.calls.proofs.Worlds.{spot, shape, cells-is, home-is, first-by-kind, kind-word}
+use Rattle.calls.proofs.Given.{Thing, a-segment, a-file}
+
+-- ---- cells
+
+module _ {t : List ℕ} {w : World} (known : Known t w) where
+  -- word k of cell c, read at the number y of the cell
+  pub cell-word : {c k x y : ℕ} → c < w .cells → k < cellWords → y ≡ c → x ≡ getD t (headerWords + cellWords * y + k) 0 → x ≡ cellWord (configuration t) c k
+  unfolding cellWord
+  cell-word {c} {k} l m ye xe =
+      let n : c < cells t = omega (arith, cells-is known, conf-cells t) in
+      (rw ye at xe) ∙ sym (conf-cell t c k n m)
+
+-- the runs passed, and one more
+pub first-more : (h : List ℕ) (k c : ℕ) → firstBy h k c + cellWord h c k ≡ firstBy h k (c + 1)
+unfolding firstBy
+first-more h k c = sym (sum-more c (λ c. cellWord h c k))
+
+pub first-bound : (h : List ℕ) (k c n : ℕ) → c ≤ n → firstBy h k c ≤ firstBy h k n
+unfolding firstBy
+first-bound h k c n l = sum-grows (λ c. cellWord h c k) c n l
+
+pub first-none : (h : List ℕ) (k : ℕ) → 0 ≡ firstBy h k 0
+unfolding firstBy sumBelow
+first-none h k = refl
+
+-- so many slots as the table has at most are in the runs up to a cell
+pub first-fits : {t : List ℕ} {w : World} → Known t w → (k c : ℕ) → c ≤ w .cells → firstBy (configuration t) k (cells (configuration t)) ≤ maxSlots → firstBy (configuration t) k c ≤ maxSlots
+first-fits {t} {w} known k c l m = omega (arith, first-bound (configuration t) k c (cells (configuration t)) (omega (arith, cells-is known)))
+
+-- the caller's cell is one of the table's
+pub home-in : {t : List ℕ} {w : World} → Sound t w → w .home < w .cells
+home-in {t} {w} s = rw (home-is (s .known), cells-is (s .known)) (in-run (configuration t) (shape (s .known)) process (w .me) (s .caller) .0)
+
+-- ---- a free slot
+
+module _ {t : List ℕ} {w : World} (known : Known t w) where
+  pub free-is : (k : Kind) (c : ℕ) → freeAt t (baseBy w k) (recordWords k) (cellSlots (configuration t) k c) (firstBy (configuration t) (cellSlotsWord k) c) ≡ freeSlot (configuration t) (rd (configuration t) t) k c
+  unfolding freeAt freeSlot freeTest rd offsetBy
+  free-is k c =
+      rw (first-by-kind (configuration t) k c)
+      (lowest-same _ _ _ _ (λ j a b. rw (spot known (at k j live), spot known (at k j serial))))
+
+  -- the slot that the code has found in the run of the caller's cell
+  pub slot-told : (k : Kind) {b z r : ℕ} → b ≡ baseBy w k → z ≡ recordWords k
+      → r ≡ freeAt t b z (cellWord (configuration t) (w .home) (cellSlotsWord k)) (firstBy (configuration t) (cellSlotsWord k) (w .home))
+      → r ≡ freeSlot (configuration t) (rd (configuration t) t) k (cellOf (configuration t) process (w .me))
+  slot-told k be ze re =
+      re
+      ∙ rw (be, ze)
+      (ap (λ (x : ℕ). freeAt t (baseBy w k) (recordWords k) (cellSlots (configuration t) k x) (firstBy (configuration t) (cellSlotsWord k) x)) (home-is known)
+      ∙ free-is k (cellOf (configuration t) process (w .me)))
+
+  -- and the end of that run
+  pub end-told : (k : Kind) {n : ℕ} → n ≡ firstBy (configuration t) (cellSlotsWord k) (w .home) + cellWord (configuration t) (w .home) (cellSlotsWord k)
+      → n ≡ firstSlot (configuration t) k (cellOf (configuration t) process (w .me)) + cellSlots (configuration t) k (cellOf (configuration t) process (w .me))
+  end-told k e = e ∙ rw (first-by-kind (configuration t) k (w .home), home-is known)
+
+  -- ---- an empty entry
+
+  pub empty-is : {k : Kind} (p : ℕ) → Thing k → emptyAt t (offsetBy w (at process p (heldAt k 0))) ≡ freeEntry (rd (configuration t) t) k p
+  unfolding emptyAt freeEntry emptyTest rd
+  empty-is p a-segment = lowest-same _ _ _ _ (λ j a b. let e : offset (configuration t) (at process p 40) + 2 * j ≡ offset (configuration t) (at process p (40 + 2 * j)) = omega arith in rw (spot known (at process p 40), e))
+  empty-is p a-file = lowest-same _ _ _ _ (λ j a b. let e : offset (configuration t) (at process p 8) + 2 * j ≡ offset (configuration t) (at process p (8 + 2 * j)) = omega arith in rw (spot known (at process p 8), e))

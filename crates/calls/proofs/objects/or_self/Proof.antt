@@ -1,0 +1,21 @@
+-- `objects::or_self` meets its contract: the caller's own seid fits a word.
+use Rattle.calls.proofs.Finds.{self-told}
+use native.Mathlib.Omega.{arith}
+use borrow.Author.Needs.{needs}
+use Rattle.calls.proofs.objects.or_self.Statement.{statement}
+use Rattle.calls.proofs.objects.or_self.Tie as tie
+
+in-process-requires : tie.Need-in-process-requires
+in-process-requires c κs = search needs
+
+seid-requires : tie.Need-seid-requires
+seid-requires c κs = search needs
+
+first-requires : tie.Need-first-requires
+first-requires c κs = search needs
+
+returns : tie.Need-returns
+returns c = self-told (c .before .before .before .before .pre) _ (c .before .before .in-process .ensures) (c .before .seid .ensures) (c .first .ensures)
+
+pub or-self-spec : {M : Type 1} → statement M
+or-self-spec = tie.close (tie.spec in-process-requires seid-requires first-requires returns)
