@@ -7,3 +7,4 @@ pub mod Entries
 pub mod Room
 pub mod Holders
 pub mod Finds
+pub mod FilesLaws
