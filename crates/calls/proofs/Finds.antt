@@ -93,7 +93,7 @@ module _ {t : List ℕ} {w : World} (known : Known t w) where
 
 -- ---- the calling process for seid 0
 
-self-fits : (c i s : ℕ) → c < 256 → i < 256 → s ≤ maxSerial → seidOf c i s ≡ seid c i s
+pub self-fits : (c i s : ℕ) → c < 256 → i < 256 → s ≤ maxSerial → seidOf c i s ≡ seid c i s
 self-fits c i s p q r = rw (lt-ltb c 256 p, lt-ltb i 256 q, le-leb s maxSerial r)
 
 pub self-told : {t : List ℕ} {w : World} → Sound t w → (a : ℕ) {s x r : ℕ} → s ≡ rdBy w t (at process (w .me) serial) → x ≡ seidOf (class process) (w .me) s → r ≡ cond (eqb a 0) x a

@@ -4,8 +4,9 @@ pub mod Leaves
 pub mod Given
 pub mod Named
 pub mod Entries
-pub mod SegmentsLaws
-pub mod ProcessesLaws
 pub mod Room
 pub mod Holders
 pub mod Finds
+pub mod FilesLaws
+pub mod SegmentsLaws
+pub mod ProcessesLaws

@@ -4,16 +4,14 @@ use mathlib.Core.Bool.{Bool, true, false, cond, _&&_, not}
 use mathlib.Core.List.{List, [], _∷_, _++_}
 use Prim.Native.Nat.{ℕ, zero, suc, _+_, _*_, _-_, _≤_, _<_}
 use native.Mathlib.Omega.{arith}
-use native.Mathlib.Nat.{not-suc-le-zero}
 use native.Mathlib.Numerals.{add-one}
 use lib.Dec.{eqb}
-use lib.ListN.{length}
-use borrow.Author.Tests.{eqb-true, eqb-false, eq-eqb, ne-eqb}
+use borrow.Author.Tests.{eqb-false, ne-eqb}
 use Rattle.rules.specs.Words.{tabFrom}
-use Rattle.rules.specs.Layout.{Kind, process, segment, file, recordWords, configuration, slots, cellOf, Addr, at, Valid, rd, tableWords, live, entries, heldAt, usedAt, links, opens, holders}
+use Rattle.rules.specs.Layout.{Kind, process, segment, file, recordWords, configuration, slots, Addr, at, Valid, rd, live, entries, heldAt, usedAt, links, holders}
 use Rattle.rules.specs.Seid.{class, isSeid, indexOf}
 use Rattle.rules.specs.Rule.{Word, _≔_, write, over}
-use Rattle.rules.specs.Find.{inOwnCell, entered, zeros, freed, kept, oneLess, givenUp}
+use Rattle.rules.specs.Find.{inOwnCell, zeros, freed, kept, oneLess, givenUp}
 use Rattle.rules.specs.Call02.{dropped, droppedTo, released}
 use Rattle.laws.proofs.Tests.{split, both-ways}
 use Rattle.laws.proofs.Seids.{is-formed, class-some, class-pos}

@@ -1,16 +1,19 @@
 -- Room: the code's searches for a free slot and an empty entry are the rule's, over the kind.
 use mathlib.Core.Path.{_≡_, refl, sym, ap, _∙_}
-use mathlib.Core.Bool.{Bool, _&&_}
+use mathlib.Core.Bool.{Bool, true, false, _&&_}
 use mathlib.Core.List.{List}
 use Prim.Native.Nat.{ℕ, suc, _+_, _*_, _≤_, _<_}
 use native.Mathlib.Omega.{arith}
 use native.Mathlib.Numerals.{add-one}
-use lib.Dec.{eqb, ltb}
+use lib.Dec.{eqb, ltb, leb}
+use borrow.Author.Tests.{leb-false, ltb-true}
 use lib.ListN.{getD}
 use Rattle.rules.specs.Words.{sumBelow, lowest}
 use Rattle.rules.specs.Layout.{maxSlots, maxSerial, Kind, process, segment, file, headerWords, cellWords, recordWords, configuration, cells, slots, cellWord, cellSlots, cellSlotsWord, firstSlot, cellOf, Addr, at, offset, rd, heldAt, entries, live, serial}
 use Rattle.rules.specs.Find.{freeSlot, freeEntry}
-use Rattle.laws.proofs.Search.{lowest-same, lowest-le}
+use Rattle.laws.proofs.Search.{lowest-same, lowest-hit}
+use Rattle.laws.proofs.Tests.{and-right}
+use Rattle.laws.proofs.Cells.{run-end}
 use Rattle.laws.proofs.Below.{sum-more, sum-grows}
 use Rattle.laws.proofs.Places.{conf-cells, conf-cell}
 use Rattle.laws.proofs.Shape.{in-run}
@@ -80,3 +83,28 @@ module _ {t : List ℕ} {w : World} (known : Known t w) where
   unfolding emptyAt freeEntry emptyTest rd
   empty-is p a-segment = lowest-same _ _ _ _ (λ j a b. let e : offset (configuration t) (at process p 40) + 2 * j ≡ offset (configuration t) (at process p (40 + 2 * j)) = omega arith in rw (spot known (at process p 40), e))
   empty-is p a-file = lowest-same _ _ _ _ (λ j a b. let e : offset (configuration t) (at process p 8) + 2 * j ≡ offset (configuration t) (at process p (8 + 2 * j)) = omega arith in rw (spot known (at process p 8), e))
+
+-- ---- what is found
+
+module _ {t : List ℕ} {w : World} (sound : Sound t w) (k : Kind) where
+  -- the run of the caller's cell is within the table
+  pub run-in : {from n : ℕ} → from ≡ firstBy (configuration t) (cellSlotsWord k) (w .home) → n ≡ cellWord (configuration t) (w .home) (cellSlotsWord k)
+      → from + n ≤ slots (configuration t) k
+  run-in fe ne =
+      let e = run-end (configuration t) k (w .home) (omega (arith, home-in sound, cells-is (sound .known))) in
+      omega (arith, e, shape (sound .known) .sums k, first-by-kind (configuration t) k (w .home))
+
+  -- a free slot that was found is one of the table's, and its serial can rise
+  pub free-ok : {f end : ℕ} → f ≡ freeSlot (configuration t) (rd (configuration t) t) k (cellOf (configuration t) process (w .me))
+      → end ≡ firstSlot (configuration t) k (cellOf (configuration t) process (w .me)) + cellSlots (configuration t) k (cellOf (configuration t) process (w .me))
+      → leb end f ≡ false → (f < slots (configuration t) k) × (rd (configuration t) t (at k f serial) < maxSerial)
+  unfolding freeSlot
+  free-ok {f} {end} fe ee l =
+      let c = cellOf (configuration t) process (w .me) in
+      let test : ℕ → Bool = λ i. eqb (rd (configuration t) t (at k i live)) 0 && ltb (rd (configuration t) t (at k i serial)) maxSerial in
+      let lt : f < end = leb-false end f l in
+      let hit = lowest-hit test (cellSlots (configuration t) k c) (firstSlot (configuration t) k c) (omega arith) in
+      let good = and-right (eqb (rd (configuration t) t (at k f live)) 0) (ltb (rd (configuration t) t (at k f serial)) maxSerial) (rw (← fe) at hit) in
+      let home = in-run (configuration t) (shape (sound .known)) process (w .me) (sound .caller) in
+      let e = run-end (configuration t) k c (home .0) in
+      (omega (arith, shape (sound .known) .sums k), ltb-true _ maxSerial good)

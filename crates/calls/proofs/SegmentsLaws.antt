@@ -1,24 +1,17 @@
 -- What the caller sees of a segment, and of one that its designator holds.
-use mathlib.Core.Path.{_≡_, refl, sym, ap, _∙_}
-use mathlib.Core.Bool.{Bool, true, false, cond, _&&_, not}
+use mathlib.Core.Path.{_≡_, refl, _∙_}
+use mathlib.Core.Bool.{Bool, true, false, cond}
 use mathlib.Core.List.{List, _∷_}
 use Prim.Native.Nat.{ℕ, _+_, _*_, _≤_, _<_}
 use native.Mathlib.Omega.{arith}
-use lib.Dec.{leb, ltb, eqb}
-use borrow.Author.Tests.{ltb-true, leb-false}
-use Rattle.rules.specs.Words.{lowest}
-use Rattle.rules.specs.Layout.{maxSlots, maxSerial, cellWords, cellSlotsWord, Kind, process, segment, file, configuration, slots, cells, cellSlots, firstSlot, cellOf, at, offset, rd, live, serial, owner, group, bits, entries, heldAt, usedAt}
-use Rattle.rules.specs.Seid.{class, seid, isSeid}
+use lib.Dec.{leb, eqb}
+use Rattle.rules.specs.Layout.{maxSlots, maxSerial, cellWords, cellSlotsWord, Kind, process, segment, file, configuration, slots, cells, at, offset, rd, live, serial, owner, group, entries, usedAt}
+use Rattle.rules.specs.Seid.{class, seid}
 use Rattle.rules.specs.Rule.{Word, _≔_, write}
-use Rattle.rules.specs.Find.{freeSlot}
-use Rattle.laws.proofs.Tests.{and-right}
-use Rattle.laws.proofs.Search.{lowest-hit}
-use Rattle.laws.proofs.Cells.{run-end}
-use Rattle.laws.proofs.Shape.{in-run}
 use Rattle.ids.proofs.Parts.{seid-fits}
 use Rattle.ids.specs.Seid.{segmentOf, seidOf}
 use Rattle.ids.specs.declared.SegmentIs.{SegmentIs}
-use Rattle.ids.specs.declared.SegmentIs.the-variants.{Is, Not}
+use Rattle.ids.specs.declared.SegmentIs.the-variants.{Is}
 use Rattle.calls.specs.declared.World.{World}
 use Rattle.calls.specs.declared.segments.Segment.{Segment}
 use Rattle.calls.specs.World.{rdBy, Known, Sound, firstBy}
@@ -35,9 +28,6 @@ after false n f = f refl
 
 -- s is what designator a of the caller holds; y is its number
 module _ {t : List ℕ} {w : World} (sound : Sound t w) (a : ℕ) {y s : ℕ} (same : y ≡ a) (read : s ≡ rdBy w t (at process (w .me) (40 + 2 * y))) where
-  pub held-word : s ≡ rd (configuration t) t (at process (w .me) (heldAt segment a))
-  held-word = read ∙ see (sound .known) (at process (w .me) (40 + 2 * y)) ∙ rw same
-
   -- where it is filled, what is seen is the segment that it names
   pub seen-held : {i : SegmentIs} {g : Segment} → i ≡ segmentOf (w .segments) s → g ≡ seenSegment (configuration t) (rd (configuration t) t) (w .me) i
       → leb entries a ≡ false → eqb s 0 ≡ false → g ≡ seenSegment (configuration t) (rd (configuration t) t) (w .me) (Is (record { 0 = s }))
@@ -49,25 +39,6 @@ pub used-word : {t : List ℕ} {w : World} → Known t w → (p a : ℕ) {y u : 
 used-word k p a {y} same read = read ∙ see k (at process p (41 + 2 * y)) ∙ rw same
 
 -- ---- a new object's slot and its seid
-
--- the slot found in the run of the caller's cell is the table's, and can be used once more
-pub new-slot : {t : List ℕ} {w : World} → Sound t w → (k : Kind) {g end : ℕ}
-    → g ≡ freeSlot (configuration t) (rd (configuration t) t) k (cellOf (configuration t) process (w .me))
-    → end ≡ firstSlot (configuration t) k (cellOf (configuration t) process (w .me)) + cellSlots (configuration t) k (cellOf (configuration t) process (w .me))
-    → leb end g ≡ false → (g < slots (configuration t) k) × (rd (configuration t) t (at k g serial) < maxSerial)
-unfolding freeSlot
-new-slot {t} {w} sound k {g} {end} ge ee l =
-    let h : List ℕ = configuration t in
-    let c : ℕ = cellOf h process (w .me) in
-    let f : ℕ → Bool = λ i. eqb (rd h t (at k i live)) 0 && ltb (rd h t (at k i serial)) maxSerial in
-    let in-cells : c < cells h = in-run h (shape (sound .known)) process (w .me) (sound .caller) .0 in
-    let below : g < end = leb-false end g l in
-    let within : lowest f (cellSlots h k c) (firstSlot h k c) < firstSlot h k c + cellSlots h k c = omega arith in
-    let hit = lowest-hit f (cellSlots h k c) (firstSlot h k c) within in
-    let again : f g ≡ true = rw ge hit in (
-      omega (arith, run-end h k c in-cells, shape (sound .known) .sums k),
-      ltb-true _ maxSerial (and-right (eqb (rd h t (at k g live)) 0) (ltb (rd h t (at k g serial)) maxSerial) again),
-    )
 
 class-small : (k : Kind) → class k < 256
 class-small process = omega arith

@@ -1,13 +1,15 @@
 -- "Find" and "own" past the identifier's form, and words that several calls write.
-use mathlib.Core.Bool.{Bool, cond, not}
+use mathlib.Core.Bool.{Bool, cond, _&&_, _||_, not}
 use mathlib.Core.List.{List}
 use Prim.Native.Nat.{ℕ, _+_}
 use lib.Dec.{eqb}
 use lib.ListN.{getD, set}
-use Rattle.rules.specs.Layout.{Kind, process, Addr, at, owner, opens}
+use Rattle.rules.specs.Layout.{Kind, process, file, Addr, at, owner, opens}
 use Rattle.rules.specs.Seid.{indexOf, present}
-use Rattle.rules.specs.Errors.{XnoAcc, XnoOwner}
-use Rattle.rules.specs.Find.{absent, inOwnCell}
+use Rattle.rules.specs.Modes.{validModes, reads, writes}
+use Rattle.rules.specs.Rights.{lacks}
+use Rattle.rules.specs.Errors.{XbadModes, XnoAcc, XnoOwner, XdapViol}
+use Rattle.rules.specs.Find.{absent, inOwnCell, flowsToCaller, rightsAt}
 
 -- the number that refuses: the level forbids, not present; then the rest
 unfoldable pub findPast : (Addr → ℕ) → Kind → ℕ → Bool → ℕ → ℕ
@@ -17,6 +19,13 @@ findPast r k s forbidden rest = cond forbidden XnoAcc (cond (not (present r k s)
 unfoldable pub ownPast : List ℕ → (Addr → ℕ) → ℕ → Kind → ℕ → ℕ → ℕ
 ownPast h r p k s rest =
     findPast r k s (not (inOwnCell h p k s)) (cond (not (eqb (r (at k (indexOf s) owner)) (r (at process p owner)))) XnoOwner rest)
+
+-- what refuses an open before the search for clashes: the modes, "find", and the owner bits
+unfoldable pub openPast : List ℕ → (Addr → ℕ) → ℕ → ℕ → ℕ → ℕ
+openPast h r p s b =
+    cond (not (validModes b)) XbadModes
+    (findPast r file s (not (flowsToCaller h p file s) || (writes b && not (inOwnCell h p file s)))
+    (cond (lacks (rightsAt r p file (indexOf s)) (reads b) (writes b)) XdapViol 0))
 
 -- four words stored from a place on
 unfoldable pub fourAt : List ℕ → ℕ → ℕ → ℕ → ℕ → ℕ → List ℕ

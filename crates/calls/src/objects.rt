@@ -239,6 +239,15 @@ pub(crate) fn make(
     put_four(t, from + BITS, bits, x, y, 1);
 }
 
+// The entry at a place holds s, used so.
+pub(crate) fn enter(t: &mut [u32], entry: usize, s: u32, u: u32)
+    requires { ⌜ entry < 2 ^ 44 ⌝ }
+    ensures { λ _. ⌜ now (t .exit) ≡ set (set (now (t .entry)) entry s) (entry + 1) u ⌝ }
+{
+    put(t, entry, s);
+    put(t, entry + 1, u);
+}
+
 // The entry at a place comes to hold s, used so. Where the object is of the holder's cell, that has one holder more.
 pub(crate) fn take_up(t: &mut [u32], entry: usize, s: u32, u: u32, object: usize, own: bool)
     requires { ⌜ (entry < 2 ^ 44) × (object < 2 ^ 44) × (getD (now t) (object + opens) 0 + 1 < 2 ^ 32) ⌝ }

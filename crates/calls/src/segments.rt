@@ -2,8 +2,7 @@
 ghost use mathlib.Core.Path.{_≡_};
 ghost use mathlib.Core.List.{List};
 ghost use Prim.Native.Nat.{ℕ, _<_};
-ghost use lib.ListN.{set};
-ghost use Rattle.rules.specs.Layout.{process, segment, at, heldAt, usedAt, configuration, cellOf, flowMatrix, rd};
+ghost use Rattle.rules.specs.Layout.{process, segment, configuration, cellOf, flowMatrix, rd};
 ghost use Rattle.rules.specs.Rule.{write};
 ghost use Rattle.rules.specs.Find.{givenUp, freeEntry};
 ghost use Rattle.rules.specs.WellFormed.{segmentSize};
@@ -12,7 +11,7 @@ ghost use Rattle.rules.specs.Call04.{alreadyHeld, rendezvous};
 ghost use Rattle.rules.specs.Call05.{releaseSegment};
 ghost use Rattle.rules.specs.Call06.{setAccess};
 ghost use Rattle.rules.specs.Call18.{accessOf};
-ghost use Rattle.calls.specs.World.{offsetBy, Known, Sound};
+ghost use Rattle.calls.specs.World.{Known, Sound};
 ghost use Rattle.calls.specs.Left.{Left};
 ghost use Rattle.calls.specs.Seen.{seenSegment};
 use crate::Answer;
@@ -28,6 +27,7 @@ use crate::base::refused;
 use crate::base::segment_base;
 use crate::base::segment_cell;
 use crate::base::segment_place;
+use crate::objects::enter;
 use crate::objects::free_slot;
 use crate::objects::make;
 use crate::objects::my_place;
@@ -114,15 +114,6 @@ fn free_designator(t: &[u32], w: World) -> u32
     empty_at(t, my_place(w, DESIGNATORS))
 }
 
-// The caller's designator d comes to hold s, used so.
-fn enter(t: &mut [u32], w: World, d: u32, s: u32, u: u32)
-    ensures { λ _. ⌜ now (t .exit) ≡ set (set (now (t .entry)) (offsetBy w (at process (w .me) (heldAt segment d))) s) (offsetBy w (at process (w .me) (usedAt segment d))) u ⌝ }
-{
-    let me = w.me;
-    put_process(t, w, me, DESIGNATORS + 2 * wide(d), s);
-    put_process(t, w, me, DESIGNATORS + 1 + 2 * wide(d), u);
-}
-
 // The caller holds this seid.
 fn already_held(t: &[u32], w: World, s: u32) -> bool
     requires { ⌜ Known (now t) w ⌝ }
@@ -150,7 +141,9 @@ pub(crate) fn build_segment(t: &mut [u32], w: World, a: u32, b: u32, c: u32) -> 
     requires { ⌜ Sound (now t) w ⌝ }
     ensures { λ r. ⌜ ((buffer : List ℕ) → Left (now (t .entry)) (λ h q. buildSegment h q (w .me) a b c buffer) r (now (t .exit))) ⌝ }
 {
+    let me = w.me;
     let d = free_designator(t, w);
+    let entry = process_place(w, me, DESIGNATORS + 2 * wide(d));
     let g = free_slot(t, w, segment_base(w), SEGMENT_WORDS, CELL_SEGMENTS);
     let end = run_end(t, w, CELL_SEGMENTS);
     let e = first(
@@ -169,14 +162,13 @@ pub(crate) fn build_segment(t: &mut [u32], w: World, a: u32, b: u32, c: u32) -> 
     if e != XOK {
         return refused(e);
     }
-    let me = w.me;
     let serial = in_segment(t, w, g, SERIAL) + 1;
     let s = seid(SEGMENT_CLASS, g, serial);
     let owner = in_process(t, w, me, OWNER);
     let group = in_process(t, w, me, GROUP);
     make(t, segment_place(w, g, LIVE), serial, owner, group, b, c, a);
     let used = access(may_read(b / 64), may_write(b / 64));
-    enter(t, w, d, s, used);
+    enter(t, entry, s, used);
     answered(s, d)
 }
 

@@ -4,7 +4,6 @@ use Rattle.rules.specs.Layout.{file}
 use Rattle.calls.proofs.Worlds.{files-is}
 use Rattle.calls.proofs.Named.{found-file, no-file}
 use Rattle.calls.proofs.ProcessesLaws.{file-word, drop-some, drop-none}
-use native.Mathlib.Omega.{arith}
 use borrow.Author.Needs.{needs}
 use Rattle.calls.proofs.processes.drop_descriptor.Statement.{statement}
 use Rattle.calls.proofs.processes.drop_descriptor.Tie as tie

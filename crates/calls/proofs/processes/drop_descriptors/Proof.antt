@@ -1,6 +1,6 @@
 -- `processes::drop_descriptors` meets its contract: so many descriptors are given up as turns were made.
 use Prim.Native.Nat.{_≤_, _-_}
-use mathlib.Core.Path.{_≡_, refl, ap, _∙_}
+use mathlib.Core.Path.{_≡_, ap, _∙_}
 use lib.ListN.{length}
 use Rattle.rules.specs.Layout.{configuration, rd, entries, file}
 use Rattle.rules.specs.Rule.{write}

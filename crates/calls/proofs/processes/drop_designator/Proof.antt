@@ -4,7 +4,6 @@ use Rattle.rules.specs.Layout.{segment}
 use Rattle.calls.proofs.Worlds.{segments-is}
 use Rattle.calls.proofs.Named.{found-segment, no-segment}
 use Rattle.calls.proofs.ProcessesLaws.{segment-word, drop-some, drop-none}
-use native.Mathlib.Omega.{arith}
 use borrow.Author.Needs.{needs}
 use Rattle.calls.proofs.processes.drop_designator.Statement.{statement}
 use Rattle.calls.proofs.processes.drop_designator.Tie as tie

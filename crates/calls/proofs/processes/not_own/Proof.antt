@@ -1,7 +1,6 @@
 -- `processes::not_own` meets its contract: the tests that it makes are the rule's.
 use Rattle.rules.specs.Layout.{process}
 use Rattle.calls.proofs.Finds.{present-told, own-told, own-number}
-use native.Mathlib.Omega.{arith}
 use borrow.Author.Needs.{needs}
 use Rattle.calls.proofs.processes.not_own.Statement.{statement}
 use Rattle.calls.proofs.processes.not_own.Tie as tie

@@ -1,23 +1,21 @@
 -- `processes::release_process` meets its contract: the rule's refusals in order, and the process released.
-use mathlib.Core.Path.{_≡_, refl, sym, ap, _∙_}
-use mathlib.Core.Bool.{Bool, true, false, cond, _&&_, _||_, not}
-use mathlib.Core.List.{List, [], _∷_, _++_}
-use Prim.Native.Nat.{ℕ, _+_, _*_, _/_, _<_}
-use lib.Dec.{leb, ltb, eqb}
-use lib.ListN.{set}
-use Rattle.rules.specs.Rule.{firstRefusal, _≔_, write}
+use mathlib.Core.Path.{_≡_, sym, _∙_}
+use mathlib.Core.Bool.{true, false, not}
+use mathlib.Core.List.{List, []}
+use Prim.Native.Nat.{ℕ, _<_}
+use Rattle.rules.specs.Rule.{firstRefusal, write}
 use Rattle.calls.specs.declared.World.{World}
-use Rattle.calls.specs.Left.{said, ruleAt}
+use Rattle.calls.specs.Left.{ruleAt}
 use Rattle.calls.proofs.Leaves.{left-refused, left-done}
 use borrow.Author.Tests.{eqb-true}
-use Rattle.rules.specs.Layout.{process, segment, file, configuration, slots, cellOf, at, rd, entries}
+use Rattle.rules.specs.Layout.{process, segment, file, configuration, slots, cellOf, rd, entries}
 use Rattle.rules.specs.Seid.{class, indexOf, isSeid, orSelf}
 use Rattle.rules.specs.Find.{inOwnCell}
 use Rattle.rules.specs.Call02.{released, releaseProcess}
 use Rattle.laws.proofs.Tests.{passed}
 use Rattle.laws.proofs.Seids.{is-formed}
 use Rattle.laws.proofs.Shape.{descriptor, designator}
-use Rattle.calls.specs.World.{Known, Sound}
+use Rattle.calls.specs.World.{Sound}
 use Rattle.calls.specs.Finds.{ownPast}
 use Rattle.calls.specs.Holding.{Holding}
 use Rattle.calls.proofs.Worlds.{home-is, processes-is}

@@ -1,8 +1,8 @@
 -- `processes::spawn` meets its contract: the rule's refusals in order, and the new process.
 use mathlib.Core.Path.{_≡_, refl, sym, ap, _∙_}
-use mathlib.Core.Bool.{Bool, true, false, cond, _&&_, _||_, not}
-use mathlib.Core.List.{List, [], _∷_, _++_}
-use Prim.Native.Nat.{ℕ, _+_, _*_, _/_, _<_}
+use mathlib.Core.Bool.{cond, _&&_, _||_, not}
+use mathlib.Core.List.{List, [], _∷_}
+use Prim.Native.Nat.{ℕ, _+_, _<_}
 use lib.Dec.{leb, ltb, eqb}
 use lib.ListN.{set}
 use Rattle.rules.specs.Rule.{firstRefusal, _≔_, write}
@@ -14,12 +14,12 @@ use Rattle.rules.specs.Seid.{class, seid, seidAt, orSelf}
 use Rattle.rules.specs.Find.{freeSlot}
 use Rattle.rules.specs.Call01.{spawn}
 use Rattle.ids.specs.Seid.{seidOf}
-use Rattle.calls.specs.World.{offsetBy, rdBy, Known, Sound}
+use Rattle.calls.specs.World.{offsetBy, rdBy, Sound}
 use Rattle.calls.specs.Finds.{fourAt}
 use Rattle.calls.proofs.Worlds.{see, spot}
 use Rattle.calls.proofs.Entries.{not-chosen}
-use Rattle.calls.proofs.Room.{slot-told, end-told}
-use Rattle.calls.proofs.SegmentsLaws.{new-slot, made-seid, four-is, searching}
+use Rattle.calls.proofs.Room.{slot-told, end-told, free-ok}
+use Rattle.calls.proofs.SegmentsLaws.{made-seid, four-is, searching}
 use native.Mathlib.Omega.{arith}
 use borrow.Author.Needs.{needs}
 use Rattle.calls.proofs.processes.spawn.Statement.{statement}
@@ -41,7 +41,7 @@ module _ {t : List ℕ} {w : World} (sound : Sound t w) (a b : ℕ) (buffer : Li
   room z =
       let p = not-chosen (ltb maxOwner a || ltb maxOwner b) 4 x₂ (omega arith) (sym e₃ ∙ z) in
       let p′ = not-chosen (not (eqb u 0) && (not (eqb a u) || not (eqb b v))) 15 x₁ (omega arith) (sym e₂ ∙ p .1) in
-      new-slot sound process qe ende (not-chosen (leb end q) 27 0 (omega arith) (sym e₁ ∙ p′ .1) .0)
+      free-ok sound process qe ende (not-chosen (leb end q) 27 0 (omega arith) (sym e₁ ∙ p′ .1) .0)
 
   -- the seid answered and the words written are the rule's; x is the slot's serial
   module _ (z : e ≡ 0) {x : ℕ} (xe : x ≡ rdBy w t (at process q serial)) where

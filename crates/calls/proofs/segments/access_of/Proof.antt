@@ -1,14 +1,13 @@
 -- `segments::access_of` meets its contract: the rule's refusals in order, and the stored access limited by today's bits.
 use mathlib.Core.Path.{_≡_, refl, sym, ap, _∙_}
-use mathlib.Core.Bool.{Bool, true, false, cond, _&&_, not}
+use mathlib.Core.Bool.{Bool, cond, _&&_, not}
 use mathlib.Core.List.{List}
-use Prim.Native.Nat.{ℕ, _+_, _*_, _<_}
+use Prim.Native.Nat.{ℕ, _+_, _*_}
 use lib.Dec.{leb, eqb}
-use lib.ListN.{set}
-use Rattle.rules.specs.Layout.{process, segment, at, configuration, rd, entries, heldAt, usedAt}
-use Rattle.rules.specs.Rule.{firstRefusal, write}
+use Rattle.rules.specs.Layout.{process, at, configuration, rd, entries}
+use Rattle.rules.specs.Rule.{firstRefusal}
 use Rattle.calls.specs.declared.World.{World}
-use Rattle.calls.specs.World.{offsetBy, rdBy, Known, Sound}
+use Rattle.calls.specs.World.{rdBy, Sound}
 use Rattle.calls.specs.Left.{said, ruleAt}
 use Rattle.rules.specs.Rights.{mayRead, mayWrite, asksRead, asksWrite, access}
 use Rattle.rules.specs.Call18.{limited, accessOf}
@@ -18,7 +17,8 @@ use Rattle.calls.specs.declared.segments.Segment.{Segment}
 use Rattle.calls.specs.Seen.{seenSegment}
 use Rattle.calls.proofs.Leaves.{left-refused, left-done}
 use Rattle.calls.proofs.Entries.{not-chosen}
-use Rattle.calls.proofs.SegmentsLaws.{after, held-word, seen-held, used-word}
+use Rattle.calls.proofs.ProcessesLaws.{segment-word}
+use Rattle.calls.proofs.SegmentsLaws.{after, seen-held, used-word}
 use native.Mathlib.Omega.{arith}
 use borrow.Author.Needs.{needs}
 use Rattle.calls.proofs.segments.access_of.Statement.{statement}
@@ -33,7 +33,7 @@ module _ {t : List ℕ} {w : World} (sound : Sound t w) (a : ℕ) (buffer : List
   number : e ≡ firstRefusal (ruleAt t (λ h q. accessOf h q (w .me) a buffer) .refusals)
   unfolding accessOf
   number =
-      rw (← held-word sound a ya sr, e₃, e₂, e₁, za)
+      rw (← segment-word (sound .known) (w .me) a ya sr, e₃, e₂, e₁, za)
       (after (leb entries a) 8 (λ l. after (eqb s 0) 9 (λ q. rw (seen-held sound a ya sr ie ge l q))))
 
   -- where there is none, the access that it finds is the rule's; u is how the designator is used
@@ -45,7 +45,7 @@ module _ {t : List ℕ} {w : World} (sound : Sound t w) (a : ℕ) (buffer : List
         let p = not-chosen (leb entries z) 8 x₂ (omega arith) (sym e₃ ∙ none) in
         let q = not-chosen (eqb s 0) 9 x₁ (omega arith) (sym e₂ ∙ p .1) in
         let f = seen-held sound a ya sr ie ge (rw za at (p .0)) (q .0) in
-        rw (xe, are, mre, awe, mwe, f, ← held-word sound a ya sr, used-word (sound .known) (w .me) a va ur)
+        rw (xe, are, mre, awe, mwe, f, ← segment-word (sound .known) (w .me) a ya sr, used-word (sound .known) (w .me) a va ur)
 
 wide-requires : tie.Need-wide-requires
 wide-requires c κs = search needs

@@ -9,7 +9,7 @@ use Rattle.rules.specs.Rule.{firstRefusal, _≔_, write}
 use Rattle.calls.specs.declared.World.{World}
 use Rattle.calls.specs.Left.{said, ruleAt}
 use Rattle.calls.proofs.Leaves.{left-refused, left-done}
-use Rattle.rules.specs.Layout.{maxBits, maxSerial, process, segment, configuration, slots, cellSlots, firstSlot, cellOf, at, rd, serial, owner, group, entries, heldAt, usedAt}
+use Rattle.rules.specs.Layout.{maxBits, maxSerial, process, segment, configuration, slots, cellSlots, firstSlot, cellOf, at, offset, rd, serial, owner, group, entries, heldAt}
 use Rattle.rules.specs.Seid.{class, seid}
 use Rattle.rules.specs.Rights.{mayRead, mayWrite, access}
 use Rattle.rules.specs.WellFormed.{segmentSize}
@@ -19,10 +19,11 @@ use Rattle.ids.specs.Seid.{seidOf}
 use Rattle.calls.specs.World.{offsetBy, rdBy, Known, Sound}
 use Rattle.calls.specs.Finds.{madeAt}
 use Rattle.calls.proofs.Worlds.{see, spot}
+use Rattle.calls.proofs.Given.{a-segment}
 use Rattle.calls.proofs.Entries.{not-chosen}
-use Rattle.calls.proofs.Room.{slot-told, end-told}
-use Rattle.calls.proofs.Holders.{made-is}
-use Rattle.calls.proofs.SegmentsLaws.{new-slot, made-seid, searching}
+use Rattle.calls.proofs.Room.{slot-told, end-told, free-ok}
+use Rattle.calls.proofs.Holders.{made-is, entered-is}
+use Rattle.calls.proofs.SegmentsLaws.{made-seid, searching}
 use native.Mathlib.Omega.{arith}
 use borrow.Author.Needs.{needs}
 use Rattle.calls.proofs.segments.build_segment.Statement.{statement}
@@ -46,7 +47,7 @@ module _ {t : List ℕ} {w : World} (sound : Sound t w) (a b c : ℕ) (buffer : 
       let p = not-chosen (ltb maxBits b || ltb 1 c) 4 x₃ (omega arith) (sym e₄ ∙ z) in
       let p₁ = not-chosen (not sz) 6 x₂ (omega arith) (sym e₃ ∙ p .1) in
       let p₂ = not-chosen (leb entries y) 25 x₁ (omega arith) (sym e₂ ∙ p₁ .1) in
-      new-slot sound segment ge ende (not-chosen (leb end g) 26 0 (omega arith) (sym e₁ ∙ p₂ .1) .0)
+      free-ok sound segment ge ende (not-chosen (leb end g) 26 0 (omega arith) (sym e₁ ∙ p₂ .1) .0)
 
   -- the answer and the words written are the rule's; x is the slot's serial, s the seid
   module _ (z : e ≡ 0) {x s : ℕ} (xe : x ≡ rdBy w t (at segment g serial)) (se : s ≡ seidOf (class segment) g (x + 1)) where
@@ -54,37 +55,52 @@ module _ {t : List ℕ} {w : World} (sound : Sound t w) (a b c : ℕ) (buffer : 
     unfolding buildSegment
     result = rw (made-seid sound segment (room z) xe se .1, ge, de)
 
-    words : {u v place n : ℕ} {mr mw : Bool} {t₁ t₂ : List ℕ} → u ≡ rdBy w t (at process (w .me) owner) → v ≡ rdBy w t (at process (w .me) group)
-        → place ≡ offsetBy w (at segment g 0) → t₁ ≡ madeAt t place (x + 1) u v b c a → mr ≡ mayRead (b / 64) → mw ≡ mayWrite (b / 64) → n ≡ access mr mw
-        → t₂ ≡ set (set t₁ (offsetBy w (at process (w .me) (heldAt segment d))) s) (offsetBy w (at process (w .me) (usedAt segment d))) n
+    words : {u v place n entry y′ : ℕ} {mr mw : Bool} {t₁ t₂ : List ℕ} → y′ ≡ d → entry ≡ offsetBy w (at process (w .me) (40 + 2 * y′))
+        → u ≡ rdBy w t (at process (w .me) owner) → v ≡ rdBy w t (at process (w .me) group) → place ≡ offsetBy w (at segment g 0)
+        → t₁ ≡ madeAt t place (x + 1) u v b c a → mr ≡ mayRead (b / 64) → mw ≡ mayWrite (b / 64) → n ≡ access mr mw
+        → t₂ ≡ set (set t₁ entry s) (entry + 1) n
         → t₂ ≡ write (configuration t) t (ruleAt t (λ h r. buildSegment h r (w .me) a b c buffer) .effects .words)
     unfolding buildSegment
-    words {u} {v} {place} {n} {mr} {mw} {t₁} {t₂} ue ve le f₁ mre mwe ne f₂ =
+    words {u} {v} {place} {n} {entry} {y′} {mr} {mw} {t₁} {t₂} ye′ ee ue ve le f₁ mre mwe ne f₂ =
         let h : List ℕ = configuration t in
         let k : Known t w = sound .known in
         let xr : x ≡ rd h t (at segment g serial) = xe ∙ see k (at segment g serial) in
         let sr = made-seid sound segment (room z) xe se .1 in
+        let er : entry ≡ offset h (at process (w .me) (heldAt segment d)) = ee ∙ spot k (at process (w .me) (40 + 2 * y′)) ∙ rw ye′ in
+        let made : t₁ ≡ madeAt t (offset h (at segment g 0)) (x + 1) u v b c a = f₁ ∙ rw (le, spot k (at segment g 0)) in
+        let filled : t₂ ≡ write h t₁ (entered segment (w .me) d s n) = f₂ ∙ rw er (sym (entered-is h t₁ (w .me) d s n [] a-segment)) in
         rw (← ge, ← de, ← sr, ← mwe, ← mre, ← ne, ← xr, ← see k (at process (w .me) owner), ← see k (at process (w .me) group), ← ue, ← ve)
-        (f₂ ∙ rw (f₁, le, spot k (at segment g 0), spot k (at process (w .me) (heldAt segment d)), spot k (at process (w .me) (usedAt segment d)))
-        (sym (made-is h t segment g (x + 1) u v b c a (entered segment (w .me) d s n))))
+        (filled ∙ rw made (sym (made-is h t segment g (x + 1) u v b c a (entered segment (w .me) d s n))))
 
 free-designator-requires : tie.Need-free-designator-requires
 free-designator-requires c κs = search needs
+
+wide-requires : tie.Need-wide-requires
+wide-requires c κs = search needs
+
+mul-process-place : tie.Need-mul-process-place
+mul-process-place c = search needs
+
+add-process-place : tie.Need-add-process-place
+add-process-place c = search needs
+
+process-place-requires : tie.Need-process-place-requires
+process-place-requires c κs = search needs
 
 segment-base-requires : tie.Need-segment-base-requires
 segment-base-requires c κs = search needs
 
 free-slot-requires : tie.Need-free-slot-requires
-free-slot-requires c κs = (searching (c .before .before .before .before .before .pre) segment, (omega arith, omega arith))
+free-slot-requires c κs = (searching (c .before .before .before .before .before .before .before .pre) segment, (omega arith, omega arith))
 
 run-end-requires : tie.Need-run-end-requires
-run-end-requires c κs = searching (c .before .before .before .before .before .before .before .pre) segment
+run-end-requires c κs = searching (c .before .before .before .before .before .before .before .before .before .pre) segment
 
 is-size-requires : tie.Need-is-size-requires
 is-size-requires c κs = search needs
 
-wide-requires : tie.Need-wide-requires
-wide-requires c κs = search needs
+wide-requires-2 : tie.Need-wide-requires-2
+wide-requires-2 c κs = search needs
 
 first-requires : tie.Need-first-requires
 first-requires c κs = search needs
@@ -105,13 +121,13 @@ same-length : tie.Need-same-length
 same-length c = search needs
 
 returns : tie.Need-returns
-returns c = λ buffer. left-refused _ _ (number (c .before .before .before .before .before .before .before .before .before .before .before .before .before .before .before .before .pre) (c .before .before .before .before .before .before .before .before .before .before .before .before .before .before .before .before .args .a) (c .before .before .before .before .before .before .before .before .before .before .before .before .before .before .before .before .args .b) (c .before .before .before .before .before .before .before .before .before .before .before .before .before .before .before .before .args .c) buffer (c .before .before .before .before .before .before .before .before .before .before .before .before .before .free-designator .ensures) (slot-told (c .before .before .before .before .before .before .before .before .before .before .before .before .before .before .before .before .pre .known) segment (c .before .before .before .before .before .before .before .before .before .before .before .segment-base .ensures .0) refl (c .before .before .before .before .before .before .before .before .before .before .free-slot .ensures)) (end-told (c .before .before .before .before .before .before .before .before .before .before .before .before .before .before .before .before .pre .known) segment (c .before .before .before .before .before .before .before .before .run-end .ensures)) (c .before .before .before .before .before .before .before .is-size .ensures) (c .before .before .before .before .before .before .wide .ensures) (c .before .before .before .before .before .first .ensures) (c .before .before .before .before .first2 .ensures) (c .before .before .before .first3 .ensures) (c .before .before .first4 .ensures)) (c .before .if1 .taken) (c .refused .ensures)
+returns c = λ buffer. left-refused _ _ (number (c .before .before .before .before .before .before .before .before .before .before .before .before .before .before .before .before .before .before .pre) (c .before .before .before .before .before .before .before .before .before .before .before .before .before .before .before .before .before .before .args .a) (c .before .before .before .before .before .before .before .before .before .before .before .before .before .before .before .before .before .before .args .b) (c .before .before .before .before .before .before .before .before .before .before .before .before .before .before .before .before .before .before .args .c) buffer (c .before .before .before .before .before .before .before .before .before .before .before .before .before .before .before .free-designator .ensures) (slot-told (c .before .before .before .before .before .before .before .before .before .before .before .before .before .before .before .before .before .before .pre .known) segment (c .before .before .before .before .before .before .before .before .before .before .before .segment-base .ensures .0) refl (c .before .before .before .before .before .before .before .before .before .before .free-slot .ensures)) (end-told (c .before .before .before .before .before .before .before .before .before .before .before .before .before .before .before .before .before .before .pre .known) segment (c .before .before .before .before .before .before .before .before .run-end .ensures)) (c .before .before .before .before .before .before .before .is-size .ensures) (c .before .before .before .before .before .before .wide2 .ensures) (c .before .before .before .before .before .first .ensures) (c .before .before .before .before .first2 .ensures) (c .before .before .before .first3 .ensures) (c .before .before .first4 .ensures)) (c .before .if1 .taken) (c .refused .ensures)
 
 in-segment-requires : tie.Need-in-segment-requires
 in-segment-requires c κs = search needs
 
 add-serial : tie.Need-add-serial
-add-serial c = record { fits = omega (arith, made-seid (c .before .before .before .before .before .before .before .before .before .before .before .before .before .before .before .before .before .pre) segment (room (c .before .before .before .before .before .before .before .before .before .before .before .before .before .before .before .before .before .pre) (c .before .before .before .before .before .before .before .before .before .before .before .before .before .before .before .before .before .args .a) (c .before .before .before .before .before .before .before .before .before .before .before .before .before .before .before .before .before .args .b) (c .before .before .before .before .before .before .before .before .before .before .before .before .before .before .before .before .before .args .c) [] (c .before .before .before .before .before .before .before .before .before .before .before .before .before .before .free-designator .ensures) (slot-told (c .before .before .before .before .before .before .before .before .before .before .before .before .before .before .before .before .before .pre .known) segment (c .before .before .before .before .before .before .before .before .before .before .before .before .segment-base .ensures .0) refl (c .before .before .before .before .before .before .before .before .before .before .before .free-slot .ensures)) (end-told (c .before .before .before .before .before .before .before .before .before .before .before .before .before .before .before .before .before .pre .known) segment (c .before .before .before .before .before .before .before .before .before .run-end .ensures)) (c .before .before .before .before .before .before .before .before .is-size .ensures) (c .before .before .before .before .before .before .before .wide .ensures) (c .before .before .before .before .before .before .first .ensures) (c .before .before .before .before .before .first2 .ensures) (c .before .before .before .before .first3 .ensures) (c .before .before .before .first4 .ensures) (c .before .before .if1 .left)) (c .in-segment .ensures) refl .0) }
+add-serial c = record { fits = omega (arith, made-seid (c .before .before .before .before .before .before .before .before .before .before .before .before .before .before .before .before .before .before .before .pre) segment (room (c .before .before .before .before .before .before .before .before .before .before .before .before .before .before .before .before .before .before .before .pre) (c .before .before .before .before .before .before .before .before .before .before .before .before .before .before .before .before .before .before .before .args .a) (c .before .before .before .before .before .before .before .before .before .before .before .before .before .before .before .before .before .before .before .args .b) (c .before .before .before .before .before .before .before .before .before .before .before .before .before .before .before .before .before .before .before .args .c) [] (c .before .before .before .before .before .before .before .before .before .before .before .before .before .before .before .before .free-designator .ensures) (slot-told (c .before .before .before .before .before .before .before .before .before .before .before .before .before .before .before .before .before .before .before .pre .known) segment (c .before .before .before .before .before .before .before .before .before .before .before .before .segment-base .ensures .0) refl (c .before .before .before .before .before .before .before .before .before .before .before .free-slot .ensures)) (end-told (c .before .before .before .before .before .before .before .before .before .before .before .before .before .before .before .before .before .before .before .pre .known) segment (c .before .before .before .before .before .before .before .before .before .run-end .ensures)) (c .before .before .before .before .before .before .before .before .is-size .ensures) (c .before .before .before .before .before .before .before .wide2 .ensures) (c .before .before .before .before .before .before .first .ensures) (c .before .before .before .before .before .first2 .ensures) (c .before .before .before .before .first3 .ensures) (c .before .before .before .first4 .ensures) (c .before .before .if1 .left)) (c .in-segment .ensures) refl .0) }
 
 seid-requires : tie.Need-seid-requires
 seid-requires c κs = search needs
@@ -138,7 +154,7 @@ access-requires : tie.Need-access-requires
 access-requires c κs = search needs
 
 enter-requires : tie.Need-enter-requires
-enter-requires c κs = search needs
+enter-requires c κs = (c .before .before .before .before .before .before .before .before .before .before .before .before .before .before .before .before .before .before .before .before .before .before .before .before .before .before .before .before .process-place .ensures .1)
 
 answered-requires : tie.Need-answered-requires
 answered-requires c κs = search needs
@@ -148,20 +164,24 @@ same-length-2 c = search needs
 
 returns-2 : tie.Need-returns-2
 unfolding buildSegment
-returns-2 c = λ buffer. left-done _ (λ h r. buildSegment h r _ _ _ _ buffer) (number (c .before .before .before .before .before .before .before .before .before .before .before .before .before .before .before .before .before .before .before .before .before .before .before .before .before .before .before .before .before .before .before .before .before .before .before .pre) (c .before .before .before .before .before .before .before .before .before .before .before .before .before .before .before .before .before .before .before .before .before .before .before .before .before .before .before .before .before .before .before .before .before .before .before .args .a) (c .before .before .before .before .before .before .before .before .before .before .before .before .before .before .before .before .before .before .before .before .before .before .before .before .before .before .before .before .before .before .before .before .before .before .before .args .b) (c .before .before .before .before .before .before .before .before .before .before .before .before .before .before .before .before .before .before .before .before .before .before .before .before .before .before .before .before .before .before .before .before .before .before .before .args .c) buffer (c .before .before .before .before .before .before .before .before .before .before .before .before .before .before .before .before .before .before .before .before .before .before .before .before .before .before .before .before .before .before .before .before .free-designator .ensures) (slot-told (c .before .before .before .before .before .before .before .before .before .before .before .before .before .before .before .before .before .before .before .before .before .before .before .before .before .before .before .before .before .before .before .before .before .before .before .pre .known) segment (c .before .before .before .before .before .before .before .before .before .before .before .before .before .before .before .before .before .before .before .before .before .before .before .before .before .before .before .before .before .before .segment-base .ensures .0) refl (c .before .before .before .before .before .before .before .before .before .before .before .before .before .before .before .before .before .before .before .before .before .before .before .before .before .before .before .before .before .free-slot .ensures)) (end-told (c .before .before .before .before .before .before .before .before .before .before .before .before .before .before .before .before .before .before .before .before .before .before .before .before .before .before .before .before .before .before .before .before .before .before .before .pre .known) segment (c .before .before .before .before .before .before .before .before .before .before .before .before .before .before .before .before .before .before .before .before .before .before .before .before .before .before .before .run-end .ensures)) (c .before .before .before .before .before .before .before .before .before .before .before .before .before .before .before .before .before .before .before .before .before .before .before .before .before .before .is-size .ensures) (c .before .before .before .before .before .before .before .before .before .before .before .before .before .before .before .before .before .before .before .before .before .before .before .before .before .wide .ensures) (c .before .before .before .before .before .before .before .before .before .before .before .before .before .before .before .before .before .before .before .before .before .before .before .before .first .ensures) (c .before .before .before .before .before .before .before .before .before .before .before .before .before .before .before .before .before .before .before .before .before .before .before .first2 .ensures) (c .before .before .before .before .before .before .before .before .before .before .before .before .before .before .before .before .before .before .before .before .before .before .first3 .ensures) (c .before .before .before .before .before .before .before .before .before .before .before .before .before .before .before .before .before .before .before .before .before .first4 .ensures)) (c .before .before .before .before .before .before .before .before .before .before .before .before .before .before .before .before .before .before .before .before .if1 .left)
-    ((c .answered .ensures) ∙ result (c .before .before .before .before .before .before .before .before .before .before .before .before .before .before .before .before .before .before .before .before .before .before .before .before .before .before .before .before .before .before .before .before .before .before .before .pre) (c .before .before .before .before .before .before .before .before .before .before .before .before .before .before .before .before .before .before .before .before .before .before .before .before .before .before .before .before .before .before .before .before .before .before .before .args .a) (c .before .before .before .before .before .before .before .before .before .before .before .before .before .before .before .before .before .before .before .before .before .before .before .before .before .before .before .before .before .before .before .before .before .before .before .args .b) (c .before .before .before .before .before .before .before .before .before .before .before .before .before .before .before .before .before .before .before .before .before .before .before .before .before .before .before .before .before .before .before .before .before .before .before .args .c) buffer (c .before .before .before .before .before .before .before .before .before .before .before .before .before .before .before .before .before .before .before .before .before .before .before .before .before .before .before .before .before .before .before .before .free-designator .ensures) (slot-told (c .before .before .before .before .before .before .before .before .before .before .before .before .before .before .before .before .before .before .before .before .before .before .before .before .before .before .before .before .before .before .before .before .before .before .before .pre .known) segment (c .before .before .before .before .before .before .before .before .before .before .before .before .before .before .before .before .before .before .before .before .before .before .before .before .before .before .before .before .before .before .segment-base .ensures .0) refl (c .before .before .before .before .before .before .before .before .before .before .before .before .before .before .before .before .before .before .before .before .before .before .before .before .before .before .before .before .before .free-slot .ensures)) (end-told (c .before .before .before .before .before .before .before .before .before .before .before .before .before .before .before .before .before .before .before .before .before .before .before .before .before .before .before .before .before .before .before .before .before .before .before .pre .known) segment (c .before .before .before .before .before .before .before .before .before .before .before .before .before .before .before .before .before .before .before .before .before .before .before .before .before .before .before .run-end .ensures)) (c .before .before .before .before .before .before .before .before .before .before .before .before .before .before .before .before .before .before .before .before .before .before .before .before .before .before .is-size .ensures) (c .before .before .before .before .before .before .before .before .before .before .before .before .before .before .before .before .before .before .before .before .before .before .before .before .before .wide .ensures) (c .before .before .before .before .before .before .before .before .before .before .before .before .before .before .before .before .before .before .before .before .before .before .before .before .first .ensures) (c .before .before .before .before .before .before .before .before .before .before .before .before .before .before .before .before .before .before .before .before .before .before .before .first2 .ensures) (c .before .before .before .before .before .before .before .before .before .before .before .before .before .before .before .before .before .before .before .before .before .before .first3 .ensures) (c .before .before .before .before .before .before .before .before .before .before .before .before .before .before .before .before .before .before .before .before .before .first4 .ensures) (c .before .before .before .before .before .before .before .before .before .before .before .before .before .before .before .before .before .before .before .before .if1 .left) (c .before .before .before .before .before .before .before .before .before .before .before .before .before .before .before .before .before .before .in-segment .ensures) (c .before .before .before .before .before .before .before .before .before .before .before .before .before .before .before .before .before .seid .ensures))
-    (words (c .before .before .before .before .before .before .before .before .before .before .before .before .before .before .before .before .before .before .before .before .before .before .before .before .before .before .before .before .before .before .before .before .before .before .before .pre) (c .before .before .before .before .before .before .before .before .before .before .before .before .before .before .before .before .before .before .before .before .before .before .before .before .before .before .before .before .before .before .before .before .before .before .before .args .a) (c .before .before .before .before .before .before .before .before .before .before .before .before .before .before .before .before .before .before .before .before .before .before .before .before .before .before .before .before .before .before .before .before .before .before .before .args .b) (c .before .before .before .before .before .before .before .before .before .before .before .before .before .before .before .before .before .before .before .before .before .before .before .before .before .before .before .before .before .before .before .before .before .before .before .args .c) buffer (c .before .before .before .before .before .before .before .before .before .before .before .before .before .before .before .before .before .before .before .before .before .before .before .before .before .before .before .before .before .before .before .before .free-designator .ensures) (slot-told (c .before .before .before .before .before .before .before .before .before .before .before .before .before .before .before .before .before .before .before .before .before .before .before .before .before .before .before .before .before .before .before .before .before .before .before .pre .known) segment (c .before .before .before .before .before .before .before .before .before .before .before .before .before .before .before .before .before .before .before .before .before .before .before .before .before .before .before .before .before .before .segment-base .ensures .0) refl (c .before .before .before .before .before .before .before .before .before .before .before .before .before .before .before .before .before .before .before .before .before .before .before .before .before .before .before .before .before .free-slot .ensures)) (end-told (c .before .before .before .before .before .before .before .before .before .before .before .before .before .before .before .before .before .before .before .before .before .before .before .before .before .before .before .before .before .before .before .before .before .before .before .pre .known) segment (c .before .before .before .before .before .before .before .before .before .before .before .before .before .before .before .before .before .before .before .before .before .before .before .before .before .before .before .run-end .ensures)) (c .before .before .before .before .before .before .before .before .before .before .before .before .before .before .before .before .before .before .before .before .before .before .before .before .before .before .is-size .ensures) (c .before .before .before .before .before .before .before .before .before .before .before .before .before .before .before .before .before .before .before .before .before .before .before .before .before .wide .ensures) (c .before .before .before .before .before .before .before .before .before .before .before .before .before .before .before .before .before .before .before .before .before .before .before .before .first .ensures) (c .before .before .before .before .before .before .before .before .before .before .before .before .before .before .before .before .before .before .before .before .before .before .before .first2 .ensures) (c .before .before .before .before .before .before .before .before .before .before .before .before .before .before .before .before .before .before .before .before .before .before .first3 .ensures) (c .before .before .before .before .before .before .before .before .before .before .before .before .before .before .before .before .before .before .before .before .before .first4 .ensures) (c .before .before .before .before .before .before .before .before .before .before .before .before .before .before .before .before .before .before .before .before .if1 .left) (c .before .before .before .before .before .before .before .before .before .before .before .before .before .before .before .before .before .before .in-segment .ensures) (c .before .before .before .before .before .before .before .before .before .before .before .before .before .before .before .before .before .seid .ensures) (c .before .before .before .before .before .before .before .before .before .before .before .before .before .before .before .in-process .ensures) (c .before .before .before .before .before .before .before .before .before .before .before .before .before .in-process2 .ensures) (c .before .before .before .before .before .before .before .before .before .before .before .segment-place .ensures .0) (c .before .before .before .before .before .before .before .before .before .before .make .ensures) (c .before .before .before .before .before .before .before .may-read .ensures) (c .before .before .before .before .before .before .may-write .ensures) (c .before .before .before .before .before .access .ensures) (c .before .before .before .enter .ensures))
+returns-2 c = λ buffer. left-done _ (λ h r. buildSegment h r _ _ _ _ buffer) (number (c .before .before .before .before .before .before .before .before .before .before .before .before .before .before .before .before .before .before .before .before .before .before .before .before .before .before .before .before .before .before .before .before .before .before .before .before .before .pre) (c .before .before .before .before .before .before .before .before .before .before .before .before .before .before .before .before .before .before .before .before .before .before .before .before .before .before .before .before .before .before .before .before .before .before .before .before .before .args .a) (c .before .before .before .before .before .before .before .before .before .before .before .before .before .before .before .before .before .before .before .before .before .before .before .before .before .before .before .before .before .before .before .before .before .before .before .before .before .args .b) (c .before .before .before .before .before .before .before .before .before .before .before .before .before .before .before .before .before .before .before .before .before .before .before .before .before .before .before .before .before .before .before .before .before .before .before .before .before .args .c) buffer (c .before .before .before .before .before .before .before .before .before .before .before .before .before .before .before .before .before .before .before .before .before .before .before .before .before .before .before .before .before .before .before .before .before .before .free-designator .ensures) (slot-told (c .before .before .before .before .before .before .before .before .before .before .before .before .before .before .before .before .before .before .before .before .before .before .before .before .before .before .before .before .before .before .before .before .before .before .before .before .before .pre .known) segment (c .before .before .before .before .before .before .before .before .before .before .before .before .before .before .before .before .before .before .before .before .before .before .before .before .before .before .before .before .before .before .segment-base .ensures .0) refl (c .before .before .before .before .before .before .before .before .before .before .before .before .before .before .before .before .before .before .before .before .before .before .before .before .before .before .before .before .before .free-slot .ensures)) (end-told (c .before .before .before .before .before .before .before .before .before .before .before .before .before .before .before .before .before .before .before .before .before .before .before .before .before .before .before .before .before .before .before .before .before .before .before .before .before .pre .known) segment (c .before .before .before .before .before .before .before .before .before .before .before .before .before .before .before .before .before .before .before .before .before .before .before .before .before .before .before .run-end .ensures)) (c .before .before .before .before .before .before .before .before .before .before .before .before .before .before .before .before .before .before .before .before .before .before .before .before .before .before .is-size .ensures) (c .before .before .before .before .before .before .before .before .before .before .before .before .before .before .before .before .before .before .before .before .before .before .before .before .before .wide2 .ensures) (c .before .before .before .before .before .before .before .before .before .before .before .before .before .before .before .before .before .before .before .before .before .before .before .before .first .ensures) (c .before .before .before .before .before .before .before .before .before .before .before .before .before .before .before .before .before .before .before .before .before .before .before .first2 .ensures) (c .before .before .before .before .before .before .before .before .before .before .before .before .before .before .before .before .before .before .before .before .before .before .first3 .ensures) (c .before .before .before .before .before .before .before .before .before .before .before .before .before .before .before .before .before .before .before .before .before .first4 .ensures)) (c .before .before .before .before .before .before .before .before .before .before .before .before .before .before .before .before .before .before .before .before .if1 .left)
+    ((c .answered .ensures) ∙ result (c .before .before .before .before .before .before .before .before .before .before .before .before .before .before .before .before .before .before .before .before .before .before .before .before .before .before .before .before .before .before .before .before .before .before .before .before .before .pre) (c .before .before .before .before .before .before .before .before .before .before .before .before .before .before .before .before .before .before .before .before .before .before .before .before .before .before .before .before .before .before .before .before .before .before .before .before .before .args .a) (c .before .before .before .before .before .before .before .before .before .before .before .before .before .before .before .before .before .before .before .before .before .before .before .before .before .before .before .before .before .before .before .before .before .before .before .before .before .args .b) (c .before .before .before .before .before .before .before .before .before .before .before .before .before .before .before .before .before .before .before .before .before .before .before .before .before .before .before .before .before .before .before .before .before .before .before .before .before .args .c) buffer (c .before .before .before .before .before .before .before .before .before .before .before .before .before .before .before .before .before .before .before .before .before .before .before .before .before .before .before .before .before .before .before .before .before .before .free-designator .ensures) (slot-told (c .before .before .before .before .before .before .before .before .before .before .before .before .before .before .before .before .before .before .before .before .before .before .before .before .before .before .before .before .before .before .before .before .before .before .before .before .before .pre .known) segment (c .before .before .before .before .before .before .before .before .before .before .before .before .before .before .before .before .before .before .before .before .before .before .before .before .before .before .before .before .before .before .segment-base .ensures .0) refl (c .before .before .before .before .before .before .before .before .before .before .before .before .before .before .before .before .before .before .before .before .before .before .before .before .before .before .before .before .before .free-slot .ensures)) (end-told (c .before .before .before .before .before .before .before .before .before .before .before .before .before .before .before .before .before .before .before .before .before .before .before .before .before .before .before .before .before .before .before .before .before .before .before .before .before .pre .known) segment (c .before .before .before .before .before .before .before .before .before .before .before .before .before .before .before .before .before .before .before .before .before .before .before .before .before .before .before .run-end .ensures)) (c .before .before .before .before .before .before .before .before .before .before .before .before .before .before .before .before .before .before .before .before .before .before .before .before .before .before .is-size .ensures) (c .before .before .before .before .before .before .before .before .before .before .before .before .before .before .before .before .before .before .before .before .before .before .before .before .before .wide2 .ensures) (c .before .before .before .before .before .before .before .before .before .before .before .before .before .before .before .before .before .before .before .before .before .before .before .before .first .ensures) (c .before .before .before .before .before .before .before .before .before .before .before .before .before .before .before .before .before .before .before .before .before .before .before .first2 .ensures) (c .before .before .before .before .before .before .before .before .before .before .before .before .before .before .before .before .before .before .before .before .before .before .first3 .ensures) (c .before .before .before .before .before .before .before .before .before .before .before .before .before .before .before .before .before .before .before .before .before .first4 .ensures) (c .before .before .before .before .before .before .before .before .before .before .before .before .before .before .before .before .before .before .before .before .if1 .left) (c .before .before .before .before .before .before .before .before .before .before .before .before .before .before .before .before .before .before .in-segment .ensures) (c .before .before .before .before .before .before .before .before .before .before .before .before .before .before .before .before .before .seid .ensures))
+    (words (c .before .before .before .before .before .before .before .before .before .before .before .before .before .before .before .before .before .before .before .before .before .before .before .before .before .before .before .before .before .before .before .before .before .before .before .before .before .pre) (c .before .before .before .before .before .before .before .before .before .before .before .before .before .before .before .before .before .before .before .before .before .before .before .before .before .before .before .before .before .before .before .before .before .before .before .before .before .args .a) (c .before .before .before .before .before .before .before .before .before .before .before .before .before .before .before .before .before .before .before .before .before .before .before .before .before .before .before .before .before .before .before .before .before .before .before .before .before .args .b) (c .before .before .before .before .before .before .before .before .before .before .before .before .before .before .before .before .before .before .before .before .before .before .before .before .before .before .before .before .before .before .before .before .before .before .before .before .before .args .c) buffer (c .before .before .before .before .before .before .before .before .before .before .before .before .before .before .before .before .before .before .before .before .before .before .before .before .before .before .before .before .before .before .before .before .before .before .free-designator .ensures) (slot-told (c .before .before .before .before .before .before .before .before .before .before .before .before .before .before .before .before .before .before .before .before .before .before .before .before .before .before .before .before .before .before .before .before .before .before .before .before .before .pre .known) segment (c .before .before .before .before .before .before .before .before .before .before .before .before .before .before .before .before .before .before .before .before .before .before .before .before .before .before .before .before .before .before .segment-base .ensures .0) refl (c .before .before .before .before .before .before .before .before .before .before .before .before .before .before .before .before .before .before .before .before .before .before .before .before .before .before .before .before .before .free-slot .ensures)) (end-told (c .before .before .before .before .before .before .before .before .before .before .before .before .before .before .before .before .before .before .before .before .before .before .before .before .before .before .before .before .before .before .before .before .before .before .before .before .before .pre .known) segment (c .before .before .before .before .before .before .before .before .before .before .before .before .before .before .before .before .before .before .before .before .before .before .before .before .before .before .before .run-end .ensures)) (c .before .before .before .before .before .before .before .before .before .before .before .before .before .before .before .before .before .before .before .before .before .before .before .before .before .before .is-size .ensures) (c .before .before .before .before .before .before .before .before .before .before .before .before .before .before .before .before .before .before .before .before .before .before .before .before .before .wide2 .ensures) (c .before .before .before .before .before .before .before .before .before .before .before .before .before .before .before .before .before .before .before .before .before .before .before .before .first .ensures) (c .before .before .before .before .before .before .before .before .before .before .before .before .before .before .before .before .before .before .before .before .before .before .before .first2 .ensures) (c .before .before .before .before .before .before .before .before .before .before .before .before .before .before .before .before .before .before .before .before .before .before .first3 .ensures) (c .before .before .before .before .before .before .before .before .before .before .before .before .before .before .before .before .before .before .before .before .before .first4 .ensures) (c .before .before .before .before .before .before .before .before .before .before .before .before .before .before .before .before .before .before .before .before .if1 .left) (c .before .before .before .before .before .before .before .before .before .before .before .before .before .before .before .before .before .before .in-segment .ensures) (c .before .before .before .before .before .before .before .before .before .before .before .before .before .before .before .before .before .seid .ensures) (c .before .before .before .before .before .before .before .before .before .before .before .before .before .before .before .before .before .before .before .before .before .before .before .before .before .before .before .before .before .before .before .before .before .wide .ensures) (c .before .before .before .before .before .before .before .before .before .before .before .before .before .before .before .before .before .before .before .before .before .before .before .before .before .before .before .before .before .before .before .before .process-place .ensures .0) (c .before .before .before .before .before .before .before .before .before .before .before .before .before .before .before .in-process .ensures) (c .before .before .before .before .before .before .before .before .before .before .before .before .before .in-process2 .ensures) (c .before .before .before .before .before .before .before .before .before .before .before .segment-place .ensures .0) (c .before .before .before .before .before .before .before .before .before .before .make .ensures) (c .before .before .before .before .before .before .before .may-read .ensures) (c .before .before .before .before .before .before .may-write .ensures) (c .before .before .before .before .before .access .ensures) (c .before .before .before .enter .ensures))
 
 pub build-segment-spec : {M : Type 1} → statement M
 build-segment-spec =
     tie.close
     (tie.spec
     free-designator-requires
+    wide-requires
+    mul-process-place
+    add-process-place
+    process-place-requires
     segment-base-requires
     free-slot-requires
     run-end-requires
     is-size-requires
-    wide-requires
+    wide-requires-2
     first-requires
     first-requires-2
     first-requires-3

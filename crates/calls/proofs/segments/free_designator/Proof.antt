@@ -3,7 +3,6 @@ use mathlib.Core.Path.{_∙_, ap}
 use Rattle.calls.specs.World.{emptyAt}
 use Rattle.calls.proofs.Given.{a-segment}
 use Rattle.calls.proofs.Room.{empty-is}
-use native.Mathlib.Omega.{arith}
 use borrow.Author.Needs.{needs}
 use Rattle.calls.proofs.segments.free_designator.Statement.{statement}
 use Rattle.calls.proofs.segments.free_designator.Tie as tie

@@ -1,8 +1,6 @@
 -- `segments::is_size` meets its contract.
 use mathlib.Core.Path.{refl}
 use Rattle.rules.specs.WellFormed.{segmentSize}
-use borrow.Author.Needs.{needs}
-use native.Mathlib.Omega.{arith}
 use Rattle.calls.proofs.segments.is_size.Statement.{statement}
 use Rattle.calls.proofs.segments.is_size.Tie as tie
 

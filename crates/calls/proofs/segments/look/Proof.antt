@@ -11,7 +11,6 @@ use Rattle.ids.specs.declared.SegmentId.{SegmentId}
 use Rattle.ids.specs.declared.SegmentIs.the-variants.{Is}
 use Rattle.calls.specs.declared.segments.Segment.{Segment}
 use Rattle.calls.specs.Seen.{seenSegment}
-use native.Mathlib.Omega.{arith}
 use borrow.Author.Needs.{needs}
 use Rattle.calls.proofs.segments.look.Statement.{statement}
 use Rattle.calls.proofs.segments.look.Tie as tie

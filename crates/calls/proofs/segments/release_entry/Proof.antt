@@ -1,7 +1,6 @@
 -- `segments::release_entry` meets its contract: an entry given up, in the rule's words.
 use mathlib.Core.Path.{_∙_}
 use Rattle.calls.proofs.Given.{given-segment}
-use native.Mathlib.Omega.{arith}
 use borrow.Author.Needs.{needs}
 use Rattle.calls.proofs.segments.release_entry.Statement.{statement}
 use Rattle.calls.proofs.segments.release_entry.Tie as tie

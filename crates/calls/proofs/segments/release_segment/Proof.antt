@@ -1,14 +1,13 @@
 -- `segments::release_segment` meets its contract: the rule's refusals in order, and the entry given up.
-use mathlib.Core.Path.{_≡_, refl, sym, ap, _∙_}
-use mathlib.Core.Bool.{Bool, true, false, cond, _&&_, not}
+use mathlib.Core.Path.{_≡_, sym, _∙_}
+use mathlib.Core.Bool.{false, cond}
 use mathlib.Core.List.{List}
-use Prim.Native.Nat.{ℕ, _+_, _*_, _<_}
+use Prim.Native.Nat.{ℕ, _+_, _*_}
 use lib.Dec.{leb, eqb}
-use lib.ListN.{set}
-use Rattle.rules.specs.Layout.{process, segment, at, configuration, rd, entries, heldAt, usedAt}
+use Rattle.rules.specs.Layout.{process, segment, at, configuration, rd, entries}
 use Rattle.rules.specs.Rule.{firstRefusal, write}
 use Rattle.calls.specs.declared.World.{World}
-use Rattle.calls.specs.World.{offsetBy, rdBy, Known, Sound}
+use Rattle.calls.specs.World.{rdBy, Sound}
 use Rattle.calls.specs.Left.{ruleAt}
 use Rattle.rules.specs.Find.{givenUp}
 use Rattle.rules.specs.Call05.{releaseSegment}
@@ -17,7 +16,7 @@ use Rattle.calls.proofs.Worlds.{home-is}
 use Rattle.calls.proofs.Leaves.{left-refused, left-done}
 use Rattle.calls.proofs.Named.{found-segment, no-segment}
 use Rattle.calls.proofs.Entries.{not-chosen, segment-form}
-use Rattle.calls.proofs.SegmentsLaws.{held-word}
+use Rattle.calls.proofs.ProcessesLaws.{segment-word}
 use native.Mathlib.Omega.{arith}
 use borrow.Author.Needs.{needs}
 use Rattle.calls.proofs.segments.release_segment.Statement.{statement}
@@ -27,7 +26,7 @@ use Rattle.calls.proofs.segments.release_segment.Tie as tie
 number : {t : List ℕ} {w : World} → Sound t w → (a : ℕ) (buffer : List ℕ) {y z s x e : ℕ} → y ≡ a → s ≡ rdBy w t (at process (w .me) (40 + 2 * y)) → z ≡ a
     → x ≡ cond (eqb s 0) 9 0 → e ≡ cond (leb entries z) 8 x → e ≡ firstRefusal (ruleAt t (λ h q. releaseSegment h q (w .me) a buffer) .refusals)
 unfolding releaseSegment
-number sound a buffer ya sr za xe ee = rw (ee, xe, held-word sound a ya sr, za)
+number sound a buffer ya sr za xe ee = rw (ee, xe, segment-word (sound .known) _ a ya sr, za)
 
 -- past the refusals the entry is one of sixteen, and filled
 past : {a z x e : ℕ} (s : ℕ) → z ≡ a → x ≡ cond (eqb s 0) 9 0 → e ≡ cond (leb entries z) 8 x → e ≡ 0 → (leb entries a ≡ false) × (eqb s 0 ≡ false)
@@ -41,7 +40,7 @@ words : {t : List ℕ} {w : World} → Sound t w → (a : ℕ) (buffer : List �
     → write (configuration t) t (givenUp (configuration t) (rd (configuration t) t) segment (w .me) a g)
     ≡ write (configuration t) t (ruleAt t (λ h q. releaseSegment h q (w .me) a buffer) .effects .words)
 unfolding releaseSegment
-words sound a buffer ya sr gs = rw (gs, held-word sound a ya sr)
+words sound a buffer ya sr gs = rw (gs, segment-word (sound .known) _ a ya sr)
 
 wide-requires : tie.Need-wide-requires
 wide-requires c κs = search needs

@@ -1,11 +1,10 @@
 -- `segments::rendezvous` meets its contract: the rule's refusals in order, and the segment taken up.
-use mathlib.Core.Path.{_≡_, refl, sym, ap, _∙_}
+use mathlib.Core.Path.{_≡_, sym, ap, _∙_}
 use mathlib.Core.Bool.{Bool, true, false, cond, _&&_, _||_, not}
-use mathlib.Core.List.{List, [], _∷_, _++_}
-use Prim.Native.Nat.{ℕ, _+_, _*_, _/_, _<_}
-use lib.Dec.{leb, ltb, eqb}
-use lib.ListN.{set}
-use Rattle.rules.specs.Rule.{firstRefusal, _≔_, write}
+use mathlib.Core.List.{List, []}
+use Prim.Native.Nat.{ℕ, _+_, _*_, _<_}
+use lib.Dec.{leb, eqb}
+use Rattle.rules.specs.Rule.{firstRefusal, write}
 use Rattle.calls.specs.declared.World.{World}
 use Rattle.calls.specs.Left.{said, ruleAt}
 use Rattle.calls.proofs.Leaves.{left-refused, left-done}
@@ -15,11 +14,12 @@ use Rattle.rules.specs.Rights.{lacks, asksRead, asksWrite, validAccess}
 use Rattle.rules.specs.Find.{inOwnCell, flowsToCaller, rightsAt, freeEntry}
 use Rattle.rules.specs.Call04.{alreadyHeld, rendezvous}
 use Rattle.laws.proofs.Seids.{is-formed}
-use Rattle.calls.specs.World.{offsetBy, rdBy, Known, Sound}
+use Rattle.calls.specs.World.{offsetBy, rdBy, Sound}
 use Rattle.calls.specs.Finds.{takenUpAt}
 use Rattle.calls.proofs.Worlds.{see, spot, segments-is}
 use Rattle.calls.proofs.Given.{a-segment}
 use Rattle.calls.proofs.Named.{Is, found-segment, no-segment}
+use Rattle.calls.proofs.FilesLaws.{cond-some}
 use Rattle.calls.proofs.Holders.{one-fits, taken-is}
 use native.Mathlib.Omega.{arith}
 use borrow.Author.Needs.{needs}
@@ -70,11 +70,7 @@ module _ {t : List ℕ} {w : World} (sound : Sound t w) (a b : ℕ) (buffer : Li
 
 -- a refusal's number is not 0
 refusing : (b : ℕ) (va : Bool) {e : ℕ} → e ≡ cond (eqb b 0 || not va) 4 11 → e ≡ 0 → ⊥
-refusing b va {e} p z = go (eqb b 0 || not va) p
-  where
-    go : (bad : Bool) → e ≡ cond bad 4 11 → ⊥
-    go true q = omega arith
-    go false q = omega arith
+refusing b va p z = cond-some (eqb b 0 || not va) 4 11 (omega arith) (omega arith) (sym p ∙ z)
 
 or-self-requires : tie.Need-or-self-requires
 or-self-requires c κs = search needs

@@ -1,11 +1,11 @@
 -- `segments::set_access` meets its contract: the rule's refusals in order, and the access stored.
-use mathlib.Core.Path.{_≡_, refl, sym, ap, _∙_}
-use mathlib.Core.Bool.{Bool, true, false, cond, _&&_, not}
+use mathlib.Core.Path.{_≡_, _∙_}
+use mathlib.Core.Bool.{Bool, cond, _&&_, not}
 use mathlib.Core.List.{List}
-use Prim.Native.Nat.{ℕ, _+_, _*_, _<_}
+use Prim.Native.Nat.{ℕ, _+_, _*_}
 use lib.Dec.{leb, eqb}
 use lib.ListN.{set}
-use Rattle.rules.specs.Layout.{process, segment, at, configuration, rd, entries, heldAt, usedAt}
+use Rattle.rules.specs.Layout.{process, at, configuration, rd, entries}
 use Rattle.rules.specs.Rule.{firstRefusal, write}
 use Rattle.calls.specs.declared.World.{World}
 use Rattle.calls.specs.World.{offsetBy, rdBy, Known, Sound}
@@ -18,7 +18,8 @@ use Rattle.calls.specs.declared.segments.Segment.{Segment}
 use Rattle.calls.specs.Seen.{seenSegment}
 use Rattle.calls.proofs.Worlds.{spot}
 use Rattle.calls.proofs.Leaves.{left-refused, left-done}
-use Rattle.calls.proofs.SegmentsLaws.{after, held-word, seen-held}
+use Rattle.calls.proofs.ProcessesLaws.{segment-word}
+use Rattle.calls.proofs.SegmentsLaws.{after, seen-held}
 use native.Mathlib.Omega.{arith}
 use borrow.Author.Needs.{needs}
 use Rattle.calls.proofs.segments.set_access.Statement.{statement}
@@ -35,7 +36,7 @@ module _ {t : List ℕ} {w : World} (sound : Sound t w) (a b : ℕ) (buffer : Li
   number : e ≡ firstRefusal (ruleAt t (λ h q. setAccess h q (w .me) a b buffer) .refusals)
   unfolding setAccess
   number =
-      rw (← held-word sound a ya sr, e₆, e₅, e₄, e₃, e₂, e₁, lae, awe′, are, awe, za, vae)
+      rw (← segment-word (sound .known) (w .me) a ya sr, e₆, e₅, e₄, e₃, e₂, e₁, lae, awe′, are, awe, za, vae)
       (after (not (validAccess b)) 4 (λ _. after (leb entries a) 8 (λ l. after (eqb s 0) 9 (λ q. rw (seen-held sound a ya sr ie ge l q)))))
 
 -- the word written is the rule's
