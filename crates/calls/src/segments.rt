@@ -297,6 +297,8 @@ pub(crate) fn set_access(t: &mut [u32], w: World, a: u32, b: u32) -> Answer
     let me = w.me;
     let s = in_process(t, w, me, DESIGNATORS + 2 * wide(a));
     let g = look(t, w, SegmentId::check(s, w.segments));
+    let outside = asks_write(b) & !g.own;
+    let lacking = lacks(g.rights, asks_read(b), asks_write(b));
     let e = first(
         !valid_access(b),
         XB_PARAM,
@@ -309,11 +311,7 @@ pub(crate) fn set_access(t: &mut [u32], w: World, a: u32, b: u32) -> Answer
                 first(
                     !g.present,
                     XB_SG_SD,
-                    first(
-                        asks_write(b) & !g.own,
-                        XNO_ACC,
-                        first(lacks(g.rights, asks_read(b), asks_write(b)), XDAP_VIOL, XOK),
-                    ),
+                    first(outside, XNO_ACC, first(lacking, XDAP_VIOL, XOK)),
                 ),
             ),
         ),

@@ -1,11 +1,11 @@
 -- `segments::build_segment` meets its contract: the rule's refusals in order, the new segment and its designator.
-use mathlib.Core.Path.{_≡_, refl, sym, ap, _∙_}
-use mathlib.Core.Bool.{Bool, true, false, cond, _&&_, _||_, not}
-use mathlib.Core.List.{List, [], _∷_, _++_}
+use mathlib.Core.Path.{_≡_, refl, sym, _∙_}
+use mathlib.Core.Bool.{Bool, cond, _||_, not}
+use mathlib.Core.List.{List, []}
 use Prim.Native.Nat.{ℕ, _+_, _*_, _/_, _<_}
-use lib.Dec.{leb, ltb, eqb}
+use lib.Dec.{leb, ltb}
 use lib.ListN.{set}
-use Rattle.rules.specs.Rule.{firstRefusal, _≔_, write}
+use Rattle.rules.specs.Rule.{firstRefusal, write}
 use Rattle.calls.specs.declared.World.{World}
 use Rattle.calls.specs.Left.{said, ruleAt}
 use Rattle.calls.proofs.Leaves.{left-refused, left-done}

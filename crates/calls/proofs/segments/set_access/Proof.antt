@@ -106,7 +106,7 @@ same-length : tie.Need-same-length
 same-length c = search needs
 
 returns : tie.Need-returns
-returns c = λ buffer. left-refused _ _ (number (c .before .before .before .before .before .before .before .before .before .before .before .before .before .before .before .before .before .before .before .before .before .before .before .pre) _ _ buffer (c .before .before .before .before .before .before .before .before .before .before .before .before .before .before .before .before .before .before .before .before .wide .ensures) (c .before .before .before .before .before .before .before .before .before .before .before .before .before .before .before .before .before .before .before .in-process .ensures) (c .before .before .before .before .before .before .before .before .before .before .before .before .before .before .before .before .before .check .ensures) (c .before .before .before .before .before .before .before .before .before .before .before .before .before .before .before .before .look .ensures) (c .before .before .before .before .before .before .before .before .before .before .before .before .before .before .before .valid-access .ensures) (c .before .before .before .before .before .before .before .before .before .before .before .before .before .before .wide2 .ensures) (c .before .before .before .before .before .before .before .before .before .before .before .before .asks-write .ensures) (c .before .before .before .before .before .before .before .before .before .before .asks-read .ensures) (c .before .before .before .before .before .before .before .before .before .asks-write2 .ensures) (c .before .before .before .before .before .before .before .before .lacks .ensures) (c .before .before .before .before .before .before .before .first .ensures) (c .before .before .before .before .before .before .first2 .ensures) (c .before .before .before .before .before .first3 .ensures) (c .before .before .before .before .first4 .ensures) (c .before .before .before .first5 .ensures) (c .before .before .first6 .ensures)) (c .before .if1 .taken) (c .refused .ensures)
+returns c = λ buffer. left-refused _ _ (number (c .before .before .before .before .before .before .before .before .before .before .before .before .before .before .before .before .before .before .before .before .before .before .before .pre) _ _ buffer (c .before .before .before .before .before .before .before .before .before .before .before .before .before .before .before .before .before .before .before .before .wide .ensures) (c .before .before .before .before .before .before .before .before .before .before .before .before .before .before .before .before .before .before .before .in-process .ensures) (c .before .before .before .before .before .before .before .before .before .before .before .before .before .before .before .before .before .check .ensures) (c .before .before .before .before .before .before .before .before .before .before .before .before .before .before .before .before .look .ensures) (c .before .before .before .before .before .before .before .before .before .before .valid-access .ensures) (c .before .before .before .before .before .before .before .before .before .wide2 .ensures) (c .before .before .before .before .before .before .before .before .before .before .before .before .before .before .before .asks-write .ensures) (c .before .before .before .before .before .before .before .before .before .before .before .before .before .asks-read .ensures) (c .before .before .before .before .before .before .before .before .before .before .before .before .asks-write2 .ensures) (c .before .before .before .before .before .before .before .before .before .before .before .lacks .ensures) (c .before .before .before .before .before .before .before .first .ensures) (c .before .before .before .before .before .before .first2 .ensures) (c .before .before .before .before .before .first3 .ensures) (c .before .before .before .before .first4 .ensures) (c .before .before .before .first5 .ensures) (c .before .before .first6 .ensures)) (c .before .if1 .taken) (c .refused .ensures)
 
 add-put-process : tie.Need-add-put-process
 add-put-process c = search needs
@@ -131,7 +131,7 @@ same-length-2 c = search needs
 
 returns-2 : tie.Need-returns-2
 unfolding setAccess
-returns-2 c = λ buffer. left-done _ (λ h q. setAccess h q _ _ _ buffer) (number (c .before .before .before .before .before .before .before .before .before .before .before .before .before .before .before .before .before .before .before .before .before .before .before .before .before .before .before .before .pre) _ _ buffer (c .before .before .before .before .before .before .before .before .before .before .before .before .before .before .before .before .before .before .before .before .before .before .before .before .before .wide .ensures) (c .before .before .before .before .before .before .before .before .before .before .before .before .before .before .before .before .before .before .before .before .before .before .before .before .in-process .ensures) (c .before .before .before .before .before .before .before .before .before .before .before .before .before .before .before .before .before .before .before .before .before .before .check .ensures) (c .before .before .before .before .before .before .before .before .before .before .before .before .before .before .before .before .before .before .before .before .before .look .ensures) (c .before .before .before .before .before .before .before .before .before .before .before .before .before .before .before .before .before .before .before .before .valid-access .ensures) (c .before .before .before .before .before .before .before .before .before .before .before .before .before .before .before .before .before .before .before .wide2 .ensures) (c .before .before .before .before .before .before .before .before .before .before .before .before .before .before .before .before .before .asks-write .ensures) (c .before .before .before .before .before .before .before .before .before .before .before .before .before .before .before .asks-read .ensures) (c .before .before .before .before .before .before .before .before .before .before .before .before .before .before .asks-write2 .ensures) (c .before .before .before .before .before .before .before .before .before .before .before .before .before .lacks .ensures) (c .before .before .before .before .before .before .before .before .before .before .before .before .first .ensures) (c .before .before .before .before .before .before .before .before .before .before .before .first2 .ensures) (c .before .before .before .before .before .before .before .before .before .before .first3 .ensures) (c .before .before .before .before .before .before .before .before .before .first4 .ensures) (c .before .before .before .before .before .before .before .before .first5 .ensures) (c .before .before .before .before .before .before .before .first6 .ensures)) (c .before .before .before .before .before .before .if1 .left) (c .answered .ensures) ((c .before .before .before .put-process .ensures) ∙ words (c .before .before .before .before .before .before .before .before .before .before .before .before .before .before .before .before .before .before .before .before .before .before .before .before .before .before .before .before .pre .known) _ _ _ buffer (c .before .before .before .before .wide3 .ensures))
+returns-2 c = λ buffer. left-done _ (λ h q. setAccess h q _ _ _ buffer) (number (c .before .before .before .before .before .before .before .before .before .before .before .before .before .before .before .before .before .before .before .before .before .before .before .before .before .before .before .before .pre) _ _ buffer (c .before .before .before .before .before .before .before .before .before .before .before .before .before .before .before .before .before .before .before .before .before .before .before .before .before .wide .ensures) (c .before .before .before .before .before .before .before .before .before .before .before .before .before .before .before .before .before .before .before .before .before .before .before .before .in-process .ensures) (c .before .before .before .before .before .before .before .before .before .before .before .before .before .before .before .before .before .before .before .before .before .before .check .ensures) (c .before .before .before .before .before .before .before .before .before .before .before .before .before .before .before .before .before .before .before .before .before .look .ensures) (c .before .before .before .before .before .before .before .before .before .before .before .before .before .before .before .valid-access .ensures) (c .before .before .before .before .before .before .before .before .before .before .before .before .before .before .wide2 .ensures) (c .before .before .before .before .before .before .before .before .before .before .before .before .before .before .before .before .before .before .before .before .asks-write .ensures) (c .before .before .before .before .before .before .before .before .before .before .before .before .before .before .before .before .before .before .asks-read .ensures) (c .before .before .before .before .before .before .before .before .before .before .before .before .before .before .before .before .before .asks-write2 .ensures) (c .before .before .before .before .before .before .before .before .before .before .before .before .before .before .before .before .lacks .ensures) (c .before .before .before .before .before .before .before .before .before .before .before .before .first .ensures) (c .before .before .before .before .before .before .before .before .before .before .before .first2 .ensures) (c .before .before .before .before .before .before .before .before .before .before .first3 .ensures) (c .before .before .before .before .before .before .before .before .before .first4 .ensures) (c .before .before .before .before .before .before .before .before .first5 .ensures) (c .before .before .before .before .before .before .before .first6 .ensures)) (c .before .before .before .before .before .before .if1 .left) (c .answered .ensures) ((c .before .before .before .put-process .ensures) ∙ words (c .before .before .before .before .before .before .before .before .before .before .before .before .before .before .before .before .before .before .before .before .before .before .before .before .before .before .before .before .pre .known) _ _ _ buffer (c .before .before .before .before .wide3 .ensures))
 
 pub set-access-spec : {M : Type 1} → statement M
 set-access-spec =
@@ -143,12 +143,12 @@ set-access-spec =
     in-process-requires
     check-requires
     look-requires
-    valid-access-requires
-    wide-requires-2
     asks-write-requires
     asks-read-requires
     asks-write-requires-2
     lacks-requires
+    valid-access-requires
+    wide-requires-2
     first-requires
     first-requires-2
     first-requires-3
