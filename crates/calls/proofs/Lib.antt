@@ -11,3 +11,5 @@ pub mod Finds
 pub mod Posts
 pub mod FilesLaws
 pub mod BlocksLaws
+pub mod SegmentsLaws
+pub mod ProcessesLaws

@@ -2,5 +2,7 @@
 pub mod World
 pub mod Left
 pub mod Mail
+pub mod Seen
+pub mod Holding
 pub mod Finds
 pub mod Blocks

@@ -4,6 +4,8 @@ mod blocks;
 mod files;
 mod mail;
 mod objects;
+mod processes;
+mod segments;
 
 // "An answer is the number and two words."
 pub struct Answer {

@@ -1,0 +1,69 @@
+-- What the caller sees of a segment, and of one that its designator holds.
+use mathlib.Core.Path.{_≡_, refl, _∙_}
+use mathlib.Core.Bool.{Bool, true, false, cond}
+use mathlib.Core.List.{List, _∷_}
+use Prim.Native.Nat.{ℕ, _+_, _*_, _≤_, _<_}
+use native.Mathlib.Omega.{arith}
+use lib.Dec.{leb, eqb}
+use Rattle.rules.specs.Layout.{maxSlots, maxSerial, cellWords, cellSlotsWord, Kind, process, segment, file, configuration, slots, cells, at, offset, rd, live, serial, owner, group, entries, usedAt}
+use Rattle.rules.specs.Seid.{class, seid}
+use Rattle.rules.specs.Rule.{Word, _≔_, write}
+use Rattle.ids.proofs.Parts.{seid-fits}
+use Rattle.ids.specs.Seid.{segmentOf, seidOf}
+use Rattle.ids.specs.declared.SegmentIs.{SegmentIs}
+use Rattle.ids.specs.declared.SegmentIs.the-variants.{Is}
+use Rattle.calls.specs.declared.World.{World}
+use Rattle.calls.specs.declared.segments.Segment.{Segment}
+use Rattle.calls.specs.World.{rdBy, Known, Sound, firstBy}
+use Rattle.calls.specs.Finds.{fourAt}
+use Rattle.calls.specs.Seen.{seenSegment}
+use Rattle.calls.proofs.Worlds.{see, shape, kind-word}
+use Rattle.calls.proofs.Entries.{segment-form}
+use Rattle.calls.proofs.Room.{home-in}
+
+-- what follows a test counts only where the test fails
+pub after : (b : Bool) (n : ℕ) {x y : ℕ} → (b ≡ false → x ≡ y) → cond b n x ≡ cond b n y
+after true n f = refl
+after false n f = f refl
+
+-- s is what designator a of the caller holds; y is its number
+module _ {t : List ℕ} {w : World} (sound : Sound t w) (a : ℕ) {y s : ℕ} (same : y ≡ a) (read : s ≡ rdBy w t (at process (w .me) (40 + 2 * y))) where
+  -- where it is filled, what is seen is the segment that it names
+  pub seen-held : {i : SegmentIs} {g : Segment} → i ≡ segmentOf (w .segments) s → g ≡ seenSegment (configuration t) (rd (configuration t) t) (w .me) i
+      → leb entries a ≡ false → eqb s 0 ≡ false → g ≡ seenSegment (configuration t) (rd (configuration t) t) (w .me) (Is (record { 0 = s }))
+  seen-held ie ge l q = ge ∙ rw (ie, segment-form sound a s same l q read)
+
+-- the word of a designator that says how it is used
+pub used-word : {t : List ℕ} {w : World} → Known t w → (p a : ℕ) {y u : ℕ} → y ≡ a → u ≡ rdBy w t (at process p (41 + 2 * y))
+    → u ≡ rd (configuration t) t (at process p (usedAt segment a))
+used-word k p a {y} same read = read ∙ see k (at process p (41 + 2 * y)) ∙ rw same
+
+-- ---- a new object's slot and its seid
+
+class-small : (k : Kind) → class k < 256
+class-small process = omega arith
+class-small segment = omega arith
+class-small file = omega arith
+
+-- x is the serial that the code has read, s the seid that it has made
+pub made-seid : {t : List ℕ} {w : World} → Sound t w → (k : Kind) {g x s : ℕ} → (g < slots (configuration t) k) × (rd (configuration t) t (at k g serial) < maxSerial)
+    → x ≡ rdBy w t (at k g serial) → s ≡ seidOf (class k) g (x + 1) → (x < maxSerial) × (s ≡ seid (class k) g (rd (configuration t) t (at k g serial) + 1))
+made-seid {t} {w} sound k {g} {x} {s} new xe se =
+    let e : x ≡ rd (configuration t) t (at k g serial) = xe ∙ see (sound .known) (at k g serial) in
+    let l : g < 256 = omega (arith, new .0, shape (sound .known) .few k) in
+    (omega (arith, new .1), se ∙ seid-fits (class k) g (x + 1) (class-small k) l (omega (arith, new .1)) ∙ rw e)
+
+-- four words of a record
+pub four-is : (h t : List ℕ) (k : Kind) (i a b c d : ℕ) (ws : List Word)
+    → write h t ((at k i live ≔ a) ∷ (at k i serial ≔ b) ∷ (at k i owner ≔ c) ∷ (at k i group ≔ d) ∷ ws) ≡ write h (fourAt t (offset h (at k i 0)) a b c d) ws
+unfolding fourAt
+four-is h t k i a b c d ws =
+    let one : offset h (at k i 1) ≡ offset h (at k i 0) + 1 = omega arith in
+    let two : offset h (at k i 2) ≡ offset h (at k i 0) + 2 = omega arith in
+    let three : offset h (at k i 3) ≡ offset h (at k i 0) + 3 = omega arith in
+    rw (one, two, three)
+
+-- what a search for a free slot asks
+pub searching : {t : List ℕ} {w : World} → Sound t w → (k : Kind)
+    → Known t w × (w .home < w .cells) × (cellSlotsWord k < cellWords) × (firstBy (configuration t) (cellSlotsWord k) (cells (configuration t)) ≤ maxSlots)
+searching sound k = let x = kind-word (sound .known) k in (sound .known, home-in sound, x .0, x .1)

@@ -1,0 +1,60 @@
+-- `processes::drop_designators` meets its contract: so many designators are given up as turns were made.
+use Prim.Native.Nat.{_≤_, _-_}
+use mathlib.Core.Path.{_≡_, ap, _∙_}
+use lib.ListN.{length}
+use Rattle.rules.specs.Layout.{configuration, rd, entries, segment}
+use Rattle.rules.specs.Rule.{write}
+use Rattle.rules.specs.Call02.{droppedTo}
+use Rattle.laws.proofs.Written.{length-write}
+use Rattle.calls.proofs.Given.{a-segment}
+use Rattle.calls.proofs.ProcessesLaws.{none-yet, ready, one-more}
+use borrow.Author.Needs.{needs}
+use native.Mathlib.Omega.{arith}
+use Rattle.calls.proofs.processes.drop_designators.Statement.{statement}
+use Rattle.calls.proofs.processes.drop_designators.Tie as tie
+
+abbrev Inv-loop : tie.InvT-loop
+Inv-loop t₀ w q d₀ t d =
+    (d ≤ entries) × (t ≡ write (configuration t₀) t₀ (droppedTo (configuration t₀) (rd (configuration t₀) t₀) segment q d))
+
+abbrev μ-loop : tie.MeasureT-loop
+μ-loop t₀ w q d₀ t d = entries - d
+
+loop-holds : tie.Need-loop-holds Inv-loop μ-loop
+loop-holds c = (omega arith, none-yet a-segment _ (c .before .pre))
+
+wide-requires : tie.Need-wide-requires Inv-loop μ-loop
+wide-requires c κs = search needs
+
+drop-designator-requires : tie.Need-drop-designator-requires Inv-loop μ-loop
+drop-designator-requires c κs = (ready a-segment _ (c .before .before .before .before .before .pre) _ (omega arith) (c .before .before .before .loop .inv .1), omega arith)
+
+add-d : tie.Need-add-d Inv-loop μ-loop
+add-d c = search needs
+
+loop-less : tie.Need-loop-less Inv-loop μ-loop
+loop-less c = search needs
+
+loop-again : tie.Need-loop-again Inv-loop μ-loop
+loop-again c = (omega arith, one-more a-segment _ (c .before .before .before .before .before .before .before .before .pre) _ (omega arith) (c .before .before .before .before .before .before .loop .inv .1) (c .before .before .drop-designator .ensures))
+
+same-length : tie.Need-same-length Inv-loop μ-loop
+same-length c = ap length (c .before .before .loop .inv .1) ∙ simp length-write
+
+returns : tie.Need-returns Inv-loop μ-loop
+returns c = let e : (c .before .before .loop .d) ≡ entries = omega arith in rw e at (c .before .before .loop .inv .1)
+
+pub drop-designators-spec : {M : Type 1} → statement M
+drop-designators-spec =
+    tie.close
+    (tie.spec
+    Inv-loop
+    μ-loop
+    loop-holds
+    wide-requires
+    drop-designator-requires
+    add-d
+    loop-less
+    loop-again
+    same-length
+    returns)
