@@ -13,3 +13,5 @@ pub mod FilesLaws
 pub mod BlocksLaws
 pub mod SegmentsLaws
 pub mod ProcessesLaws
+pub mod Statuses
+pub mod Codes

@@ -6,3 +6,5 @@ pub mod Seen
 pub mod Holding
 pub mod Finds
 pub mod Blocks
+pub mod Told
+pub mod Did

@@ -6,6 +6,7 @@ mod mail;
 mod objects;
 mod processes;
 mod segments;
+mod status;
 
 // "An answer is the number and two words."
 pub struct Answer {

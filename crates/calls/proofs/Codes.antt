@@ -1,0 +1,249 @@
+-- Each code has its rule, and the whole call is the rule of its code once the table, the caller and the code are good.
+use mathlib.Core.Path.{_≡_, refl, sym, ap, _∙_}
+use mathlib.Core.Bool.{Bool, true, false, cond, not}
+use mathlib.Core.List.{List, [], _∷_}
+use Prim.Native.Nat.{ℕ}
+use lib.Dec.{eqb}
+use lib.ListN.{length}
+use Rattle.rules.specs.Claim.{test}
+use Rattle.rules.specs.Layout.{Addr, configuration, rd}
+use Rattle.rules.specs.WellFormed.{wellFormed}
+use Rattle.rules.specs.Rule.{Rule, firstRefusal, write, store}
+use Rattle.rules.specs.Call01.{spawn}
+use Rattle.rules.specs.Call02.{releaseProcess}
+use Rattle.rules.specs.Call03.{buildSegment}
+use Rattle.rules.specs.Call04.{rendezvous}
+use Rattle.rules.specs.Call05.{releaseSegment}
+use Rattle.rules.specs.Call06.{setAccess}
+use Rattle.rules.specs.Call07.{create}
+use Rattle.rules.specs.Call08.{openFile}
+use Rattle.rules.specs.Call09.{close}
+use Rattle.rules.specs.Call10.{link}
+use Rattle.rules.specs.Call11.{unlink}
+use Rattle.rules.specs.Call12.{setBits}
+use Rattle.rules.specs.Call13.{readBlock}
+use Rattle.rules.specs.Call14.{writeBlock}
+use Rattle.rules.specs.Call15.{post}
+use Rattle.rules.specs.Call16.{receive}
+use Rattle.rules.specs.Call17.{status}
+use Rattle.rules.specs.Call18.{accessOf}
+use Rattle.rules.specs.Step as rules
+use Rattle.rules.specs.Step.{Outcome, ruleOf, badCaller, badCode, carriedOut, wholeRule, step}
+use Rattle.laws.proofs.Tests.{split, cond-true, cond-false}
+use Rattle.calls.specs.declared.Answer.{Answer}
+use Rattle.calls.specs.Left.{said, ruleAt, answerOf, tableOf, storeOf, bufferOf, Left}
+use Rattle.calls.specs.Did.{stateOf, callOf, ruleAnswer, Did, Through, ruleIn, Plain}
+use Rattle.calls.proofs.Posts.{left-same}
+
+module _ (h : List ℕ) (q : Addr → ℕ) (s : List ℕ) (p code a b c : ℕ) (buffer : List ℕ) where
+  pub rule-1 : code ≡ 1 → ruleOf h q s (callOf p code a b c buffer) ≡ spawn h q p a b buffer
+  unfolding ruleOf
+  rule-1 e = rw e
+
+  pub rule-2 : code ≡ 2 → ruleOf h q s (callOf p code a b c buffer) ≡ releaseProcess h q p a buffer
+  unfolding ruleOf
+  rule-2 e = rw e
+
+  pub rule-3 : code ≡ 3 → ruleOf h q s (callOf p code a b c buffer) ≡ buildSegment h q p a b c buffer
+  unfolding ruleOf
+  rule-3 e = rw e
+
+  pub rule-4 : code ≡ 4 → ruleOf h q s (callOf p code a b c buffer) ≡ rendezvous h q p a b buffer
+  unfolding ruleOf
+  rule-4 e = rw e
+
+  pub rule-5 : code ≡ 5 → ruleOf h q s (callOf p code a b c buffer) ≡ releaseSegment h q p a buffer
+  unfolding ruleOf
+  rule-5 e = rw e
+
+  pub rule-6 : code ≡ 6 → ruleOf h q s (callOf p code a b c buffer) ≡ setAccess h q p a b buffer
+  unfolding ruleOf
+  rule-6 e = rw e
+
+  pub rule-7 : code ≡ 7 → ruleOf h q s (callOf p code a b c buffer) ≡ create h q p a b buffer
+  unfolding ruleOf
+  rule-7 e = rw e
+
+  pub rule-8 : code ≡ 8 → ruleOf h q s (callOf p code a b c buffer) ≡ openFile h q p a b buffer
+  unfolding ruleOf
+  rule-8 e = rw e
+
+  pub rule-9 : code ≡ 9 → ruleOf h q s (callOf p code a b c buffer) ≡ close h q p a buffer
+  unfolding ruleOf
+  rule-9 e = rw e
+
+  pub rule-10 : code ≡ 10 → ruleOf h q s (callOf p code a b c buffer) ≡ link h q p a buffer
+  unfolding ruleOf
+  rule-10 e = rw e
+
+  pub rule-11 : code ≡ 11 → ruleOf h q s (callOf p code a b c buffer) ≡ unlink h q p a buffer
+  unfolding ruleOf
+  rule-11 e = rw e
+
+  pub rule-12 : code ≡ 12 → ruleOf h q s (callOf p code a b c buffer) ≡ setBits h q p a b buffer
+  unfolding ruleOf
+  rule-12 e = rw e
+
+  pub rule-13 : code ≡ 13 → ruleOf h q s (callOf p code a b c buffer) ≡ readBlock h q s p a b buffer
+  unfolding ruleOf
+  rule-13 e = rw e
+
+  pub rule-14 : code ≡ 14 → ruleOf h q s (callOf p code a b c buffer) ≡ writeBlock h q p a b buffer
+  unfolding ruleOf
+  rule-14 e = rw e
+
+  pub rule-15 : code ≡ 15 → ruleOf h q s (callOf p code a b c buffer) ≡ post h q p a buffer
+  unfolding ruleOf
+  rule-15 e = rw e
+
+  pub rule-16 : code ≡ 16 → ruleOf h q s (callOf p code a b c buffer) ≡ receive h q p buffer
+  unfolding ruleOf
+  rule-16 e = rw e
+
+  pub rule-17 : code ≡ 17 → ruleOf h q s (callOf p code a b c buffer) ≡ status h q p a buffer
+  unfolding ruleOf
+  rule-17 e = rw e
+
+  pub rule-18 : code ≡ 18 → ruleOf h q s (callOf p code a b c buffer) ≡ accessOf h q p a buffer
+  unfolding ruleOf
+  rule-18 e = rw e
+
+-- a rule that writes words alone
+plain-by : (t : List ℕ) (p code a b c : ℕ) {r : Answer} {t′ : List ℕ} (s buffer : List ℕ) (f : List ℕ → (Addr → ℕ) → Rule)
+    → ruleIn t s p code a b c buffer ≡ ruleAt t f → ruleAt t f .effects .bytes ≡ [] → ruleAt t f .effects .buffer ≡ buffer → Left t f r t′
+    → Plain t p code a b c r t′ s buffer
+plain-by t p code a b c s buffer f e x y l = record {
+  left = left-same t f (λ h q. ruleOf h q s (callOf p code a b c buffer)) (sym e) l;
+  bytes = ap (λ (k : Rule). k .effects .bytes) e ∙ x;
+  same = ap (λ (k : Rule). k .effects .buffer) e ∙ y;
+}
+
+choice-bytes : (b : Bool) (k l : Rule) → k .effects .bytes ≡ [] → l .effects .bytes ≡ [] → cond b k l .effects .bytes ≡ []
+choice-bytes true k l x y = x
+choice-bytes false k l x y = y
+
+choice-buffer : (b : Bool) (k l : Rule) (z : List ℕ) → k .effects .buffer ≡ z → l .effects .buffer ≡ z → cond b k l .effects .buffer ≡ z
+choice-buffer true k l z x y = x
+choice-buffer false k l z x y = y
+
+module _ (t : List ℕ) (p code a b c : ℕ) {r : Answer} {t′ : List ℕ} where
+  pub plain-1 : code ≡ 1 → ((buffer : List ℕ) → Left t (λ h q. spawn h q p a b buffer) r t′) → (s buffer : List ℕ) → Plain t p code a b c r t′ s buffer
+  unfolding spawn
+  plain-1 e l s buffer =
+      plain-by t p code a b c s buffer (λ h q. spawn h q p a b buffer) (rule-1 (configuration t) (rd (configuration t) t) s p code a b c buffer e) refl refl (l buffer)
+
+  pub plain-2 : code ≡ 2 → ((buffer : List ℕ) → Left t (λ h q. releaseProcess h q p a buffer) r t′) → (s buffer : List ℕ) → Plain t p code a b c r t′ s buffer
+  unfolding releaseProcess
+  plain-2 e l s buffer =
+      plain-by t p code a b c s buffer (λ h q. releaseProcess h q p a buffer) (rule-2 (configuration t) (rd (configuration t) t) s p code a b c buffer e) refl refl (l buffer)
+
+  pub plain-3 : code ≡ 3 → ((buffer : List ℕ) → Left t (λ h q. buildSegment h q p a b c buffer) r t′) → (s buffer : List ℕ) → Plain t p code a b c r t′ s buffer
+  unfolding buildSegment
+  plain-3 e l s buffer =
+      plain-by t p code a b c s buffer (λ h q. buildSegment h q p a b c buffer) (rule-3 (configuration t) (rd (configuration t) t) s p code a b c buffer e) refl refl (l buffer)
+
+  pub plain-4 : code ≡ 4 → ((buffer : List ℕ) → Left t (λ h q. rendezvous h q p a b buffer) r t′) → (s buffer : List ℕ) → Plain t p code a b c r t′ s buffer
+  unfolding rendezvous
+  plain-4 e l s buffer =
+      plain-by t p code a b c s buffer (λ h q. rendezvous h q p a b buffer) (rule-4 (configuration t) (rd (configuration t) t) s p code a b c buffer e) refl refl (l buffer)
+
+  pub plain-5 : code ≡ 5 → ((buffer : List ℕ) → Left t (λ h q. releaseSegment h q p a buffer) r t′) → (s buffer : List ℕ) → Plain t p code a b c r t′ s buffer
+  unfolding releaseSegment
+  plain-5 e l s buffer =
+      plain-by t p code a b c s buffer (λ h q. releaseSegment h q p a buffer) (rule-5 (configuration t) (rd (configuration t) t) s p code a b c buffer e) refl refl (l buffer)
+
+  pub plain-6 : code ≡ 6 → ((buffer : List ℕ) → Left t (λ h q. setAccess h q p a b buffer) r t′) → (s buffer : List ℕ) → Plain t p code a b c r t′ s buffer
+  unfolding setAccess
+  plain-6 e l s buffer =
+      plain-by t p code a b c s buffer (λ h q. setAccess h q p a b buffer) (rule-6 (configuration t) (rd (configuration t) t) s p code a b c buffer e) refl refl (l buffer)
+
+  pub plain-7 : code ≡ 7 → ((buffer : List ℕ) → Left t (λ h q. create h q p a b buffer) r t′) → (s buffer : List ℕ) → Plain t p code a b c r t′ s buffer
+  unfolding create
+  plain-7 e l s buffer =
+      plain-by t p code a b c s buffer (λ h q. create h q p a b buffer) (rule-7 (configuration t) (rd (configuration t) t) s p code a b c buffer e) refl refl (l buffer)
+
+  pub plain-8 : code ≡ 8 → ((buffer : List ℕ) → Left t (λ h q. openFile h q p a b buffer) r t′) → (s buffer : List ℕ) → Plain t p code a b c r t′ s buffer
+  unfolding openFile
+  plain-8 e l s buffer =
+      plain-by t p code a b c s buffer (λ h q. openFile h q p a b buffer) (rule-8 (configuration t) (rd (configuration t) t) s p code a b c buffer e) refl refl (l buffer)
+
+  pub plain-9 : code ≡ 9 → ((buffer : List ℕ) → Left t (λ h q. close h q p a buffer) r t′) → (s buffer : List ℕ) → Plain t p code a b c r t′ s buffer
+  unfolding close
+  plain-9 e l s buffer =
+      plain-by t p code a b c s buffer (λ h q. close h q p a buffer) (rule-9 (configuration t) (rd (configuration t) t) s p code a b c buffer e) refl refl (l buffer)
+
+  pub plain-10 : code ≡ 10 → ((buffer : List ℕ) → Left t (λ h q. link h q p a buffer) r t′) → (s buffer : List ℕ) → Plain t p code a b c r t′ s buffer
+  unfolding link
+  plain-10 e l s buffer =
+      plain-by t p code a b c s buffer (λ h q. link h q p a buffer) (rule-10 (configuration t) (rd (configuration t) t) s p code a b c buffer e) refl refl (l buffer)
+
+  pub plain-11 : code ≡ 11 → ((buffer : List ℕ) → Left t (λ h q. unlink h q p a buffer) r t′) → (s buffer : List ℕ) → Plain t p code a b c r t′ s buffer
+  unfolding unlink
+  plain-11 e l s buffer =
+      plain-by t p code a b c s buffer (λ h q. unlink h q p a buffer) (rule-11 (configuration t) (rd (configuration t) t) s p code a b c buffer e) refl refl (l buffer)
+
+  pub plain-12 : code ≡ 12 → ((buffer : List ℕ) → Left t (λ h q. setBits h q p a b buffer) r t′) → (s buffer : List ℕ) → Plain t p code a b c r t′ s buffer
+  unfolding setBits
+  plain-12 e l s buffer =
+      plain-by t p code a b c s buffer (λ h q. setBits h q p a b buffer) (rule-12 (configuration t) (rd (configuration t) t) s p code a b c buffer e) (choice-bytes _ _ _ refl refl) (choice-buffer _ _ _ _ refl refl) (l buffer)
+
+  pub plain-18 : code ≡ 18 → ((buffer : List ℕ) → Left t (λ h q. accessOf h q p a buffer) r t′) → (s buffer : List ℕ) → Plain t p code a b c r t′ s buffer
+  unfolding accessOf
+  plain-18 e l s buffer =
+      plain-by t p code a b c s buffer (λ h q. accessOf h q p a buffer) (rule-18 (configuration t) (rd (configuration t) t) s p code a b c buffer e) refl refl (l buffer)
+
+-- ---- from a plain call to the whole
+
+store-plain : (h s : List ℕ) (k : Rule) → k .effects .bytes ≡ [] → s ≡ storeOf h s k
+unfolding storeOf
+store-plain h s k e = split _ (eqb (firstRefusal (k .refusals)) 0) (λ q. rw (q, e)) (λ q. rw q)
+
+buffer-plain : (b : List ℕ) (k : Rule) → k .effects .buffer ≡ b → b ≡ bufferOf b k
+unfolding bufferOf
+buffer-plain b k e = split _ (eqb (firstRefusal (k .refusals)) 0) (λ q. rw (q, e)) (λ q. rw q)
+
+pub plain-through : {t : List ℕ} {p code a b c : ℕ} {r : Answer} {t′ : List ℕ} (s buffer : List ℕ) → Plain t p code a b c r t′ s buffer
+    → Through t s buffer (ruleIn t s p code a b c buffer) r t′ s buffer
+plain-through {t} {p} {code} {a} {b} {c} s buffer x = record {
+  answer = x .left .answer;
+  table = x .left .table;
+  store = store-plain (configuration t) s (ruleIn t s p code a b c buffer) (x .bytes);
+  buffer = buffer-plain buffer (ruleIn t s p code a b c buffer) (x .same);
+}
+
+-- ---- the whole call
+
+-- what is read of one of two outcomes
+outcome-of : {A : Type 0} (f : Outcome → A) (b : Bool) (x y : Outcome) → f (cond b x y) ≡ cond b (f x) (f y)
+outcome-of f true x y = refl
+outcome-of f false x y = refl
+
+said-of : (b : Bool) (x y : Answer) → ruleAnswer (cond b x y) ≡ cond b (ruleAnswer x) (ruleAnswer y)
+said-of true x y = refl
+said-of false x y = refl
+
+module _ (t s : List ℕ) (p code a b c : ℕ) (buffer : List ℕ) where
+  -- refused with 1, 2 or 3
+  pub bad-table : {r : Answer} → test (wellFormed t (length s)) ≡ false → r ≡ said 1 0 0 → Did (step (stateOf t s) (callOf p code a b c buffer)) r t s buffer
+  unfolding step wholeRule carriedOut
+  bad-table e re = rw e (record { answered = ap ruleAnswer re; table = refl; store = refl; buffer = refl })
+
+  module _ (good : test (wellFormed t (length s)) ≡ true) where
+    pub bad-caller : {r : Answer} → badCaller (configuration t) (rd (configuration t) t) p ≡ true → r ≡ said 2 0 0 → Did (step (stateOf t s) (callOf p code a b c buffer)) r t s buffer
+    unfolding step wholeRule carriedOut
+    bad-caller e re = rw (good, e) (record { answered = ap ruleAnswer re; table = refl; store = refl; buffer = refl })
+
+    module _ (there : badCaller (configuration t) (rd (configuration t) t) p ≡ false) where
+      pub bad-code : {r : Answer} → badCode code ≡ true → r ≡ said 3 0 0 → Did (step (stateOf t s) (callOf p code a b c buffer)) r t s buffer
+      unfolding step wholeRule carriedOut
+      bad-code e re = rw (good, there, e) (record { answered = ap ruleAnswer re; table = refl; store = refl; buffer = refl })
+
+      pub done : {r : Answer} {t′ s′ b′ : List ℕ} → badCode code ≡ false → Through t s buffer (ruleIn t s p code a b c buffer) r t′ s′ b′
+          → Did (step (stateOf t s) (callOf p code a b c buffer)) r t′ s′ b′
+      unfolding step wholeRule carriedOut answerOf tableOf storeOf bufferOf
+      done e x = rw (good, there, e) (record {
+        answered = ap ruleAnswer (x .answer) ∙ said-of _ _ _ ∙ sym (outcome-of (λ o. o .answered) _ _ _);
+        table = x .table ∙ sym (outcome-of (λ o. o .state .table) _ _ _);
+        store = x .store ∙ sym (outcome-of (λ o. o .state .store) _ _ _);
+        buffer = x .buffer ∙ sym (outcome-of (λ o. o .buffer) _ _ _);
+      })
