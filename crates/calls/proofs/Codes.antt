@@ -6,9 +6,10 @@ use Prim.Native.Nat.{ℕ}
 use lib.Dec.{eqb}
 use lib.ListN.{length}
 use Rattle.rules.specs.Claim.{test}
-use Rattle.rules.specs.Layout.{Addr, configuration, rd}
+use Rattle.rules.specs.Layout.{Addr, process, segment, configuration, rd}
+use Rattle.rules.specs.Seid.{class, classOf, orSelf}
 use Rattle.rules.specs.WellFormed.{wellFormed}
-use Rattle.rules.specs.Rule.{Rule, firstRefusal, write, store}
+use Rattle.rules.specs.Rule.{Refusal, Rule, rule, firstRefusal, write, store}
 use Rattle.rules.specs.Call01.{spawn}
 use Rattle.rules.specs.Call02.{releaseProcess}
 use Rattle.rules.specs.Call03.{buildSegment}
@@ -32,6 +33,7 @@ use Rattle.rules.specs.Step.{Outcome, ruleOf, badCaller, badCode, carriedOut, w
 use Rattle.laws.proofs.Tests.{split, cond-true, cond-false}
 use Rattle.calls.specs.declared.Answer.{Answer}
 use Rattle.calls.specs.Left.{said, ruleAt, answerOf, tableOf, storeOf, bufferOf, Left}
+use Rattle.calls.specs.Blocks.{ReadLeft, WriteLeft}
 use Rattle.calls.specs.Did.{stateOf, callOf, ruleAnswer, Did, Through, ruleIn, Plain}
 use Rattle.calls.proofs.Posts.{left-same}
 
@@ -118,13 +120,14 @@ plain-by t p code a b c s buffer f e x y l = record {
   same = ap (λ (k : Rule). k .effects .buffer) e ∙ y;
 }
 
-choice-bytes : (b : Bool) (k l : Rule) → k .effects .bytes ≡ [] → l .effects .bytes ≡ [] → cond b k l .effects .bytes ≡ []
-choice-bytes true k l x y = x
-choice-bytes false k l x y = y
+-- call 12's rule is one of two, by the seid's class
+bits-bytes : (h : List ℕ) (q : Addr → ℕ) (p a b : ℕ) (buffer : List ℕ) → setBits h q p a b buffer .effects .bytes ≡ []
+unfolding setBits
+bits-bytes h q p a b buffer = split _ (eqb (classOf (orSelf q p a)) (class segment)) (λ e. rw e) (λ e. rw e)
 
-choice-buffer : (b : Bool) (k l : Rule) (z : List ℕ) → k .effects .buffer ≡ z → l .effects .buffer ≡ z → cond b k l .effects .buffer ≡ z
-choice-buffer true k l z x y = x
-choice-buffer false k l z x y = y
+bits-buffer : (h : List ℕ) (q : Addr → ℕ) (p a b : ℕ) (buffer : List ℕ) → setBits h q p a b buffer .effects .buffer ≡ buffer
+unfolding setBits
+bits-buffer h q p a b buffer = split _ (eqb (classOf (orSelf q p a)) (class segment)) (λ e. rw e) (λ e. rw e)
 
 module _ (t : List ℕ) (p code a b c : ℕ) {r : Answer} {t′ : List ℕ} where
   pub plain-1 : code ≡ 1 → ((buffer : List ℕ) → Left t (λ h q. spawn h q p a b buffer) r t′) → (s buffer : List ℕ) → Plain t p code a b c r t′ s buffer
@@ -185,7 +188,7 @@ module _ (t : List ℕ) (p code a b c : ℕ) {r : Answer} {t′ : List ℕ} wher
   pub plain-12 : code ≡ 12 → ((buffer : List ℕ) → Left t (λ h q. setBits h q p a b buffer) r t′) → (s buffer : List ℕ) → Plain t p code a b c r t′ s buffer
   unfolding setBits
   plain-12 e l s buffer =
-      plain-by t p code a b c s buffer (λ h q. setBits h q p a b buffer) (rule-12 (configuration t) (rd (configuration t) t) s p code a b c buffer e) (choice-bytes _ _ _ refl refl) (choice-buffer _ _ _ _ refl refl) (l buffer)
+      plain-by t p code a b c s buffer (λ h q. setBits h q p a b buffer) (rule-12 (configuration t) (rd (configuration t) t) s p code a b c buffer e) (bits-bytes (configuration t) (rd (configuration t) t) p a b buffer) (bits-buffer (configuration t) (rd (configuration t) t) p a b buffer) (l buffer)
 
   pub plain-18 : code ≡ 18 → ((buffer : List ℕ) → Left t (λ h q. accessOf h q p a buffer) r t′) → (s buffer : List ℕ) → Plain t p code a b c r t′ s buffer
   unfolding accessOf
@@ -197,6 +200,21 @@ module _ (t : List ℕ) (p code a b c : ℕ) {r : Answer} {t′ : List ℕ} wher
 store-plain : (h s : List ℕ) (k : Rule) → k .effects .bytes ≡ [] → s ≡ storeOf h s k
 unfolding storeOf
 store-plain h s k e = split _ (eqb (firstRefusal (k .refusals)) 0) (λ q. rw (q, e)) (λ q. rw q)
+
+table-plain : (h t : List ℕ) (k : Rule) → k .effects .words ≡ [] → t ≡ tableOf h t k
+unfolding tableOf
+table-plain h t k e = split _ (eqb (firstRefusal (k .refusals)) 0) (λ q. rw (q, e)) (λ q. rw q)
+
+-- call 17's rule is one of three, none of which writes
+told-words : (h : List ℕ) (q : Addr → ℕ) (p a : ℕ) (buffer : List ℕ) → status h q p a buffer .effects .words ≡ []
+unfolding status
+told-words h q p a buffer = split _ (eqb (classOf (orSelf q p a)) (class process)) (λ e. rw e)
+    (λ e. rw e (split _ (eqb (classOf (orSelf q p a)) (class segment)) (λ f. rw f) (λ f. rw f)))
+
+told-bytes : (h : List ℕ) (q : Addr → ℕ) (p a : ℕ) (buffer : List ℕ) → status h q p a buffer .effects .bytes ≡ []
+unfolding status
+told-bytes h q p a buffer = split _ (eqb (classOf (orSelf q p a)) (class process)) (λ e. rw e)
+    (λ e. rw e (split _ (eqb (classOf (orSelf q p a)) (class segment)) (λ f. rw f) (λ f. rw f)))
 
 buffer-plain : (b : List ℕ) (k : Rule) → k .effects .buffer ≡ b → b ≡ bufferOf b k
 unfolding bufferOf
@@ -213,14 +231,13 @@ plain-through {t} {p} {code} {a} {b} {c} s buffer x = record {
 
 -- ---- the whole call
 
--- what is read of one of two outcomes
-outcome-of : {A : Type 0} (f : Outcome → A) (b : Bool) (x y : Outcome) → f (cond b x y) ≡ cond b (f x) (f y)
-outcome-of f true x y = refl
-outcome-of f false x y = refl
-
-said-of : (b : Bool) (x y : Answer) → ruleAnswer (cond b x y) ≡ cond b (ruleAnswer x) (ruleAnswer y)
-said-of true x y = refl
-said-of false x y = refl
+-- a rule carried out, with other refusals of the same first number
+carried : (t s b : List ℕ) (k : Rule) (rs : List Refusal) {r : Answer} {t′ s′ b′ : List ℕ} → firstRefusal rs ≡ firstRefusal (k .refusals) → Through t s b k r t′ s′ b′
+    → Did (carriedOut (configuration t) (stateOf t s) b (rule rs (k .effects))) r t′ s′ b′
+unfolding carriedOut answerOf tableOf storeOf bufferOf
+carried t s b k rs e x = split _ (eqb (firstRefusal (k .refusals)) 0)
+    (λ q. rw (e, q) (record { answered = ap ruleAnswer (rw q at (x .answer)); table = rw q at (x .table); store = rw q at (x .store); buffer = rw q at (x .buffer) }))
+    (λ q. rw (e, q) (record { answered = ap ruleAnswer (rw q at (x .answer)); table = rw q at (x .table); store = rw q at (x .store); buffer = rw q at (x .buffer) }))
 
 module _ (t s : List ℕ) (p code a b c : ℕ) (buffer : List ℕ) where
   -- refused with 1, 2 or 3
@@ -240,10 +257,48 @@ module _ (t s : List ℕ) (p code a b c : ℕ) (buffer : List ℕ) where
 
       pub done : {r : Answer} {t′ s′ b′ : List ℕ} → badCode code ≡ false → Through t s buffer (ruleIn t s p code a b c buffer) r t′ s′ b′
           → Did (step (stateOf t s) (callOf p code a b c buffer)) r t′ s′ b′
-      unfolding step wholeRule carriedOut answerOf tableOf storeOf bufferOf
-      done e x = rw (good, there, e) (record {
-        answered = ap ruleAnswer (x .answer) ∙ said-of _ _ _ ∙ sym (outcome-of (λ o. o .answered) _ _ _);
-        table = x .table ∙ sym (outcome-of (λ o. o .state .table) _ _ _);
-        store = x .store ∙ sym (outcome-of (λ o. o .state .store) _ _ _);
-        buffer = x .buffer ∙ sym (outcome-of (λ o. o .buffer) _ _ _);
-      })
+      unfolding step wholeRule
+      done e x = carried t s buffer (ruleIn t s p code a b c buffer) _ (rw (good, there, e)) x
+
+-- ---- the calls that look at the store or the buffer
+
+module _ (t s : List ℕ) (p code a b c : ℕ) (buffer : List ℕ) {r : Answer} where
+  through-by : {t′ s′ b′ : List ℕ} (k : Rule) → ruleIn t s p code a b c buffer ≡ k → r ≡ answerOf k → t′ ≡ tableOf (configuration t) t k
+      → s′ ≡ storeOf (configuration t) s k → b′ ≡ bufferOf buffer k → Through t s buffer (ruleIn t s p code a b c buffer) r t′ s′ b′
+  through-by k e x y z v = record {
+    answer = x ∙ ap answerOf (sym e);
+    table = y ∙ ap (tableOf (configuration t) t) (sym e);
+    store = z ∙ ap (storeOf (configuration t) s) (sym e);
+    buffer = v ∙ ap (bufferOf buffer) (sym e);
+  }
+
+  pub through-13 : {b′ : List ℕ} → code ≡ 13 → ReadLeft t s p a b buffer r b′ → Through t s buffer (ruleIn t s p code a b c buffer) r t s b′
+  through-13 e x =
+      let k = readBlock (configuration t) (rd (configuration t) t) s p a b buffer in
+      through-by k (rule-13 (configuration t) (rd (configuration t) t) s p code a b c buffer e) (x .left .answer) (x .left .table) (x .store) (x .buffer)
+
+  pub through-14 : {t′ s′ : List ℕ} → code ≡ 14 → WriteLeft t s p a b buffer r t′ s′ → Through t s buffer (ruleIn t s p code a b c buffer) r t′ s′ buffer
+  through-14 e x =
+      let k = writeBlock (configuration t) (rd (configuration t) t) p a b buffer in
+      through-by k (rule-14 (configuration t) (rd (configuration t) t) s p code a b c buffer e) (x .left .answer) (x .left .table) (x .store) (x .buffer)
+
+  pub through-15 : {t′ : List ℕ} → code ≡ 15 → Left t (λ h q. post h q p a buffer) r t′ → Through t s buffer (ruleIn t s p code a b c buffer) r t′ s buffer
+  unfolding post
+  through-15 e x =
+      let k = post (configuration t) (rd (configuration t) t) p a buffer in
+      through-by k (rule-15 (configuration t) (rd (configuration t) t) s p code a b c buffer e) (x .answer) (x .table) (store-plain (configuration t) s k refl)
+      (buffer-plain buffer k refl)
+
+  pub through-16 : {t′ b′ : List ℕ} → code ≡ 16 → Left t (λ h q. receive h q p buffer) r t′ × (b′ ≡ bufferOf buffer (ruleAt t (λ h q. receive h q p buffer)))
+      → Through t s buffer (ruleIn t s p code a b c buffer) r t′ s b′
+  unfolding receive
+  through-16 e x =
+      let k = receive (configuration t) (rd (configuration t) t) p buffer in
+      through-by k (rule-16 (configuration t) (rd (configuration t) t) s p code a b c buffer e) (x .0 .answer) (x .0 .table) (store-plain (configuration t) s k refl) (x .1)
+
+  pub through-17 : {b′ : List ℕ} → code ≡ 17 → (r ≡ answerOf (ruleAt t (λ h q. status h q p a buffer))) × (b′ ≡ bufferOf buffer (ruleAt t (λ h q. status h q p a buffer)))
+      → Through t s buffer (ruleIn t s p code a b c buffer) r t s b′
+  through-17 e x =
+      let k = status (configuration t) (rd (configuration t) t) p a buffer in
+      through-by k (rule-17 (configuration t) (rd (configuration t) t) s p code a b c buffer e) (x .0) (table-plain (configuration t) t k (told-words (configuration t) (rd (configuration t) t) p a buffer))
+      (store-plain (configuration t) s k (told-bytes (configuration t) (rd (configuration t) t) p a buffer)) (x .1)

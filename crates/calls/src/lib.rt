@@ -1,6 +1,7 @@
 // The eighteen calls over the lent table, store and buffer.
 mod base;
 mod blocks;
+mod dispatch;
 mod files;
 mod mail;
 mod objects;
