@@ -15,3 +15,4 @@ pub mod SegmentsLaws
 pub mod ProcessesLaws
 pub mod Statuses
 pub mod Codes
+pub mod Whole

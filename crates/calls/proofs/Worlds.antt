@@ -11,11 +11,11 @@ use lib.ListN.{length, getD, set}
 use borrow.Author.Tests.{lt-ltb, le-ltb, eq-eqb, ne-eqb}
 use Rattle.rules.specs.Words.{sumBelow, lowest}
 use Rattle.rules.specs.Claim.{Holds}
-use Rattle.rules.specs.Layout.{maxSlots, maxCells, maxSerial, Kind, process, segment, file, headerWords, cellWords, recordWords, cells, slots, blocks, cellWord, cellSlots, cellSlotsWord, configuration, firstSlot, cellOf, Addr, at, base, offset, rd}
+use Rattle.rules.specs.Layout.{maxSlots, maxCells, maxSerial, Kind, process, segment, file, headerWords, cellWords, recordWords, cells, slots, slotsWord, blocks, cellWord, cellSlots, cellSlotsWord, configuration, firstSlot, cellOf, Addr, at, base, offset, rd, live}
 use Rattle.rules.specs.WellFormed.{configured}
 use Rattle.laws.proofs.Below.{sum-more, sum-grows, term-le}
 use Rattle.laws.proofs.Search.{lowest-is, lowest-none}
-use Rattle.laws.proofs.Places.{conf-cells, conf-cell}
+use Rattle.laws.proofs.Places.{conf-cells, conf-slots, conf-blocks, conf-cell}
 use Rattle.laws.proofs.Shape.{Shape, shape-of}
 use Rattle.calls.specs.declared.World.{World}
 use Rattle.calls.specs.World.{worldOf, baseBy, offsetBy, rdBy, Known, Sound, firstBy, cellBy, freeTest, emptyTest}
@@ -135,11 +135,46 @@ pub filled-told : (t : List ℕ) (from d : ℕ) {y x : ℕ} → y ≡ d → x �
 unfolding emptyTest
 filled-told t from d e p r = rw (← e, ← p) (ne-eqb _ 0 r)
 
+-- the header's words, as the code reads them
+pub header-cells : (t : List ℕ) → cells (configuration t) ≡ getD t 0 0
+unfolding cells
+header-cells t = conf-cells t
+
+header-slots : (t : List ℕ) (k : Kind) → slots (configuration t) k ≡ getD t (slotsWord k) 0
+unfolding slots
+header-slots t k = conf-slots t k
+
+header-blocks : (t : List ℕ) → blocks (configuration t) ≡ getD t 4 0
+unfolding blocks
+header-blocks t = conf-blocks t
+
 -- the word of a cell's record that counts the slots of a kind
-pub kind-word : {t : List ℕ} {w : World} → Known t w → (k : Kind) → (cellSlotsWord k < cellWords) × (firstBy (configuration t) (cellSlotsWord k) (cells (configuration t)) ≤ maxSlots)
-kind-word {t} s k = (small k, rw (first-by-kind (configuration t) k (cells (configuration t)), shape s .sums k) (shape s .few k))
+pub word-of-kind : (h : List ℕ) → Shape h → (k : Kind) → (cellSlotsWord k < cellWords) × (firstBy h (cellSlotsWord k) (cells h) ≤ maxSlots)
+word-of-kind h s k = (small k, rw (first-by-kind h k (cells h), s .sums k) (s .few k))
   where
     small : (k : Kind) → cellSlotsWord k < cellWords
     small process = omega arith
     small segment = omega arith
     small file = omega arith
+
+pub kind-word : {t : List ℕ} {w : World} → Known t w → (k : Kind) → (cellSlotsWord k < cellWords) × (firstBy (configuration t) (cellSlotsWord k) (cells (configuration t)) ≤ maxSlots)
+kind-word {t} s k = word-of-kind (configuration t) (shape s) k
+
+-- a world made of the table's own words
+pub own-world : (t : List ℕ) {p x0 x1 x2 x3 x4 h : ℕ} → x0 ≡ getD t 0 0 → x1 ≡ getD t 1 0 → x2 ≡ getD t 2 0 → x3 ≡ getD t 3 0 → x4 ≡ getD t 4 0
+    → h ≡ cellBy (configuration t) 3 p
+    → _≡_ {A = World} (record { cells = x0; processes = x1; segments = x2; files = x3; blocks = x4; me = p; home = h }) (worldOf (configuration t) p)
+own-world t {p} e0 e1 e2 e3 e4 eh = λ i. record {
+  cells = (e0 ∙ sym (header-cells t)) i;
+  processes = (e1 ∙ sym (header-slots t process)) i;
+  segments = (e2 ∙ sym (header-slots t segment)) i;
+  files = (e3 ∙ sym (header-slots t file)) i;
+  blocks = (e4 ∙ sym (header-blocks t)) i;
+  me = p;
+  home = (eh ∙ by-kind (configuration t) process p) i;
+}
+
+-- the same reading, of a world that is the table's own
+pub spot-world : (t : List ℕ) {w : World} → w ≡ worldOf (configuration t) (w .me) → rdBy w t (at process (w .me) live) ≡ rd (configuration t) t (at process (w .me) live)
+unfolding rd offsetBy
+spot-world t {w} e = ap (λ (y : World). getD t (headerWords + cellWords * y .cells + recordWords process * w .me + live) 0) e

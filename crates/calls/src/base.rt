@@ -134,12 +134,11 @@ pub(crate) fn put_file(t: &mut [u32], w: World, f: u32, j: usize, v: u32)
     put(t, file_place(w, f, j), v);
 }
 
-// The cell whose run of slots of a kind holds slot i, or the number of cells where none does. k is the word of a cell's record that counts these slots.
-fn cell_by(t: &[u32], w: World, k: usize, i: u32) -> u32
-    requires { ⌜ Known (now t) w × (k < cellWords) × (firstBy (configuration (now t)) k (cells (configuration (now t))) ≤ maxSlots) ⌝ }
+// The cell, of n, whose run of slots of a kind holds slot i, or n where none does. k is the word of a cell's record that counts these slots.
+pub(crate) fn cell_by(t: &[u32], n: u32, k: usize, i: u32) -> u32
+    requires { ⌜ (n ≡ cells (configuration (now t))) × (k < cellWords) × (firstBy (configuration (now t)) k (cells (configuration (now t))) ≤ maxSlots) ⌝ }
     ensures { λ r. ⌜ r ≡ cellBy (configuration (now (t .entry))) k i ⌝ }
 {
-    let n = w.cells;
     let mut end: u32 = 0;
     let mut c: u32 = 0;
     while c < n {
@@ -156,21 +155,21 @@ pub(crate) fn process_cell(t: &[u32], w: World, p: u32) -> u32
     requires { ⌜ Known (now t) w ⌝ }
     ensures { λ r. ⌜ r ≡ cellOf (configuration (now (t .entry))) process p ⌝ }
 {
-    cell_by(t, w, CELL_PROCESSES, p)
+    cell_by(t, w.cells, CELL_PROCESSES, p)
 }
 
 pub(crate) fn segment_cell(t: &[u32], w: World, s: u32) -> u32
     requires { ⌜ Known (now t) w ⌝ }
     ensures { λ r. ⌜ r ≡ cellOf (configuration (now (t .entry))) segment s ⌝ }
 {
-    cell_by(t, w, CELL_SEGMENTS, s)
+    cell_by(t, w.cells, CELL_SEGMENTS, s)
 }
 
 pub(crate) fn file_cell(t: &[u32], w: World, f: u32) -> u32
     requires { ⌜ Known (now t) w ⌝ }
     ensures { λ r. ⌜ r ≡ cellOf (configuration (now (t .entry))) file f ⌝ }
 {
-    cell_by(t, w, CELL_FILES, f)
+    cell_by(t, w.cells, CELL_FILES, f)
 }
 
 // The lowest of n slots from one on that isn't live and can be used once more, or the end of them. The records begin at base.

@@ -2,18 +2,18 @@
 use Prim.Native.Nat.{_-_}
 use native.Mathlib.Omega.{arith}
 use borrow.Author.Needs.{needs}
-use Rattle.calls.proofs.Worlds.{cells-is, Passed, passed-none, at-end, sum-small, found, further}
+use Rattle.calls.proofs.Worlds.{Passed, passed-none, at-end, sum-small, found, further}
 use Rattle.calls.proofs.base.cell_by.Statement.{statement}
 use Rattle.calls.proofs.base.cell_by.Tie as tie
 
 abbrev Inv-loop : tie.InvT-loop
-Inv-loop t k i n end₀ c₀ end c = Passed t k i n end c
+Inv-loop t n k i end₀ c₀ end c = Passed t k i n end c
 
 abbrev μ-loop : tie.MeasureT-loop
-μ-loop t k i n end₀ c₀ end c = n - c
+μ-loop t n k i end₀ c₀ end c = n - c
 
 loop-holds : tie.Need-loop-holds Inv-loop μ-loop
-loop-holds c = passed-none _ _ _ _ (cells-is (c .before .pre .0))
+loop-holds c = passed-none _ _ _ _ (c .before .pre .0)
 
 wide-requires : tie.Need-wide-requires Inv-loop μ-loop
 wide-requires c κs = search needs

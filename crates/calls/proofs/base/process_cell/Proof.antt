@@ -1,12 +1,12 @@
 -- `base::process_cell` meets its contract: the cell by the word that counts process slots.
 use Rattle.rules.specs.Layout.{process}
 use mathlib.Core.Path.{_∙_}
-use Rattle.calls.proofs.Worlds.{kind-word, by-kind}
+use Rattle.calls.proofs.Worlds.{cells-is, kind-word, by-kind}
 use Rattle.calls.proofs.base.process_cell.Statement.{statement}
 use Rattle.calls.proofs.base.process_cell.Tie as tie
 
 cell-by-requires : tie.Need-cell-by-requires
-cell-by-requires c κs = let x = kind-word (c .before .pre) process in (c .before .pre, x .0, x .1)
+cell-by-requires c κs = let x = kind-word (c .before .pre) process in (cells-is (c .before .pre), x .0, x .1)
 
 returns : tie.Need-returns
 returns c = c .cell-by .ensures ∙ by-kind _ process _

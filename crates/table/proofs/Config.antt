@@ -1,0 +1,116 @@
+-- The configuration's claims, read off the table's own words.
+use mathlib.Core.Path.{_≡_, refl, sym, ap, ap₂, _∙_}
+use mathlib.Core.Bool.{Bool, true, false, _&&_, not}
+use mathlib.Core.List.{List}
+use Prim.Native.Nat.{ℕ, _+_, _*_, _≤_, _<_}
+use native.Mathlib.Omega.{arith}
+use lib.Dec.{leb, eqb}
+use lib.ListN.{length, getD}
+use borrow.Author.Tests.{ne-eqb}
+use Rattle.rules.specs.Claim.{test, _&_, each}
+use Rattle.rules.specs.Level.{equals}
+use Rattle.rules.specs.Layout.{maxCells, maxSlots, maxBlocks, maxCategory, maxOwner, blockBytes, headerWords, cellWords, Kind, process, segment, file, recordWords, cells, slots, blocks, cellWord, levelOf, configuration, base, tableWords, storeBytes}
+use Rattle.rules.specs.WellFormed.{headerOk, cellOk, levelsDistinct, sumsMatch, configured, lengthsExact}
+use Rattle.rules.specs.SetUp.{canSetUp}
+use Rattle.laws.proofs.Claims.{holds}
+use Rattle.laws.proofs.Places.{conf-word, conf-cells, conf-slots, conf-blocks}
+use Rattle.table.specs.declared.header.Header.{Header}
+use Rattle.table.specs.Shape.{IsHeader, slotsOf, baseOf, RecordAt, Small, Framed, Shaped}
+
+-- a word of the header
+pub head-word : (t : List ℕ) (i : ℕ) → i < headerWords → getD (configuration t) i 0 ≡ getD t i 0
+head-word t i l = conf-word t i (omega arith)
+
+-- a word of a cell
+pub cell-word : (t : List ℕ) (c k : ℕ) → c < getD t 0 0 → k < cellWords → cellWord (configuration t) c k ≡ getD t (headerWords + cellWords * c + k) 0
+unfolding cellWord cells
+cell-word t c k l m = conf-word t (headerWords + cellWords * c + k) (omega arith)
+
+-- the header's numbers are the configuration's
+module _ (t : List ℕ) (n : Header) (is : IsHeader t n) where
+  pub cells-read : cells (configuration t) ≡ n .cells
+  unfolding cells
+  cells-read = head-word t 0 (omega arith) ∙ sym (is .cells-is)
+
+  pub slots-read : (k : Kind) → slots (configuration t) k ≡ slotsOf n k
+  unfolding slots
+  slots-read process = head-word t 1 (omega arith) ∙ sym (is .processes-is)
+  slots-read segment = head-word t 2 (omega arith) ∙ sym (is .segments-is)
+  slots-read file = head-word t 3 (omega arith) ∙ sym (is .files-is)
+
+  pub base-read : (k : Kind) → base (configuration t) k ≡ baseOf n k
+  base-read process = rw cells-read
+  base-read segment = rw (cells-read, slots-read process)
+  base-read file = rw (cells-read, slots-read process, slots-read segment)
+
+  pub blocks-read : blocks (configuration t) ≡ n .blocks
+  unfolding blocks
+  blocks-read = head-word t 4 (omega arith) ∙ sym (is .blocks-is)
+
+  -- what a good header and exact lengths say of them
+  pub small-of : test (headerOk (configuration t)) ≡ true → Small n
+  unfolding headerOk
+  small-of e =
+      let h = holds (headerOk (configuration t)) e in
+      record {
+        few-cells = rw cells-read at (h .0 .1);
+        few-processes = rw (slots-read process) at (h .1 .0 .1);
+        few-segments = rw (slots-read segment) at (h .1 .1 .0);
+        few-files = rw (slots-read file) at (h .1 .1 .1 .0);
+        few-blocks = rw blocks-read at (h .1 .1 .1 .1 .0 .1);
+      }
+
+  pub framed-of : (m : ℕ) → Small n → test (lengthsExact (configuration t) (length t) m) ≡ true → Framed t n
+  unfolding lengthsExact
+  framed-of m s e =
+      let h = holds (lengthsExact (configuration t) (length t) m) e in
+      record { header = is; small = s; exact = rw (base-read file, slots-read file) at (h .0) }
+
+-- ---- where a record lies
+
+module _ (n : Header) (small : Small n) where
+  record-at : (k : Kind) (i : ℕ) → i < slotsOf n k → RecordAt n k i (baseOf n k + recordWords k * i)
+  record-at process i l = record { at-is = refl; whole = omega arith; within = omega arith }
+  record-at segment i l = record { at-is = refl; whole = omega arith; within = omega arith }
+  record-at file i l = record { at-is = refl; whole = omega arith; within = omega arith }
+
+  record-low : (k : Kind) (i : ℕ) → i < slotsOf n k → baseOf n k + recordWords k * i < 65536
+  record-low process i l = omega arith
+  record-low segment i l = omega arith
+  record-low file i l = omega arith
+
+  -- the same where the code has the base and the size from functions
+  module _ (k : Kind) (i base size : ℕ) (l : i < slotsOf n k) (b : base ≡ baseOf n k) (w : size ≡ recordWords k) where
+    pub record-fits : base + size * i < 65536
+    record-fits = rw (b, w) (record-low k i l)
+
+    pub record-is : RecordAt n k i (base + size * i)
+    record-is = rw (b, w) (record-at k i l)
+
+-- ---- set-up's claim, test by test
+
+pub and-false : (b : Bool) → b && false ≡ false
+and-false true = refl
+and-false false = refl
+
+pub and-true : (b : Bool) → b && true ≡ b
+and-true true = refl
+and-true false = refl
+
+module _ (t : List ℕ) (m : ℕ) where
+  pub wrong-lengths : test (lengthsExact (configuration t) (length t) m) ≡ false → test (canSetUp t m) ≡ false
+  unfolding canSetUp
+  wrong-lengths e = ap (λ (b : Bool). test (configured (configuration t)) && b) e ∙ and-false (test (configured (configuration t)))
+
+  pub too-short : length t < headerWords → test (canSetUp t m) ≡ false
+  unfolding lengthsExact
+  too-short l = wrong-lengths (rw (ne-eqb (length t) (tableWords (configuration t)) (omega arith)))
+
+  pub wrong-header : test (headerOk (configuration t)) ≡ false → test (canSetUp t m) ≡ false
+  unfolding canSetUp configured
+  wrong-header e = rw e
+
+  pub right-frame : test (headerOk (configuration t)) ≡ true → test (lengthsExact (configuration t) (length t) m) ≡ true
+      → test (each (cells (configuration t)) (cellOk (configuration t)) & levelsDistinct (configuration t) & sumsMatch (configuration t)) ≡ test (canSetUp t m)
+  unfolding canSetUp configured
+  right-frame a b = rw (a, b) (sym (and-true _))

@@ -1,0 +1,11 @@
+-- What the functions' proofs share.
+pub mod Loops
+pub mod Config
+pub mod Filled
+pub mod Holders
+pub mod Tally
+pub mod Record
+pub mod Alive
+pub mod Owned
+pub mod Object
+pub mod Formed

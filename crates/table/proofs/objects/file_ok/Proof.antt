@@ -1,0 +1,112 @@
+-- `objects::file_ok` meets its contract: the record's words, one by one, and its count.
+use borrow.Author.Needs.{needs}
+use native.Mathlib.Omega.{arith}
+use mathlib.Core.Path.{_≡_, ap, _∙_}
+use mathlib.Core.Bool.{Bool, _&&_}
+use Prim.Native.Nat.{_+_}
+use lib.Dec.{eqb}
+use lib.ListN.{getD}
+use Rattle.rules.specs.Layout.{opens}
+use Rattle.table.proofs.objects.file_ok.Statement.{statement}
+use Rattle.table.proofs.Object.{file-claim}
+use Rattle.table.proofs.objects.file_ok.Tie as tie
+
+record-at-requires : tie.Need-record-at-requires
+record-at-requires c κs = search needs
+
+add-wide : tie.Need-add-wide
+add-wide c = search needs
+
+mul-wide : tie.Need-mul-wide
+mul-wide c = search needs
+
+shared-slice-read-wide : tie.Need-shared-slice-read-wide
+shared-slice-read-wide c = search needs
+
+wide-requires : tie.Need-wide-requires
+wide-requires c κs = search needs
+
+add-wide-2 : tie.Need-add-wide-2
+add-wide-2 c = search needs
+
+mul-wide-2 : tie.Need-mul-wide-2
+mul-wide-2 c = search needs
+
+shared-slice-read-wide-2 : tie.Need-shared-slice-read-wide-2
+shared-slice-read-wide-2 c = search needs
+
+wide-requires-2 : tie.Need-wide-requires-2
+wide-requires-2 c κs = search needs
+
+add-wide-3 : tie.Need-add-wide-3
+add-wide-3 c = search needs
+
+mul-wide-3 : tie.Need-mul-wide-3
+mul-wide-3 c = search needs
+
+shared-slice-read-wide-3 : tie.Need-shared-slice-read-wide-3
+shared-slice-read-wide-3 c = search needs
+
+wide-requires-3 : tie.Need-wide-requires-3
+wide-requires-3 c κs = search needs
+
+add-alive : tie.Need-add-alive
+add-alive c = search needs
+
+mul-alive : tie.Need-mul-alive
+mul-alive c = search needs
+
+shared-slice-read-alive : tie.Need-shared-slice-read-alive
+shared-slice-read-alive c = search needs
+
+cast-alive : tie.Need-cast-alive
+cast-alive c = search needs
+
+add-alive-2 : tie.Need-add-alive-2
+add-alive-2 c = omega (arith, c .before .before .before .before .before .before .wide .ensures, c .before .before .before .before .wide2 .ensures, c .before .before .before .before .before .before .before .shared-slice-known2 .given (c .before .before .before .before .before .before .before .before .record-at .result + 5), c .before .before .before .before .before .shared-slice-known3 .given (c .before .before .before .before .before .before .before .before .record-at .result + 7))
+
+record-ok-requires : tie.Need-record-ok-requires
+record-ok-requires c κs = search needs
+
+add-result : tie.Need-add-result
+add-result c = search needs
+
+mul-result : tie.Need-mul-result
+mul-result c = search needs
+
+shared-slice-read-result : tie.Need-shared-slice-read-result
+shared-slice-read-result c = search needs
+
+returns : tie.Need-returns
+returns c =
+    let s = c .before .before .before .before .before .before .before .before .before .before .before .before in
+    ap (λ (b : Bool). b && eqb (getD (s .args .t .now) (c .before .before .before .before .before .before .before .before .before .before .record-at .result + opens) 0) (s .args .held)) (c .before .record-ok .ensures)
+    ∙ rw (c .before .before .before .before .wide3 .ensures, c .before .before .before .before .before .before .wide2 .ensures, c .before .before .before .before .before .before .before .before .wide .ensures) (file-claim (s .args .t .now) (s .args .n) (s .pre .0) (s .args .f) _ (s .args .held) (c .before .before .before .before .before .before .before .before .before .before .record-at .ensures) (s .pre .2))
+
+pub file-ok-spec : {M : Type 1} → statement M
+file-ok-spec =
+    tie.close
+    (tie.spec
+    record-at-requires
+    add-wide
+    mul-wide
+    shared-slice-read-wide
+    wide-requires
+    add-wide-2
+    mul-wide-2
+    shared-slice-read-wide-2
+    wide-requires-2
+    add-wide-3
+    mul-wide-3
+    shared-slice-read-wide-3
+    wide-requires-3
+    add-alive
+    mul-alive
+    shared-slice-read-alive
+    cast-alive
+    add-alive-2
+    record-ok-requires
+    add-result
+    mul-result
+    shared-slice-read-result
+    returns)

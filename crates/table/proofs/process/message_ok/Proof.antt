@@ -1,0 +1,106 @@
+-- `process::message_ok` meets its contract, for a message in the queue and for one past it.
+use borrow.Author.Needs.{needs}
+use native.Mathlib.Omega.{arith}
+use mathlib.Core.Path.{_≡_, sym, ap, ap₂, _∙_}
+use Prim.Native.Nat.{ℕ, _+_, _*_}
+use lib.Dec.{eqb}
+use Rattle.rules.specs.Words.{allBelow}
+use Rattle.rules.specs.Claim.{test}
+use Rattle.rules.specs.Layout.{process, queue, cellOf, messageAt, configuration, at, rd}
+use Rattle.rules.specs.WellFormed.{heldOk}
+use Rattle.table.proofs.process.message_ok.Statement.{statement}
+use Rattle.table.proofs.Config.{slots-read}
+use Rattle.table.proofs.Holders.{record-word, record-words, cell-small}
+use Rattle.table.proofs.Alive.{message-held, message-unused}
+use Rattle.table.proofs.process.message_ok.Tie as tie
+
+record-at-requires : tie.Need-record-at-requires
+record-at-requires c κs = search needs
+
+mul-from : tie.Need-mul-from
+mul-from c = search needs
+
+add-from : tie.Need-add-from
+add-from c = search needs
+
+add-wide : tie.Need-add-wide
+add-wide c = search needs
+
+mul-wide : tie.Need-mul-wide
+mul-wide c = search needs
+
+shared-slice-read-wide : tie.Need-shared-slice-read-wide
+shared-slice-read-wide c = search needs
+
+wide-requires : tie.Need-wide-requires
+wide-requires c κs = search needs
+
+add-s : tie.Need-add-s
+add-s c = search needs
+
+add-s-2 : tie.Need-add-s-2
+add-s-2 c = search needs
+
+mul-s : tie.Need-mul-s
+mul-s c = search needs
+
+shared-slice-read-s : tie.Need-shared-slice-read-s
+shared-slice-read-s c = search needs
+
+mul-held-ok : tie.Need-mul-held-ok
+mul-held-ok c = search needs
+
+element-copy-out-held-ok : tie.Need-element-copy-out-held-ok
+element-copy-out-held-ok c = search needs
+
+held-ok-requires : tie.Need-held-ok-requires
+held-ok-requires c κs =
+    let s = c .before .before .before .before .before .before .before in
+    let small = cell-small (s .args .t .now) (s .args .n) (s .pre .0) process (s .args .cells .now) (s .pre .1) (s .args .p) (s .pre .3) in
+    (s .pre .0, s .pre .1, s .pre .2, omega arith)
+
+returns : tie.Need-returns
+returns c =
+    let s = c .before .before .before .before .before .before .before .before in
+    let t = s .args .t .now in
+    let h = configuration t in
+    let q = record-word t (s .args .n) (s .pre .0) process (s .args .p) queue _ (c .before .before .before .before .before .before .record-at .ensures) in
+    let e = slots-read t (s .args .n) (s .pre .0 .framed .header) process in
+    let word = record-word t (s .args .n) (s .pre .0) process (s .args .p) (messageAt (s .args .m) 0) _ (c .before .before .before .before .before .before .record-at .ensures) in
+    c .held-ok .ensures ∙ ap₂ (λ (c x : ℕ). test (heldOk h (rd h t) process c x)) (s .pre .1 (s .args .p) (omega arith)) word
+    ∙ message-held h (rd h t) (s .args .p) (s .args .m) (omega (arith, c .before .before .before .before .wide .ensures))
+
+zeros-requires : tie.Need-zeros-requires
+zeros-requires c κs = search needs
+
+returns-2 : tie.Need-returns-2
+returns-2 c =
+    let s = c .before .before .before .before .before .before in
+    let t = s .args .t .now in
+    let h = configuration t in
+    let q = record-word t (s .args .n) (s .pre .0) process (s .args .p) queue _ (c .before .before .before .before .record-at .ensures) in
+    let words = record-words t (s .args .n) (s .pre .0) process (s .args .p) _ (c .before .before .before .before .record-at .ensures) in
+    c .zeros .ensures ∙ ap (λ (w : ℕ → ℕ). allBelow 4 (λ j. eqb (w (messageAt (s .args .m) j)) 0)) words
+    ∙ message-unused h (rd h t) (s .args .p) (s .args .m) (omega (arith, c .before .before .wide .ensures))
+
+pub message-ok-spec : {M : Type 1} → statement M
+message-ok-spec =
+    tie.close
+    (tie.spec
+    record-at-requires
+    mul-from
+    add-from
+    add-wide
+    mul-wide
+    shared-slice-read-wide
+    wide-requires
+    add-s
+    add-s-2
+    mul-s
+    shared-slice-read-s
+    mul-held-ok
+    element-copy-out-held-ok
+    held-ok-requires
+    returns
+    zeros-requires
+    returns-2)

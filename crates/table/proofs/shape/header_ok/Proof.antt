@@ -1,0 +1,47 @@
+-- `shape::header_ok` meets its contract: the header's claims, word by word.
+use borrow.Author.Needs.{needs}
+use lib.ListN.{getD}
+use Rattle.rules.specs.Layout.{cells, slots, blocks, configuration, process, segment, file}
+use Rattle.rules.specs.WellFormed.{headerOk}
+use Rattle.table.proofs.shape.header_ok.Statement.{statement}
+use Rattle.table.proofs.Config.{head-word, cells-read, slots-read, base-read, blocks-read}
+use Rattle.table.proofs.shape.header_ok.Tie as tie
+
+cast-result : tie.Need-cast-result
+cast-result c = search needs
+
+shared-slice-read-result : tie.Need-shared-slice-read-result
+shared-slice-read-result c = search needs
+
+shared-slice-read-result-2 : tie.Need-shared-slice-read-result-2
+shared-slice-read-result-2 c = search needs
+
+shared-slice-read-result-3 : tie.Need-shared-slice-read-result-3
+shared-slice-read-result-3 c = search needs
+
+returns : tie.Need-returns
+unfolding headerOk
+returns c =
+    let s = c .before .before .before .before .before .before .before .before .before .before .before in
+    let t = s .args .t .now in
+    let n = s .args .n in
+    rw (
+      cells-read t n (s .pre .1),
+      slots-read t n (s .pre .1) process,
+      slots-read t n (s .pre .1) segment,
+      slots-read t n (s .pre .1) file,
+      blocks-read t n (s .pre .1),
+      head-word t 5 (search needs),
+      head-word t 6 (search needs),
+      head-word t 7 (search needs),
+    )
+
+pub header-ok-spec : {M : Type 1} → statement M
+header-ok-spec =
+    tie.close
+    (tie.spec
+    cast-result
+    shared-slice-read-result
+    shared-slice-read-result-2
+    shared-slice-read-result-3
+    returns)

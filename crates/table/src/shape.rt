@@ -1,0 +1,154 @@
+// The table's shape: its header, its lengths and its cells. Set-up judges this much and no more.
+ghost use mathlib.Core.Path.{_≡_};
+ghost use mathlib.Core.Bool.{not};
+ghost use Prim.Native.Nat.{ℕ, suc, _+_, _*_, _≤_, _<_};
+ghost use lib.ListN.{length, getD};
+ghost use Rattle.rules.specs.Words.{allBelow, sumBelow};
+ghost use Rattle.rules.specs.Claim.{test, each, _&_};
+ghost use Rattle.rules.specs.Level.{equals};
+ghost use Rattle.rules.specs.Layout.{headerWords, cellWords, cells, cellWord, levelOf, configuration};
+ghost use Rattle.rules.specs.WellFormed.{headerOk, cellOk, levelsDistinct, sumsMatch, lengthsExact};
+ghost use Rattle.rules.specs.SetUp.{canSetUp};
+ghost use Rattle.table.specs.Shape.{IsHeader, Small, Framed};
+use crate::header;
+use crate::header::Header;
+use rules::BLOCK_BYTES;
+use rules::CELL_FILES;
+use rules::CELL_GROUP;
+use rules::CELL_OWNER;
+use rules::CELL_PROCESSES;
+use rules::CELL_SEGMENTS;
+use rules::CELL_WORDS;
+use rules::HEADER_WORDS;
+use rules::MAX_BLOCKS;
+use rules::MAX_CATEGORY;
+use rules::MAX_CELLS;
+use rules::MAX_OWNER;
+use rules::MAX_SLOTS;
+use words::wide;
+
+// The words of a cell's level.
+const SECURITY: usize = 0;
+
+const INTEGRITY: usize = 1;
+
+const COMPARTMENTS: usize = 2;
+
+fn header_ok(t: &[u32], n: Header) -> bool
+    requires { ⌜ (headerWords ≤ length (now t)) × IsHeader (now t) n ⌝ }
+    ensures { λ r. ⌜ r ≡ test (headerOk (configuration (now (t .entry)))) ⌝ }
+{
+    ((1 <= n.cells) & (n.cells <= MAX_CELLS))
+        & (((1 <= n.processes) & (n.processes <= MAX_SLOTS))
+            & ((n.segments <= MAX_SLOTS)
+                & ((n.files <= MAX_SLOTS)
+                    & (((1 <= n.blocks) & (n.blocks <= MAX_BLOCKS as usize))
+                        & ((t[5] == 0) & ((t[6] == 0) & (t[7] == 0)))))))
+}
+
+fn lengths_exact(t: &[u32], n: Header, store_bytes: usize) -> bool
+    requires { ⌜ IsHeader (now t) n × Small n ⌝ }
+    ensures { λ r. ⌜ r ≡ test (lengthsExact (configuration (now (t .entry))) (length (now (t .entry))) «store_bytes») ⌝ }
+{
+    (t.len() == n.table_words()) & (store_bytes == n.files * (n.blocks * BLOCK_BYTES))
+}
+
+fn cell_ok(t: &[u32], c: usize) -> bool
+    requires { ⌜ (c < getD (now t) 0 0) × (headerWords + cellWords * c + cellWords ≤ length (now t)) ⌝ }
+    ensures { λ r. ⌜ r ≡ test (cellOk (configuration (now (t .entry))) c) ⌝ }
+{
+    let at = HEADER_WORDS + CELL_WORDS * c;
+    (t[at + SECURITY] <= MAX_CATEGORY)
+        & ((t[at + INTEGRITY] <= MAX_CATEGORY)
+            & ((1 <= t[at + CELL_PROCESSES])
+                & ((t[at + CELL_OWNER] <= MAX_OWNER) & (t[at + CELL_GROUP] <= MAX_OWNER))))
+}
+
+fn cells_ok(t: &[u32], n: Header) -> bool
+    requires { ⌜ Framed (now t) n ⌝ }
+    ensures { λ r. ⌜ r ≡ test (each (cells (configuration (now (t .entry)))) (cellOk (configuration (now (t .entry))))) ⌝ }
+{
+    let mut ok = true;
+    for c in 0..n.cells {
+        ok = ok & cell_ok(t, c);
+    }
+    ok
+}
+
+fn same_level(t: &[u32], c: usize, d: usize) -> bool
+    requires { ⌜ (c < d) × (d < getD (now t) 0 0) × (headerWords + cellWords * d + cellWords ≤ length (now t)) ⌝ }
+    ensures { λ r. ⌜ r ≡ equals (levelOf (configuration (now (t .entry))) c) (levelOf (configuration (now (t .entry))) d) ⌝ }
+{
+    let a = HEADER_WORDS + CELL_WORDS * c;
+    let b = HEADER_WORDS + CELL_WORDS * d;
+    (t[a + SECURITY] == t[b + SECURITY])
+        & ((t[a + INTEGRITY] == t[b + INTEGRITY]) & (t[a + COMPARTMENTS] == t[b + COMPARTMENTS]))
+}
+
+// Whether no cell before d has d's level.
+fn level_fresh(t: &[u32], d: usize) -> bool
+    requires { ⌜ (d < getD (now t) 0 0) × (headerWords + cellWords * d + cellWords ≤ length (now t)) ⌝ }
+    ensures { λ r. ⌜ r ≡ allBelow d (λ c. not (equals (levelOf (configuration (now (t .entry))) c) (levelOf (configuration (now (t .entry))) d))) ⌝ }
+{
+    let mut ok = true;
+    for c in 0..d {
+        ok = ok & !same_level(t, c, d);
+    }
+    ok
+}
+
+fn levels_distinct(t: &[u32], n: Header) -> bool
+    requires { ⌜ Framed (now t) n ⌝ }
+    ensures { λ r. ⌜ r ≡ test (levelsDistinct (configuration (now (t .entry)))) ⌝ }
+{
+    let mut ok = true;
+    for d in 0..n.cells {
+        ok = ok & level_fresh(t, d);
+    }
+    ok
+}
+
+// How many slots of a kind the cells own together; k is the kind's word in a cell. The sum is a true one: it cannot wrap.
+fn slots_owned(t: &[u32], n: Header, k: usize) -> usize
+    requires { ⌜ Framed (now t) n × (k < cellWords) ⌝ }
+    ensures { λ r. ⌜ r ≡ sumBelow (cells (configuration (now (t .entry)))) (λ c. cellWord (configuration (now (t .entry))) c k) ⌝ }
+{
+    let mut sum = 0;
+    for c in 0..n.cells {
+        sum = sum + wide(t[HEADER_WORDS + CELL_WORDS * c + k]);
+    }
+    sum
+}
+
+fn sums_match(t: &[u32], n: Header) -> bool
+    requires { ⌜ Framed (now t) n ⌝ }
+    ensures { λ r. ⌜ r ≡ test (sumsMatch (configuration (now (t .entry)))) ⌝ }
+{
+    (slots_owned(t, n, CELL_PROCESSES) == n.processes)
+        & ((slots_owned(t, n, CELL_SEGMENTS) == n.segments)
+            & (slots_owned(t, n, CELL_FILES) == n.files))
+}
+
+fn cells_right(t: &[u32], n: Header) -> bool
+    requires { ⌜ Framed (now t) n ⌝ }
+    ensures { λ r. ⌜ r ≡ test (each (cells (configuration (now (t .entry)))) (cellOk (configuration (now (t .entry)))) & levelsDistinct (configuration (now (t .entry))) & sumsMatch (configuration (now (t .entry)))) ⌝ }
+{
+    cells_ok(t, n) & (levels_distinct(t, n) & sums_match(t, n))
+}
+
+// Cells are looked at only once the header and the lengths are right: then every index is in range.
+pub(crate) fn can_set_up(t: &[u32], store_bytes: usize) -> bool
+    ensures { λ r. ⌜ r ≡ test (canSetUp (now (t .entry)) «store_bytes») ⌝ }
+{
+    if t.len() < HEADER_WORDS {
+        return false;
+    }
+    let n = header::read_header(t);
+    if !header_ok(t, n) {
+        return false;
+    }
+    if !lengths_exact(t, n, store_bytes) {
+        return false;
+    }
+    cells_right(t, n)
+}
