@@ -16,3 +16,4 @@ pub mod ProcessesLaws
 pub mod Statuses
 pub mod Codes
 pub mod Whole
+pub mod Link

@@ -6,12 +6,12 @@ use Prim.Native.Nat.{ℕ}
 use lib.ListN.{length}
 use Rattle.rules.specs.Claim.{Holds, test}
 use Rattle.rules.specs.Layout.{configuration, rd}
-use Rattle.rules.specs.WellFormed.{wellFormed}
 use Rattle.rules.specs.SetUp.{canSetUp, freshTable, setUpTable}
 use Rattle.rules.specs.Step.{State, Call, run}
 use Rattle.rules.specs.Observer.{Closed, Agree, remaining, replies}
 use Rattle.laws.proofs.Tests.{cond-true}
 use Rattle.laws.proofs.Claims.{tested}
+use Rattle.promises.proofs.Fresh.{set-up-formed}
 use Rattle.secrecy.proofs.View.{Stretches}
 use Rattle.secrecy.proofs.Demand3.{two-runs}
 
@@ -32,8 +32,8 @@ same-set-up C t u a b x y e s =
     let same = same-table t u a b x y e in
     record { configurations = ap configuration same; records = λ q v i. rw same; stretches = s }
 
-module _ (formed : (t : List ℕ) (m : ℕ) → Holds (canSetUp t m) → Holds (wellFormed (setUpTable t m) m)) where
-  pub from-set-up : (C : ℕ → Bool) (t u a b : List ℕ) → Holds (canSetUp t (length a)) → Holds (canSetUp u (length b)) → configuration t ≡ configuration u
-      → let h : List ℕ = configuration (setUp t a .table) in Closed h C → Stretches h C a b → (ks js : List Call) → remaining h C ks ≡ remaining h C js
-      → (replies h C (setUp t a) ks ≡ replies h C (setUp u b) js) × Agree C (run (setUp t a) ks) (run (setUp u b) js)
-  from-set-up C t u a b x y e cl s = two-runs C (setUp t a) (setUp u b) (formed t (length a) x) (formed u (length b) y) cl (same-set-up C t u a b x y e s)
+pub from-set-up : (C : ℕ → Bool) (t u a b : List ℕ) → Holds (canSetUp t (length a)) → Holds (canSetUp u (length b)) → configuration t ≡ configuration u
+    → let h : List ℕ = configuration (setUp t a .table) in Closed h C → Stretches h C a b → (ks js : List Call) → remaining h C ks ≡ remaining h C js
+    → (replies h C (setUp t a) ks ≡ replies h C (setUp u b) js) × Agree C (run (setUp t a) ks) (run (setUp u b) js)
+from-set-up C t u a b x y e cl s =
+    two-runs C (setUp t a) (setUp u b) (set-up-formed t (length a) x) (set-up-formed u (length b) y) cl (same-set-up C t u a b x y e s)
