@@ -1,0 +1,5 @@
+-- Laws of numbers in groups.
+pub mod Weights
+pub mod Groups
+pub mod Read
+pub mod Round

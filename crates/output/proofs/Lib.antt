@@ -1,0 +1,2 @@
+-- Laws on what is written.
+pub mod Laws

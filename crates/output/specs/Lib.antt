@@ -1,0 +1,2 @@
+-- What is written into a lent buffer.
+pub mod Wrote

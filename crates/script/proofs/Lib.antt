@@ -1,0 +1,8 @@
+-- Laws of the reader of a script.
+pub mod Stages
+pub mod Piece
+pub mod Going
+pub mod Meaning
+pub mod Kept
+pub mod Byte
+pub mod Script

@@ -1,0 +1,36 @@
+-- `text::put_buffer` meets its contract: a space and the hex digits where they are shown, else nothing.
+use mathlib.Core.Path.{sym, _∙_}
+use borrow.Author.Needs.{needs}
+use Rattle.laws.proofs.Tests.{cond-true, cond-false}
+use Rattle.output.proofs.Laws.{none, then, as-text}
+use Rattle.text.proofs.put_buffer.Statement.{statement}
+use Rattle.text.proofs.put_buffer.Tie as tie
+
+shows-buffer-requires : tie.Need-shows-buffer-requires
+shows-buffer-requires c κs = search needs
+
+put-byte-requires : tie.Need-put-byte-requires
+put-byte-requires c κs = search needs
+
+put-hex-requires : tie.Need-put-hex-requires
+put-hex-requires c κs = search needs
+
+same-length : tie.Need-same-length
+same-length c = search needs
+
+returns : tie.Need-returns
+returns c = as-text _ _ _ _ _ _ (sym (cond-true _ _ _ (sym (c .before .before .before .before .before .before .before .before .before .shows-buffer .ensures) ∙ c .before .before .before .before .before .before .before .before .if1 .taken))) (then _ _ _ _ _ _ _ _ (c .before .before .before .before .before .before .put-byte .ensures) (c .before .before .put-hex .ensures))
+
+returns-2 : tie.Need-returns-2
+returns-2 c = as-text _ _ _ _ _ _ (sym (cond-false _ _ _ (sym (c .before .shows-buffer .ensures) ∙ c .if1 .left))) (none _ _)
+
+pub put-buffer-spec : {M : Type 1} → statement M
+put-buffer-spec =
+    tie.close
+    (tie.spec
+    shows-buffer-requires
+    put-byte-requires
+    put-hex-requires
+    same-length
+    returns
+    returns-2)
