@@ -1,0 +1,7 @@
+-- Laws of a replay session.
+pub mod Shorter
+pub mod Calls
+pub mod Ready
+pub mod Due
+pub mod Ways
+pub mod Whole

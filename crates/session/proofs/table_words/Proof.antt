@@ -1,0 +1,79 @@
+-- `session::table_words` meets its contract.
+use borrow.Author.Needs.{needs}
+use Rattle.rules.specs.Layout.{cells, slots}
+use Rattle.session.proofs.table_words.Statement.{statement}
+use Rattle.session.proofs.table_words.Tie as tie
+
+word-requires : tie.Need-word-requires
+word-requires c κs = search needs
+
+wide-requires : tie.Need-wide-requires
+wide-requires c κs = search needs
+
+mul-cells : tie.Need-mul-cells
+mul-cells c = search needs
+
+word-requires-2 : tie.Need-word-requires-2
+word-requires-2 c κs = search needs
+
+wide-requires-2 : tie.Need-wide-requires-2
+wide-requires-2 c κs = search needs
+
+mul-processes : tie.Need-mul-processes
+mul-processes c = search needs
+
+word-requires-3 : tie.Need-word-requires-3
+word-requires-3 c κs = search needs
+
+wide-requires-3 : tie.Need-wide-requires-3
+wide-requires-3 c κs = search needs
+
+mul-segments : tie.Need-mul-segments
+mul-segments c = search needs
+
+word-requires-4 : tie.Need-word-requires-4
+word-requires-4 c κs = search needs
+
+wide-requires-4 : tie.Need-wide-requires-4
+wide-requires-4 c κs = search needs
+
+mul-files : tie.Need-mul-files
+mul-files c = search needs
+
+add-result : tie.Need-add-result
+add-result c = search needs
+
+add-result-2 : tie.Need-add-result-2
+add-result-2 c = search needs
+
+add-result-3 : tie.Need-add-result-3
+add-result-3 c = search needs
+
+add-result-4 : tie.Need-add-result-4
+add-result-4 c = search needs
+
+returns : tie.Need-returns
+unfolding cells slots
+returns c = rw (c .wide4 .ensures, c .before .word4 .ensures, c .before .before .wide3 .ensures, c .before .before .before .word3 .ensures, c .before .before .before .before .wide2 .ensures, c .before .before .before .before .before .word2 .ensures, c .before .before .before .before .before .before .wide .ensures, c .before .before .before .before .before .before .before .word .ensures)
+
+pub table-words-spec : {M : Type 1} → statement M
+table-words-spec =
+    tie.close
+    (tie.spec
+    word-requires
+    wide-requires
+    mul-cells
+    word-requires-2
+    wide-requires-2
+    mul-processes
+    word-requires-3
+    wide-requires-3
+    mul-segments
+    word-requires-4
+    wide-requires-4
+    mul-files
+    add-result
+    add-result-2
+    add-result-3
+    add-result-4
+    returns)

@@ -1,0 +1,2 @@
+-- A replay session: what each piece of the input does.
+pub mod Turn
