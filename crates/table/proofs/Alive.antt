@@ -12,6 +12,8 @@ use Rattle.rules.specs.Layout.{process, segment, file, slots, cellOf, configura
 use Rattle.rules.specs.Seid.{class, indexOf, isSeid}
 use Rattle.rules.specs.WellFormed.{recordOk, heldOk, entryOk, parentOk, heldOnce, messageOk, processOk}
 use Rattle.laws.proofs.Below.{all-of}
+use Rattle.laws.proofs.Claims.{holds, tested}
+use Rattle.laws.proofs.Shape.{record-of}
 use Rattle.table.specs.declared.header.Header.{Header}
 use Rattle.table.specs.Shape.{RecordAt, Shaped}
 use Rattle.table.specs.Entries.{recordAt}
@@ -81,3 +83,17 @@ module _ (t : List ℕ) (n : Header) (shaped : Shaped t n) (p place : ℕ) (lies
       → test (recordOk (recordAt t place) process 0 (is b)) ≡ test (processOk (configuration t) (rd (configuration t) t) p)
   unfolding processOk
   dead-process free b = record-claim t n shaped process p place (is b) lies ∙ dead-record (rd (configuration t) t) process p (is b) _ free
+
+-- the entries of a live process that is right are right
+module _ (h : List ℕ) (r : Addr → ℕ) (p : ℕ) (alive : r (at process p live) ≡ 1) (right : test (processOk h r p) ≡ true) where
+  pub right-files : allBelow entries (λ d. test (entryOk h r file (cellOf h process p) (r (at process p (heldAt file d))) (r (at process p (usedAt file d))))) ≡ true
+  unfolding processOk
+  right-files =
+      tested (each entries (λ d. entryOk h r file (cellOf h process p) (r (at process p (heldAt file d))) (r (at process p (usedAt file d)))))
+      (record-of r process p _ (holds (processOk h r p) right) .alive alive .1 .1 .1 .1 .0)
+
+  pub right-segments : allBelow entries (λ d. test (entryOk h r segment (cellOf h process p) (r (at process p (heldAt segment d))) (r (at process p (usedAt segment d))))) ≡ true
+  unfolding processOk
+  right-segments =
+      tested (each entries (λ d. entryOk h r segment (cellOf h process p) (r (at process p (heldAt segment d))) (r (at process p (usedAt segment d)))))
+      (record-of r process p _ (holds (processOk h r p) right) .alive alive .1 .1 .1 .1 .1 .0)

@@ -68,8 +68,18 @@ module _ (t : List ℕ) (n : Header) (is : IsHeader t n) where
 
 -- ---- where a record lies
 
+pub slots-small : (n : Header) → Small n → (k : Kind) → slotsOf n k ≤ maxSlots
+slots-small n s process = s .few-processes
+slots-small n s segment = s .few-segments
+slots-small n s file = s .few-files
+
+pub words-some : (k : Kind) → 8 ≤ recordWords k
+words-some process = omega arith
+words-some segment = omega arith
+words-some file = omega arith
+
 module _ (n : Header) (small : Small n) where
-  record-at : (k : Kind) (i : ℕ) → i < slotsOf n k → RecordAt n k i (baseOf n k + recordWords k * i)
+  pub record-at : (k : Kind) (i : ℕ) → i < slotsOf n k → RecordAt n k i (baseOf n k + recordWords k * i)
   record-at process i l = record { at-is = refl; whole = omega arith; within = omega arith }
   record-at segment i l = record { at-is = refl; whole = omega arith; within = omega arith }
   record-at file i l = record { at-is = refl; whole = omega arith; within = omega arith }

@@ -11,16 +11,11 @@ use Rattle.rules.specs.Layout.{maxSlots, Kind, process, segment, file, cellWord
 use Rattle.laws.proofs.Cells.{first-next, first-grows, cell-run}
 use Rattle.table.specs.declared.header.Header.{Header}
 use Rattle.table.specs.Shape.{slotsOf, Small, Shaped}
-use Rattle.table.proofs.Config.{cell-word, slots-read}
+use Rattle.table.proofs.Config.{cell-word, slots-read, slots-small}
 
 -- l has the cell of each of the first i slots
 abbrev pub CellsTo : List ℕ → Kind → ℕ → List ℕ → Type 0
 CellsTo h k i l = (j : ℕ) → j < i → getD l j 0 ≡ cellOf h k j
-
-pub slots-small : (n : Header) → Small n → (k : Kind) → slotsOf n k ≤ maxSlots
-slots-small n s process = s .few-processes
-slots-small n s segment = s .few-segments
-slots-small n s file = s .few-files
 
 module _ (t : List ℕ) (n : Header) (s : Shaped t n) (k : Kind) where
   pub run-fits : (c : ℕ) → c < n .cells → n .cells ≡ cells (configuration t) → firstSlot (configuration t) k (c + 1) ≤ maxSlots

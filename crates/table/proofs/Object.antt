@@ -65,11 +65,11 @@ module _ (h : List ℕ) (r : Addr → ℕ) (k : Kind) where
   tally-none = record { long = refl; exact = λ i l. all-zero maxSlots i; few = λ i l. omega (arith, all-zero maxSlots i) }
 
   -- one process more
-  pub tally-next : (p : ℕ) (before after : List ℕ) (ok : Bool) → ok ≡ true → Tally h r k p before → Counted h r k p ok before after → length after ≡ length before → Tally h r k (p + 1) after
-  tally-next p before after ok good a c e =
+  pub tally-next : (p : ℕ) (before after : List ℕ) → Tally h r k p before → Counted h r k p before after → length after ≡ length before → Tally h r k (p + 1) after
+  tally-next p before after a c e =
       record {
         long = e ∙ a .long;
-        exact = λ i l. omega (arith, c .own good i l, a .exact i l, sum-more p (λ p. countBelow entries (ownEntry h r k i p)));
+        exact = λ i l. omega (arith, c .own i l, a .exact i l, sum-more p (λ p. countBelow entries (ownEntry h r k i p)));
         few = λ i l. omega (arith, c .few i l, a .few i l);
       }
 

@@ -13,16 +13,16 @@ use Rattle.rules.specs.Claim.{test}
 use Rattle.rules.specs.Layout.{maxSlots, entries, Kind, process, recordWords, slots, cellOf, configuration, Addr, at, rd, live, heldAt}
 use Rattle.rules.specs.Seid.{class, classOf, indexOf}
 use Rattle.rules.specs.WellFormed.{entryOk, processOk, ownEntry}
-use Rattle.laws.proofs.Below.{count-same, count-none, count-le}
+use Rattle.laws.proofs.Below.{all-at, count-same, count-none, count-le}
 use Rattle.laws.proofs.Claims.{holds}
 use Rattle.laws.proofs.Seids.{class-some, class-pos}
 use Rattle.laws.proofs.Shape.{record-of}
 use Rattle.table.specs.declared.header.Header.{Header}
-use Rattle.table.specs.Shape.{slotsOf, RecordAt, Shaped, CellsOf}
+use Rattle.table.specs.Shape.{RecordAt, Shaped}
 use Rattle.table.specs.Entries.{heldWord, usedWord, names, Counted}
 use Rattle.table.proofs.Config.{slots-read, and-false}
-use Rattle.table.proofs.Filled.{slots-small}
-use Rattle.table.proofs.Holders.{record-words}
+use Rattle.table.proofs.Config.{slots-small}
+use Rattle.table.proofs.Holders.{record-words, right-names}
 
 -- of a process whose record lies at a place
 module _ (t : List ℕ) (n : Header) (shaped : Shaped t n) (p place mine : ℕ) (lies : RecordAt n process p place) (own : mine ≡ cellOf (configuration t) process p) (k : Kind) (first : ℕ) where
@@ -32,24 +32,25 @@ module _ (t : List ℕ) (n : Header) (shaped : Shaped t n) (p place mine : ℕ) 
       ap₂ (λ (m : ℕ) (w : ℕ → ℕ). allBelow entries (λ d. test (entryOk (configuration t) (rd (configuration t) t) k m (w (first + 2 * d)) (w (first + 1 + 2 * d))))) own
       (record-words t n shaped process p place lies)
 
-  -- the entries counted, for a slot whose cell is known
-  counted-at : (cells : List ℕ) (i : ℕ) → getD cells i 0 ≡ cellOf (configuration t) k i → ((d : ℕ) → d < entries → first + 2 * d ≡ heldAt k d)
-      → countBelow entries (λ d. names k i (getD cells i 0) mine (heldWord t place first d)) ≡ countBelow entries (ownEntry (configuration t) (rd (configuration t) t) k i p)
+  -- an entry that is right counts for the rule where it counted for the code
+  same-entry : (d i : ℕ) → first + 2 * d ≡ heldAt k d → test (entryOk (configuration t) (rd (configuration t) t) k mine (heldWord t place first d) (usedWord t place first d)) ≡ true
+      → names (configuration t) k mine (heldWord t place first d) i ≡ ownEntry (configuration t) (rd (configuration t) t) k i p d
   unfolding ownEntry
-  counted-at cells i e held =
-      count-same entries _ _ (λ d l.
-      ap₂ (λ (c s : ℕ). names k i c mine s) e (ap (λ (w : ℕ → ℕ). w (first + 2 * d)) (record-words t n shaped process p place lies) ∙ ap (λ (j : ℕ). rd (configuration t) t (at process p j)) (held d l))
-      ∙ ap (λ (m : ℕ). names k i (cellOf (configuration t) k i) m (rd (configuration t) t (at process p (heldAt k d)))) own)
+  same-entry d i held right =
+      right-names (configuration t) (rd (configuration t) t) k mine (heldWord t place first d) (usedWord t place first d) right i
+      ∙ ap₂ (λ (m s : ℕ). eqb (cellOf (configuration t) k i) m && (eqb (classOf s) (class k) && eqb (indexOf s) i)) own
+      (ap (λ (w : ℕ → ℕ). w (first + 2 * d)) (record-words t n shaped process p place lies) ∙ ap (λ (j : ℕ). rd (configuration t) t (at process p j)) held)
 
-  pub live-counted : (cells before after : List ℕ) (ok : Bool) → CellsOf (configuration t) k cells → ((d : ℕ) → d < entries → first + 2 * d ≡ heldAt k d)
-      → ((i : ℕ) → i < maxSlots → getD after i 0 ≡ getD before i 0 + countBelow entries (λ d. names k i (getD cells i 0) mine (heldWord t place first d)))
-      → Counted (configuration t) (rd (configuration t) t) k p ok before after
-  live-counted cells before after ok of held e =
+  pub live-counted : (before after : List ℕ) → ((d : ℕ) → d < entries → first + 2 * d ≡ heldAt k d)
+      → allBelow entries (λ d. test (entryOk (configuration t) (rd (configuration t) t) k mine (heldWord t place first d) (usedWord t place first d))) ≡ true
+      → ((i : ℕ) → i < maxSlots → getD after i 0 ≡ getD before i 0 + countBelow entries (λ d. names (configuration t) k mine (heldWord t place first d) i))
+      → Counted (configuration t) (rd (configuration t) t) k p before after
+  live-counted before after held right e =
       record {
-        own = λ q i l.
+        own = λ i l.
             e i (omega (arith, slots-read t n (shaped .framed .header) k, slots-small n (shaped .framed .small) k))
-            ∙ ap (λ (x : ℕ). getD before i 0 + x) (counted-at cells i (of i l) held);
-        few = λ i l. omega (arith, e i l, count-le entries (λ d. names k i (getD cells i 0) mine (heldWord t place first d)));
+            ∙ ap (λ (x : ℕ). getD before i 0 + x) (count-same entries _ _ (λ d m. same-entry d i (held d m) (all-at entries _ right d m)));
+        few = λ i l. omega (arith, e i l, count-le entries (λ d. names (configuration t) k mine (heldWord t place first d) i));
       }
 
 -- a process that is not live, and right, holds nothing
@@ -63,13 +64,13 @@ module _ (h : List ℕ) (r : Addr → ℕ) (p : ℕ) (free : r (at process p liv
   holds-none : (i s : ℕ) (same : Bool) → s ≡ 0 → same && (eqb (classOf s) (class k) && eqb (indexOf s) i) ≡ false
   holds-none i s same z = rw (ne-eqb (classOf s) (class k) (λ e. class-some s (class k) (class-pos k) e z)) (and-false same)
 
-  pub free-counted : (ok : Bool) (counts : List ℕ) → ok ≡ test (processOk h r p) → ((d : ℕ) → d < entries → (2 ≤ heldAt k d) × (heldAt k d < recordWords process)) → Counted h r k p ok counts counts
+  pub free-counted : (counts : List ℕ) → test (processOk h r p) ≡ true → ((d : ℕ) → d < entries → (2 ≤ heldAt k d) × (heldAt k d < recordWords process)) → Counted h r k p counts counts
   unfolding ownEntry
-  free-counted ok counts e held =
+  free-counted counts right held =
       record {
-        own = λ q i l.
+        own = λ i l.
             sym (add-zero (getD counts i 0))
             ∙ ap (λ (x : ℕ). getD counts i 0 + x) (sym (count-none entries (ownEntry h r k i p) (λ d m.
-            holds-none i (r (at process p (heldAt k d))) (eqb (cellOf h k i) (cellOf h process p)) (empty (sym e ∙ q) (heldAt k d) (held d m .0) (held d m .1)))));
+            holds-none i (r (at process p (heldAt k d))) (eqb (cellOf h k i) (cellOf h process p)) (empty right (heldAt k d) (held d m .0) (held d m .1)))));
         few = λ i l. omega arith;
       }

@@ -1,11 +1,11 @@
 -- Counts in a list: one more at a place, and a count after one turn more.
 use mathlib.Core.Path.{_≡_, sym, ap, _∙_}
-use mathlib.Core.Bool.{Bool, cond}
+use mathlib.Core.Bool.{Bool, false, cond}
 use mathlib.Core.List.{List}
 use Prim.Native.Nat.{ℕ, _+_, _≤_, _<_}
 use native.Mathlib.Nat.{add-zero}
 use native.Mathlib.Omega.{arith}
-use borrow.Author.Tests.{ne-eqb, eqb-true, eqb-false}
+use borrow.Author.Tests.{eqb-true, eqb-false}
 use lib.Dec.{eqb}
 use lib.ListN.{length, getD, set}
 use lib.Seq.{getD-set-same, getD-set-other}
@@ -20,9 +20,9 @@ module _ (l : List ℕ) (x i : ℕ) where
       (λ q. let e : x ≡ i = eqb-true x i q in rw q (rw (← e) (getD-set-same l x (getD l x 0 + 1) 0 m)))
       (λ q. rw q (getD-set-other l x i (getD l x 0 + 1) 0 (λ e. eqb-false x i q (sym e)) ∙ sym (add-zero (getD l i 0))))
 
-  -- x is no place of the list
-  pub tally-miss : (top : ℕ) → top ≤ x → i < top → getD l i 0 ≡ getD l i 0 + cond (eqb x i) 1 0
-  tally-miss top a b = rw (ne-eqb x i (omega arith)) (sym (add-zero (getD l i 0)))
+-- none more
+pub tally-same : (l : List ℕ) (i : ℕ) (b : Bool) → b ≡ false → getD l i 0 ≡ getD l i 0 + cond b 1 0
+tally-same l i b e = rw e (sym (add-zero (getD l i 0)))
 
 module _ (f : ℕ → Bool) where
   pub count-first : (before : ℕ) → before ≡ before + countBelow 0 f

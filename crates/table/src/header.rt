@@ -4,7 +4,7 @@ ghost use Prim.Native.Nat.{_+_, _*_, _≤_, _<_};
 ghost use lib.ListN.{length};
 ghost use Rattle.rules.specs.Layout.{file, headerWords, recordWords};
 ghost use Rattle.table.specs.Kinds.{kindOf};
-ghost use Rattle.table.specs.Shape.{IsHeader, slotsOf, Small, baseOf, RecordAt};
+ghost use Rattle.table.specs.Shape.{IsHeader, slotsOf, Small, baseOf, objectsOf, RecordAt};
 use crate::kind::Kind;
 use rules::BLOCKS;
 use rules::CELL_WORDS;
@@ -23,6 +23,14 @@ pub(crate) struct Header {
     pub(crate) segments: usize,
     pub(crate) files: usize,
     pub(crate) blocks: usize,
+}
+
+// What there is of a kind: the class of its identifiers, and where its records lie.
+pub(crate) struct Objects {
+    pub(crate) class: u32,
+    pub(crate) base: usize,
+    pub(crate) words: usize,
+    pub(crate) slots: usize,
 }
 
 pub(crate) fn read_header(t: &[u32]) -> Header
@@ -66,6 +74,22 @@ impl Header {
             Kind::Process => processes,
             Kind::Segment => segments,
             Kind::File => files,
+        }
+    }
+
+    pub(crate) fn objects(self, kind: Kind) -> Objects
+        requires { ⌜ Small self ⌝ }
+        ensures { λ r. ⌜ r ≡ objectsOf self (kindOf kind) ⌝ }
+    {
+        let class = kind.class();
+        let base = self.base(kind);
+        let words = kind.record_words();
+        let slots = self.slots(kind);
+        Objects {
+            class,
+            base,
+            words,
+            slots,
         }
     }
 

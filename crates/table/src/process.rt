@@ -14,6 +14,7 @@ use crate::header::Header;
 use crate::held;
 use crate::kind::Kind;
 use crate::records;
+use crate::runs;
 use crate::seid;
 use rules::DESCRIPTORS;
 use rules::DESIGNATORS;
@@ -31,7 +32,7 @@ use words::wide;
 // The word of a message that names its sender.
 const SENDER: usize = 0;
 
-fn parent_ok(t: &[u32], n: Header, cells: &[usize; MAX_SLOTS], p: usize) -> bool
+fn parent_ok(t: &[u32], n: Header, cells: &[u8; MAX_SLOTS], p: usize) -> bool
     requires { ⌜ Shaped (now t) n × CellsOf (configuration (now t)) process (now cells) × (p < n .processes) ⌝ }
     ensures { λ r. ⌜ r ≡ test (parentOk (configuration (now (t .entry))) (cellOf (configuration (now (t .entry))) process p) (rd (configuration (now (t .entry))) (now (t .entry)) (at process p parent))) ⌝ }
 {
@@ -44,7 +45,8 @@ fn parent_ok(t: &[u32], n: Header, cells: &[usize; MAX_SLOTS], p: usize) -> bool
     if n.processes <= i {
         return false;
     }
-    seid::is_seid(Kind::Process.class(), n.processes, s) & (cells[i] == cells[p])
+    seid::is_seid(Kind::Process.class(), n.processes, s)
+        & (runs::cell(cells[i]) == runs::cell(cells[p]))
 }
 
 // Whether no designator before e, of the process whose record is at `at`, holds what e holds.
@@ -56,11 +58,12 @@ fn designator_fresh(t: &[u32], at: usize, e: usize) -> bool
     if s == 0 {
         return true;
     }
-    let mut ok = true;
     for d in 0..e {
-        ok = ok & !(t[at + (DESIGNATORS + 2 * d)] == s);
+        if t[at + (DESIGNATORS + 2 * d)] == s {
+            return false;
+        }
     }
-    ok
+    true
 }
 
 fn held_once(t: &[u32], n: Header, p: usize) -> bool
@@ -79,7 +82,7 @@ fn held_once(t: &[u32], n: Header, p: usize) -> bool
 fn message_ok(
     t: &[u32],
     n: Header,
-    cells: &[usize; MAX_SLOTS],
+    cells: &[u8; MAX_SLOTS],
     flow: &[[bool; MAX_CELLS]; MAX_CELLS],
     p: usize,
     m: usize,
@@ -91,7 +94,9 @@ fn message_ok(
     let from = MESSAGES_AT + MESSAGE_WORDS * m;
     if m < wide(t[at + QUEUE]) {
         let s = t[at + (from + SENDER)];
-        return held::held_ok(t, n, Kind::Process, cells, flow, cells[p], s);
+        let o = n.objects(Kind::Process);
+        let mine = runs::cell(cells[p]);
+        return held::held_ok(t, o, Kind::Process, cells, flow, mine, s);
     }
     records::zeros(t, at, from, MESSAGE_WORDS)
 }
@@ -99,7 +104,7 @@ fn message_ok(
 fn messages_ok(
     t: &[u32],
     n: Header,
-    cells: &[usize; MAX_SLOTS],
+    cells: &[u8; MAX_SLOTS],
     flow: &[[bool; MAX_CELLS]; MAX_CELLS],
     p: usize,
 ) -> bool
@@ -117,9 +122,9 @@ fn messages_ok(
 fn process_ok(
     t: &[u32],
     n: Header,
-    cells: &[usize; MAX_SLOTS],
-    segment_cells: &[usize; MAX_SLOTS],
-    file_cells: &[usize; MAX_SLOTS],
+    cells: &[u8; MAX_SLOTS],
+    segment_cells: &[u8; MAX_SLOTS],
+    file_cells: &[u8; MAX_SLOTS],
     flow: &[[bool; MAX_CELLS]; MAX_CELLS],
     p: usize,
     references: &mut [u32],
@@ -128,12 +133,12 @@ fn process_ok(
     requires { ⌜ Shaped (now t) n × CellsOf (configuration (now t)) process (now cells) × CellsOf (configuration (now t)) segment (now «segment_cells») × CellsOf (configuration (now t)) file (now «file_cells») × (now flow ≡ flowMatrix (configuration (now t))) × (p < n .processes) ⌝ }
     requires { ⌜ Countable (now references) × Countable (now opens) ⌝ }
     ensures { λ r. ⌜ r ≡ test (processOk (configuration (now (t .entry))) (rd (configuration (now (t .entry))) (now (t .entry))) p) ⌝ }
-    ensures { λ r. ⌜ Counted (configuration (now (t .entry))) (rd (configuration (now (t .entry))) (now (t .entry))) segment p r (now (references .entry)) (now (references .exit)) ⌝ }
-    ensures { λ r. ⌜ Counted (configuration (now (t .entry))) (rd (configuration (now (t .entry))) (now (t .entry))) file p r (now (opens .entry)) (now (opens .exit)) ⌝ }
+    ensures { λ r. ⌜ (r ≡ true → Counted (configuration (now (t .entry))) (rd (configuration (now (t .entry))) (now (t .entry))) segment p (now (references .entry)) (now (references .exit))) ⌝ }
+    ensures { λ r. ⌜ (r ≡ true → Counted (configuration (now (t .entry))) (rd (configuration (now (t .entry))) (now (t .entry))) file p (now (opens .entry)) (now (opens .exit))) ⌝ }
 {
     let at = n.record_at(Kind::Process, p);
     if t[at + LIVE] == 1 {
-        let mine = cells[p];
+        let mine = runs::cell(cells[p]);
         let alive = parent_ok(t, n, cells, p)
             & ((wide(t[at + QUEUE]) <= MESSAGES)
                 & ((t[at + 6] == 0)
@@ -170,9 +175,9 @@ fn process_ok(
 pub(crate) fn processes_ok(
     t: &[u32],
     n: Header,
-    cells: &[usize; MAX_SLOTS],
-    segment_cells: &[usize; MAX_SLOTS],
-    file_cells: &[usize; MAX_SLOTS],
+    cells: &[u8; MAX_SLOTS],
+    segment_cells: &[u8; MAX_SLOTS],
+    file_cells: &[u8; MAX_SLOTS],
     flow: &[[bool; MAX_CELLS]; MAX_CELLS],
     references: &mut [u32],
     opens: &mut [u32],

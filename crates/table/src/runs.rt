@@ -1,4 +1,5 @@
 // Each cell owns a run of slots of each kind, in cell order.
+ghost use mathlib.Core.Path.{_≡_};
 ghost use Rattle.rules.specs.Layout.{configuration};
 ghost use Rattle.table.specs.Kinds.{kindOf};
 ghost use Rattle.table.specs.Shape.{Shaped, CellsOf};
@@ -9,18 +10,25 @@ use rules::HEADER_WORDS;
 use rules::MAX_SLOTS;
 use words::wide;
 
+// A cell is kept in a byte, and used as an index.
+pub(crate) fn cell(c: u8) -> usize
+    ensures { λ r. ⌜ r ≡ c ⌝ }
+{
+    c as usize
+}
+
 // The cell of every slot of a kind, filled run by run in one pass over the cells.
-pub(crate) fn slot_cells(t: &[u32], n: Header, kind: Kind) -> [usize; MAX_SLOTS]
+pub(crate) fn slot_cells(t: &[u32], n: Header, kind: Kind) -> [u8; MAX_SLOTS]
     requires { ⌜ Shaped (now t) n ⌝ }
     ensures { λ r. ⌜ CellsOf (configuration (now (t .entry))) (kindOf kind) r ⌝ }
 {
     let k = kind.cell_word();
-    let mut of = [0usize; MAX_SLOTS];
+    let mut of = [0u8; MAX_SLOTS];
     let mut i = 0;
     for c in 0..n.cells {
         let end = i + wide(t[HEADER_WORDS + CELL_WORDS * c + k]);
         while i < end {
-            of[i] = c;
+            of[i] = c as u8;
             i = i + 1;
         }
     }

@@ -3,47 +3,34 @@ use borrow.Author.Needs.{needs}
 use native.Mathlib.Omega.{arith}
 use mathlib.Core.Path.{_≡_, sym, ap, ap₂, _∙_}
 use mathlib.Core.Bool.{_&&_}
-use Prim.Native.Nat.{ℕ, _≤_}
-use lib.Dec.{leb}
-use lib.ListN.{getD}
 use mathlib.Core.List.{[]}
-use Rattle.rules.specs.Layout.{slots, cellOf, flows, configuration, at, rd, serial}
-use Rattle.rules.specs.Seid.{indexOf, isSeid}
+use Prim.Native.Nat.{ℕ, _≤_, _<_}
+use lib.Dec.{leb}
+use Rattle.rules.specs.Layout.{maxCells, cellOf, flows, configuration, at, rd, serial}
+use Rattle.rules.specs.Seid.{isSeid}
 use Rattle.rules.specs.WellFormed.{heldOk}
 use Rattle.table.proofs.held.held_ok.Statement.{statement}
 use Rattle.table.specs.Kinds.{kindOf}
-use Rattle.table.proofs.Config.{slots-read}
-use Rattle.table.proofs.Filled.{slots-small}
-use Rattle.table.proofs.Holders.{record-word, cell-small, flow-at, held-out}
+use Rattle.table.proofs.Holders.{place-word, flow-at, held-out}
 use Rattle.table.proofs.held.held_ok.Tie as tie
 
 index-of-requires : tie.Need-index-of-requires
 index-of-requires c κs = search needs
 
-slots-requires : tie.Need-slots-requires
-slots-requires c κs = search needs
-
 returns : tie.Need-returns
-returns c =
-    let s = c .before .before .before .before in
-    let e = slots-read (s .args .t .now) (s .args .n) (s .pre .0 .framed .header) (kindOf (s .args .kind)) in
-    sym (held-out _ _ _ _ _ (omega (arith, c .before .slots .ensures, c .before .before .index-of .ensures)))
+returns c = sym (held-out _ _ _ _ _ (omega (arith, c .before .before .before .before .pre .0 .slots-are, c .before .before .index-of .ensures)))
 
-record-at-requires : tie.Need-record-at-requires
-record-at-requires c κs = search needs
+mul-at : tie.Need-mul-at
+mul-at c = omega (arith, c .before .before .before .before .before .pre .0 .within (c .before .before .before .index-of .result) (c .before .if1 .left))
 
-mul-cell : tie.Need-mul-cell
-mul-cell c =
-    let s = c .before .before .before .before .before in
-    omega (arith, slots-small (s .args .n) (s .pre .0 .framed .small) (kindOf (s .args .kind)))
+add-at : tie.Need-add-at
+add-at c = omega (arith, c .before .before .before .before .before .before .pre .0 .within (c .before .before .before .before .index-of .result) (c .before .before .if1 .left))
 
 element-copy-out-cell : tie.Need-element-copy-out-cell
-element-copy-out-cell c =
-    let s = c .before .before .before .before .before in
-    omega (arith, slots-small (s .args .n) (s .pre .0 .framed .small) (kindOf (s .args .kind)))
+element-copy-out-cell c = search needs
 
-class-requires : tie.Need-class-requires
-class-requires c κs = search needs
+cell-requires : tie.Need-cell-requires
+cell-requires c κs = search needs
 
 is-seid-requires : tie.Need-is-seid-requires
 is-seid-requires c κs = search needs
@@ -52,23 +39,25 @@ serial-of-requires : tie.Need-serial-of-requires
 serial-of-requires c κs = search needs
 
 add-result : tie.Need-add-result
-add-result c = search needs
+add-result c = omega (arith, c .before .before .before .before .before .before .before .before .before .before .pre .0 .within (c .before .before .before .before .before .before .before .before .index-of .result) (c .before .before .before .before .before .before .if1 .left))
 
 mul-result : tie.Need-mul-result
-mul-result c = search needs
+mul-result c = omega (arith, c .before .before .before .before .before .before .before .before .before .before .pre .0 .within (c .before .before .before .before .before .before .before .before .index-of .result) (c .before .before .before .before .before .before .if1 .left))
 
 shared-slice-read-result : tie.Need-shared-slice-read-result
-shared-slice-read-result c = search needs
+shared-slice-read-result c = omega (arith, c .before .before .before .before .before .before .before .before .before .before .before .pre .0 .within (c .before .before .before .before .before .before .before .before .before .index-of .result) (c .before .before .before .before .before .before .before .if1 .left))
 
 mul-result-2 : tie.Need-mul-result-2
 mul-result-2 c =
-    let s = c .before .before .before .before .before .before .before .before .before .before in
-    omega (arith, cell-small (s .args .t .now) (s .args .n) (s .pre .0) (kindOf (s .args .kind)) (s .args .cells .now) (s .pre .1) (c .before .before .before .before .before .before .before .before .index-of .result) (search needs))
+    let s = c .before .before .before .before .before .before .before .before .before .before .before in
+    let i = c .before .before .before .before .before .before .before .before .before .index-of .result in
+    omega (arith, c .before .before .before .cell .ensures, s .pre .1 i (omega (arith, s .pre .0 .slots-are)), s .pre .0 .cells-few i (c .before .before .before .before .before .before .before .if1 .left))
 
 index-1-result : tie.Need-index-1-result
 index-1-result c =
-    let s = c .before .before .before .before .before .before .before .before .before .before in
-    omega (arith, cell-small (s .args .t .now) (s .args .n) (s .pre .0) (kindOf (s .args .kind)) (s .args .cells .now) (s .pre .1) (c .before .before .before .before .before .before .before .before .index-of .result) (search needs))
+    let s = c .before .before .before .before .before .before .before .before .before .before .before in
+    let i = c .before .before .before .before .before .before .before .before .before .index-of .result in
+    omega (arith, c .before .before .before .cell .ensures, s .pre .1 i (omega (arith, s .pre .0 .slots-are)), s .pre .0 .cells-few i (c .before .before .before .before .before .before .before .if1 .left))
 
 index-2-result : tie.Need-index-2-result
 index-2-result c = search needs
@@ -76,30 +65,29 @@ index-2-result c = search needs
 returns-2 : tie.Need-returns-2
 unfolding heldOk
 returns-2 c =
-    let s = c .before .before .before .before .before .before .before .before .before .before .before in
+    let s = c .before .before .before .before .before .before .before .before .before .before .before .before in
     let t = s .args .t .now in
     let k = kindOf (s .args .kind) in
     let h = configuration t in
-    let i = c .before .before .before .before .before .before .before .before .before .index-of .result in
-    let e = slots-read t (s .args .n) (s .pre .0 .framed .header) k in
-    let small = cell-small t (s .args .n) (s .pre .0) k (s .args .cells .now) (s .pre .1) i (search needs) in
-    let word = record-word t (s .args .n) (s .pre .0) k i serial _ (c .before .before .before .before .before .before .record-at .ensures) in
-    let flow = flow-at h (s .args .flow .now) (s .pre .2) (getD (s .args .cells .now) i 0) (s .args .mine) [] (omega arith) (s .pre .3) in
-    ap₂ _&&_ (c .before .before .before .is-seid .ensures ∙ ap₂ (λ (c n : ℕ). isSeid c n (s .args .s)) (c .before .before .before .before .class .ensures) (c .before .before .before .before .before .before .before .before .slots .ensures ∙ sym e))
-    (ap₂ _&&_ (ap₂ leb (c .before .before .serial-of .ensures) (rw (c .before .before .before .before .before .before .before .before .before .index-of .ensures) at word))
-    (flow ∙ ap (λ c. flows h c (s .args .mine)) (s .pre .1 i (omega (arith, c .before .before .before .before .before .before .before .before .slots .ensures)) ∙ ap (cellOf h k) (c .before .before .before .before .before .before .before .before .before .index-of .ensures))))
+    let i = c .before .before .before .before .before .before .before .before .before .before .index-of .result in
+    let lie = s .pre .0 in
+    let cell = c .before .before .before .before .cell .ensures ∙ s .pre .1 i (omega (arith, lie .slots-are)) in
+    let small : c .before .before .before .before .cell .result < maxCells = omega (arith, cell, lie .cells-few i (c .before .before .before .before .before .before .before .before .if1 .left)) in
+    let flow = flow-at h (s .args .flow .now) (s .pre .2) (c .before .before .before .before .cell .result) (s .args .mine) [] small (s .pre .3) in
+    ap₂ _&&_ (c .before .before .before .is-seid .ensures ∙ ap₂ (λ (x n : ℕ). isSeid x n (s .args .s)) (lie .class-is) (lie .slots-are))
+    (ap₂ _&&_ (ap₂ leb (c .before .before .serial-of .ensures) (place-word t k (s .args .o) lie i serial ∙ ap (λ (i : ℕ). rd h t (at k i serial)) (c .before .before .before .before .before .before .before .before .before .before .index-of .ensures)))
+    (flow ∙ ap (λ (x : ℕ). flows h x (s .args .mine)) (cell ∙ ap (cellOf h k) (c .before .before .before .before .before .before .before .before .before .before .index-of .ensures))))
 
 pub held-ok-spec : {M : Type 1} → statement M
 held-ok-spec =
     tie.close
     (tie.spec
     index-of-requires
-    slots-requires
     returns
-    record-at-requires
-    mul-cell
+    mul-at
+    add-at
     element-copy-out-cell
-    class-requires
+    cell-requires
     is-seid-requires
     serial-of-requires
     add-result

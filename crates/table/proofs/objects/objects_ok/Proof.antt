@@ -12,7 +12,7 @@ use Rattle.table.specs.Kinds.{kindOf}
 use Rattle.table.specs.Entries.{objectOk}
 use Rattle.table.proofs.Loops.{all-first, all-next, all-last}
 use Rattle.table.proofs.Config.{slots-read}
-use Rattle.table.proofs.Filled.{slots-small}
+use Rattle.table.proofs.Config.{slots-small}
 use Rattle.table.proofs.objects.objects_ok.Tie as tie
 
 abbrev Inv-loop : tie.InvT-loop

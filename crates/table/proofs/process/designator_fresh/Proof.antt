@@ -1,20 +1,22 @@
--- `process::designator_fresh` meets its contract: an empty designator is passed over, else `ok` says that no designator passed holds the same.
+-- `process::designator_fresh` meets its contract: an empty designator is passed over; else no designator passed holds the same, and one that does decides.
 use borrow.Author.Needs.{needs}
 use mathlib.Core.Path.{_≡_, refl, sym, ap, _∙_}
-use Prim.Native.Nat.{_+_, _-_, _≤_}
+use mathlib.Core.Bool.{true, not}
+use Prim.Native.Nat.{ℕ, _+_, _-_, _≤_}
+use borrow.Author.Tests.{eq-eqb, ne-eqb}
 use lib.ListN.{getD}
 use Rattle.rules.specs.Words.{allBelow}
-use Rattle.rules.specs.Layout.{segment, heldAt}
 use Rattle.table.proofs.process.designator_fresh.Statement.{statement}
 use Rattle.table.proofs.Loops.{all-first, all-next, all-last}
 use Rattle.table.proofs.Alive.{apart, fresh-empty, fresh-next}
+use Rattle.table.proofs.Object.{all-not}
 use Rattle.table.proofs.process.designator_fresh.Tie as tie
 
 abbrev Inv-loop : tie.InvT-loop
-Inv-loop t at e s ok₀ d₀ ok d = (d ≤ e) × (ok ≡ allBelow d (apart (λ j. getD t (at + j) 0) e))
+Inv-loop t at e s d₀ d = (d ≤ e) × (true ≡ allBelow d (apart (λ j. getD t (at + j) 0) e))
 
 abbrev μ-loop : tie.MeasureT-loop
-μ-loop t at e s ok₀ d₀ ok d = e - d
+μ-loop t at e s d₀ d = e - d
 
 mul-s : tie.Need-mul-s Inv-loop μ-loop
 mul-s c = search needs
@@ -37,20 +39,25 @@ returns c = fresh-empty (λ j. getD (c .before .before .args .t .now) (c .before
 loop-holds : tie.Need-loop-holds Inv-loop μ-loop
 loop-holds c = (search needs, all-first _)
 
-mul-ok : tie.Need-mul-ok Inv-loop μ-loop
-mul-ok c = search needs
+mul-if2 : tie.Need-mul-if2 Inv-loop μ-loop
+mul-if2 c = search needs
 
-add-ok : tie.Need-add-ok Inv-loop μ-loop
-add-ok c = search needs
+add-if2 : tie.Need-add-if2 Inv-loop μ-loop
+add-if2 c = search needs
 
-add-ok-2 : tie.Need-add-ok-2 Inv-loop μ-loop
-add-ok-2 c = search needs
+add-if2-2 : tie.Need-add-if2-2 Inv-loop μ-loop
+add-if2-2 c = search needs
 
-mul-ok-2 : tie.Need-mul-ok-2 Inv-loop μ-loop
-mul-ok-2 c = search needs
+mul-if2-2 : tie.Need-mul-if2-2 Inv-loop μ-loop
+mul-if2-2 c = search needs
 
-shared-slice-read-ok : tie.Need-shared-slice-read-ok Inv-loop μ-loop
-shared-slice-read-ok c = search needs
+shared-slice-read-if2 : tie.Need-shared-slice-read-if2 Inv-loop μ-loop
+shared-slice-read-if2 c = search needs
+
+returns-2 : tie.Need-returns-2 Inv-loop μ-loop
+returns-2 c =
+    let a = c .before .before .before .before .before .before .args in
+    sym (all-not _ _ (c .before .before .before .loop .d) (c .before .before .loop-test .taken) (sym (fresh-next (λ j. getD (a .t .now) (a .at + j) 0) (a .e) (c .before .before .before .before .if1 .left) (c .before .before .before .loop .d)) ∙ ap not (eq-eqb _ _ (c .if2 .taken))))
 
 add-d : tie.Need-add-d Inv-loop μ-loop
 add-d c = search needs
@@ -59,10 +66,12 @@ loop-less : tie.Need-loop-less Inv-loop μ-loop
 loop-less c = search needs
 
 loop-again : tie.Need-loop-again Inv-loop μ-loop
-loop-again c = (search needs, all-next _ (c .before .before .loop .inv .1) (fresh-next (λ j. getD (c .before .before .before .before .before .args .t .now) (c .before .before .before .before .before .args .at + j) 0) (c .before .before .before .before .before .args .e) (c .before .before .before .if1 .left) (c .before .before .loop .d)))
+loop-again c =
+    let a = c .before .before .before .before .before .before .args in
+    (search needs, all-next _ (c .before .before .before .loop .inv .1) (sym (ap not (ne-eqb _ _ (c .if2 .left))) ∙ fresh-next (λ j. getD (a .t .now) (a .at + j) 0) (a .e) (c .before .before .before .before .if1 .left) (c .before .before .before .loop .d)))
 
-returns-2 : tie.Need-returns-2 Inv-loop μ-loop
-returns-2 c = all-last _ (c .before .loop .inv .1) (c .before .loop .inv .0) (c .loop-test .left) refl
+returns-3 : tie.Need-returns-3 Inv-loop μ-loop
+returns-3 c = all-last _ (c .before .loop .inv .1) (c .before .loop .inv .0) (c .loop-test .left) refl
 
 pub designator-fresh-spec : {M : Type 1} → statement M
 designator-fresh-spec =
@@ -77,12 +86,13 @@ designator-fresh-spec =
     shared-slice-read-s
     returns
     loop-holds
-    mul-ok
-    add-ok
-    add-ok-2
-    mul-ok-2
-    shared-slice-read-ok
+    mul-if2
+    add-if2
+    add-if2-2
+    mul-if2-2
+    shared-slice-read-if2
+    returns-2
     add-d
     loop-less
     loop-again
-    returns-2)
+    returns-3)

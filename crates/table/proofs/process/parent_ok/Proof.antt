@@ -47,27 +47,27 @@ class-requires c κs = search needs
 is-seid-requires : tie.Need-is-seid-requires
 is-seid-requires c κs = search needs
 
-mul-result : tie.Need-mul-result
-mul-result c = search needs
+element-copy-out-cell : tie.Need-element-copy-out-cell
+element-copy-out-cell c = search needs
 
-element-copy-out-result : tie.Need-element-copy-out-result
-element-copy-out-result c = search needs
+cell-requires : tie.Need-cell-requires
+cell-requires c κs = search needs
 
-mul-result-2 : tie.Need-mul-result-2
-mul-result-2 c = search needs
+element-copy-out-cell-2 : tie.Need-element-copy-out-cell-2
+element-copy-out-cell-2 c = search needs
 
-element-copy-out-result-2 : tie.Need-element-copy-out-result-2
-element-copy-out-result-2 c = search needs
+cell-requires-2 : tie.Need-cell-requires-2
+cell-requires-2 c κs = search needs
 
 returns-3 : tie.Need-returns-3
 returns-3 c =
-    let s = c .before .before .before .before .before .before .before .before .before .before .before in
+    let s = c .before .before .before .before .before .before .before .before .before .before .before .before .before in
     let h = configuration (s .args .t .now) in
     let e = slots-read (s .args .t .now) (s .args .n) (s .pre .0 .framed .header) process in
-    let own = s .pre .1 (s .args .p) (omega arith) in
-    let cell = s .pre .1 (c .before .before .before .before .before .before .index-of .result) (omega arith) ∙ ap (cellOf h process) (c .before .before .before .before .before .before .index-of .ensures) in
-    rw (← record-word (s .args .t .now) (s .args .n) (s .pre .0) process (s .args .p) parent _ (c .before .before .before .before .before .before .before .before .before .record-at .ensures))
-    (ap₂ _&&_ (c .before .before .is-seid .ensures ∙ ap₂ (λ (x n : ℕ). isSeid x n (getD (s .args .t .now) (c .before .before .before .before .before .before .before .before .before .record-at .result + parent) 0)) (c .before .before .before .class .ensures) (sym e)) (ap₂ eqb cell own) ∙ parent-some h _ _ (c .before .before .before .before .before .before .before .if1 .left))
+    let own = c .cell2 .ensures ∙ s .pre .1 (s .args .p) (omega arith) in
+    let cell = c .before .before .cell .ensures ∙ s .pre .1 (c .before .before .before .before .before .before .before .before .index-of .result) (omega arith) ∙ ap (cellOf h process) (c .before .before .before .before .before .before .before .before .index-of .ensures) in
+    rw (← record-word (s .args .t .now) (s .args .n) (s .pre .0) process (s .args .p) parent _ (c .before .before .before .before .before .before .before .before .before .before .before .record-at .ensures))
+    (ap₂ _&&_ (c .before .before .before .before .is-seid .ensures ∙ ap₂ (λ (x n : ℕ). isSeid x n (getD (s .args .t .now) (c .before .before .before .before .before .before .before .before .before .before .before .record-at .result + parent) 0)) (c .before .before .before .before .before .class .ensures) (sym e)) (ap₂ eqb cell own) ∙ parent-some h _ _ (c .before .before .before .before .before .before .before .before .before .if1 .left))
 
 pub parent-ok-spec : {M : Type 1} → statement M
 parent-ok-spec =
@@ -82,8 +82,8 @@ parent-ok-spec =
     returns-2
     class-requires
     is-seid-requires
-    mul-result
-    element-copy-out-result
-    mul-result-2
-    element-copy-out-result-2
+    element-copy-out-cell
+    cell-requires
+    element-copy-out-cell-2
+    cell-requires-2
     returns-3)

@@ -65,8 +65,8 @@ loop-again c =
       search needs,
       search needs,
       all-next _ (l .inv .2) (sym good ∙ c .before .before .before .before .before .process-ok .ensures .0),
-      tally-next _ _ _ (l .p) _ _ _ good (l .inv .3) (c .before .before .before .before .before .process-ok .ensures .1 .0) (c .before .before .before .before .before .process-ok .kept .1 .1 .1 .1 .1 .1 .1 .0),
-      tally-next _ _ _ (l .p) _ _ _ good (l .inv .4) (c .before .before .before .before .before .process-ok .ensures .1 .1) (c .before .before .before .before .before .process-ok .kept .1 .1 .1 .1 .1 .1 .1 .1 .0),
+      tally-next _ _ _ (l .p) _ _ (l .inv .3) (c .before .before .before .before .before .process-ok .ensures .1 .0 good) (c .before .before .before .before .before .process-ok .kept .1 .1 .1 .1 .1 .1 .1 .0),
+      tally-next _ _ _ (l .p) _ _ (l .inv .4) (c .before .before .before .before .before .process-ok .ensures .1 .1 good) (c .before .before .before .before .before .process-ok .kept .1 .1 .1 .1 .1 .1 .1 .1 .0),
     )
 
 same-length-3 : tie.Need-same-length-3 Inv-loop μ-loop

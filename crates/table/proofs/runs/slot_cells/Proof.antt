@@ -69,8 +69,8 @@ loop2-holds c =
       λ κ e. (omega (arith, l .inv .4 κ e .0), omega (arith, l .inv .4 κ e .0, next κ e), l .inv .4 κ e .1),
     )
 
-mul-of : tie.Need-mul-of Inv-loop2 μ-loop2 Inv-loop μ-loop
-mul-of c = search needs
+cast-of : tie.Need-cast-of Inv-loop2 μ-loop2 Inv-loop μ-loop
+cast-of c = search needs
 
 array-write-of : tie.Need-array-write-of Inv-loop2 μ-loop2 Inv-loop μ-loop
 array-write-of c = search needs
@@ -135,7 +135,7 @@ slot-cells-spec =
     wide-requires
     add-end
     loop2-holds
-    mul-of
+    cast-of
     array-write-of
     add-i
     loop2-less
