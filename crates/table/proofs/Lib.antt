@@ -9,3 +9,4 @@ pub mod Alive
 pub mod Owned
 pub mod Object
 pub mod Formed
+pub mod Begun

@@ -7,16 +7,20 @@ mod process;
 mod records;
 mod runs;
 mod seid;
+mod setup;
 mod shape;
 
 ghost use mathlib.Core.Path.{_≡_};
 ghost use Rattle.rules.specs.Claim.{test};
 ghost use Rattle.rules.specs.Layout.{configuration, rd};
 ghost use Rattle.rules.specs.WellFormed.{recordsOk, wellFormed};
+ghost use Rattle.rules.specs.SetUp.{setUpAnswer, setUpTable};
 ghost use Rattle.table.specs.Shape.{Shaped};
 use header::Header;
 use kind::Kind;
 use rules::MAX_SLOTS;
+use rules::XB_PARAM;
+use rules::XOK;
 
 // The records, once the shape is right. What each test asks of the cells is found once: the flow matrix and the cell of every slot. The processes are gone
 // through once; what they hold is counted on the way and then compared with what segments and files say.
@@ -55,4 +59,19 @@ pub fn check(t: &[u32], store_bytes: usize) -> bool
     }
     let n = header::read_header(t);
     records_ok(t, n)
+}
+
+// Sets the table up by the header and the cells that stand in it, for a store of that many bytes; or refuses them, and changes nothing.
+pub fn set_up(t: &mut [u32], store_bytes: usize) -> u32
+    ensures { λ r. ⌜ r ≡ setUpAnswer (now (t .entry)) «store_bytes» ⌝ }
+    ensures { λ _. ⌜ now (t .exit) ≡ setUpTable (now (t .entry)) «store_bytes» ⌝ }
+{
+    if !shape::can_set_up(t, store_bytes) {
+        return XB_PARAM;
+    }
+    let n = header::read_header(t);
+    let from = n.base(Kind::Process);
+    setup::clear(t, from);
+    setup::begin_all(t, n);
+    XOK
 }
