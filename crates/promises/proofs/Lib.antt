@@ -9,4 +9,5 @@ pub mod Outcomes
 pub mod Queue
 pub mod Mail
 pub mod Fresh
+pub mod Judged
 pub mod Single

@@ -1,0 +1,114 @@
+-- What it is to be well formed is neither nothing nor everything: a table that set-up leaves and one in use are, and most that are one word away are not.
+use mathlib.Core.Path.{_≡_, refl}
+use mathlib.Core.Bool.{Bool, true, false}
+use mathlib.Core.List.{List, [], _∷_, _++_}
+use Prim.Native.Nat.{ℕ, _+_, _-_, _*_}
+use lib.ListN.{set, replicate}
+use Rattle.rules.specs.Words.{allBelow, sumBelow, countBelow, lowest}
+use Rattle.rules.specs.Claim.{test}
+use Rattle.rules.specs.Level.{within, equals, flowsTo}
+use Rattle.rules.specs.Layout.{headerWords, cellWords, process, segment, file, cells, slots, blocks, cellWord, levelOf, configuration, firstSlot, cellOf, flows, Addr, at, rd, live, serial, owner, group, parent, queue, heldAt, usedAt, messageAt, bits, sharable, size, references, links, opens}
+use Rattle.rules.specs.Seid.{class, seid, classOf, indexOf, serialOf, isSeid}
+use Rattle.rules.specs.Modes.{validModes, writes}
+use Rattle.rules.specs.Rights.{asksWrite, validAccess}
+use Rattle.rules.specs.WellFormed.{headerOk, cellOk, levelsDistinct, sumsMatch, configured, lengthsExact, recordOk, heldOk, currentOk, entryOk, parentOk, heldOnce, messageOk, processOk, ownEntry, ownEntries, segmentSize, segmentOk, fileOk, recordsOk, wellFormed}
+use Rattle.rules.specs.Rule.{Word, _≔_, write}
+use Rattle.rules.specs.SetUp.{canSetUp, firstProcesses, freshTable, setUpTable}
+
+-- two cells of security 1 and 3, with a process and a file slot each, and a segment slot in the first; B 1
+abbrev conf : List ℕ
+conf =
+    (2 ∷ 2 ∷ 1 ∷ 2 ∷ 1 ∷ 0 ∷ 0 ∷ 0 ∷ [])
+    ++ ((1 ∷ 0 ∷ 0 ∷ 1 ∷ 1 ∷ 1 ∷ 7 ∷ 9 ∷ [])
+    ++ (3 ∷ 0 ∷ 0 ∷ 1 ∷ 0 ∷ 1 ∷ 8 ∷ 9 ∷ []))
+
+-- its store, and words that are to be a table of it
+abbrev bytes : ℕ
+bytes = 1024
+
+abbrev filled : List ℕ
+filled = conf ++ replicate 232 5
+
+-- the first process, the first segment and the first file; the file is the second in its slot
+abbrev sender : ℕ
+sender = seid (class process) 0 1
+
+abbrev shared : ℕ
+shared = seid (class segment) 0 1
+
+abbrev opened : ℕ
+opened = seid (class file) 0 2
+
+-- in use: the first process holds the segment and, to write, the file; the second holds the file to read, and has a message from the first
+abbrev inUse : List Word
+inUse =
+    (at file 0 live ≔ 1) ∷ (at file 0 serial ≔ 2) ∷ (at file 0 owner ≔ 7) ∷ (at file 0 group ≔ 9) ∷ (at file 0 bits ≔ 420) ∷ (at file 0 size ≔ 1)
+    ∷ (at file 0 opens ≔ 1) ∷ (at process 0 (heldAt file 0) ≔ opened) ∷ (at process 0 (usedAt file 0) ≔ 3)
+    ∷ (at segment 0 live ≔ 1) ∷ (at segment 0 serial ≔ 1) ∷ (at segment 0 owner ≔ 7) ∷ (at segment 0 group ≔ 9) ∷ (at segment 0 bits ≔ 384)
+    ∷ (at segment 0 sharable ≔ 1) ∷ (at segment 0 size ≔ 512) ∷ (at segment 0 references ≔ 1)
+    ∷ (at process 0 (heldAt segment 3) ≔ shared) ∷ (at process 0 (usedAt segment 3) ≔ 384)
+    ∷ (at process 1 (heldAt file 5) ≔ opened) ∷ (at process 1 (usedAt file 5) ≔ 1)
+    ∷ (at process 1 queue ≔ 1) ∷ (at process 1 (messageAt 0 0) ≔ sender) ∷ (at process 1 (messageAt 0 1) ≔ 17)
+    ∷ []
+
+abbrev used : List ℕ
+used = write conf (setUpTable filled bytes) inUse
+
+-- one word of it changed: of a record, or of the second cell
+abbrev but : Addr → ℕ → List ℕ
+but a v = write conf used ((a ≔ v) ∷ [])
+
+abbrev butSecurity : ℕ → List ℕ
+butSecurity v = set used (headerWords + cellWords * 1) v
+
+abbrev right : List ℕ → Bool
+right t = test (wellFormed t bytes)
+
+pub record Judged : Type 0 where
+  pub not-set-up : right filled ≡ false
+  pub set-up : right (setUpTable filled bytes) ≡ true
+  pub in-use : right used ≡ true
+  -- the second process' entry is of another cell: it does not count
+  pub count-of-both : right (but (at file 0 opens) 2) ≡ false
+  pub count-one-over : right (but (at segment 0 references) 2) ≡ false
+  -- in another cell an entry may be stale, but no slot has had a serial to come; in the own cell it is current
+  pub stale-across : right (but (at process 1 (heldAt file 5)) (opened - 1)) ≡ true
+  pub serial-to-come : right (but (at process 1 (heldAt file 5)) (opened + 1)) ≡ false
+  pub stale-at-home : right (but (at process 0 (heldAt file 0)) (opened - 1)) ≡ false
+  -- to write is held in the own cell alone
+  pub write-across : right (but (at process 1 (usedAt file 5)) 3) ≡ false
+  pub parent-across : right (but (at process 1 parent) sender) ≡ false
+  -- a record that is not live is zero but for its serial
+  pub free-serial : right (but (at file 1 serial) 4) ≡ true
+  pub free-not-zero : right (but (at file 1 owner) 1) ≡ false
+  pub unused-message : right (but (at process 1 (messageAt 7 3)) 1) ≡ false
+  -- the second cell at another level, at the first one's, and at one to which the first does not flow
+  pub level-moved : right (butSecurity 2) ≡ true
+  pub levels-equal : right (butSecurity 1) ≡ false
+  pub no-flow : right (butSecurity 0) ≡ false
+  pub word-too-many : right (used ++ 0 ∷ []) ≡ false
+  pub byte-too-many : test (wellFormed used (bytes + 1)) ≡ false
+
+pub judged : Judged
+unfolding allBelow sumBelow countBelow lowest within equals flowsTo cells slots blocks cellWord levelOf configuration firstSlot cellOf flows rd seid classOf indexOf serialOf isSeid validModes writes asksWrite validAccess headerOk cellOk levelsDistinct sumsMatch configured lengthsExact recordOk heldOk currentOk entryOk parentOk heldOnce messageOk processOk ownEntry ownEntries segmentSize segmentOk fileOk recordsOk wellFormed canSetUp firstProcesses freshTable setUpTable
+judged =
+    record {
+      not-set-up = refl;
+      set-up = refl;
+      in-use = refl;
+      count-of-both = refl;
+      count-one-over = refl;
+      stale-across = refl;
+      serial-to-come = refl;
+      stale-at-home = refl;
+      write-across = refl;
+      parent-across = refl;
+      free-serial = refl;
+      free-not-zero = refl;
+      unused-message = refl;
+      level-moved = refl;
+      levels-equal = refl;
+      no-flow = refl;
+      word-too-many = refl;
+      byte-too-many = refl;
+    }
