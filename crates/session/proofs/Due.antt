@@ -6,7 +6,7 @@ use Prim.Native.Nat.{ℕ, suc, _+_, _-_, _^_, _<_, _≤_}
 use native.Mathlib.Omega.{arith}
 use native.Mathlib.Nat.{mod-eq-of-lt, min-eq-left}
 use lib.Dec.{eqb}
-use lib.ListN.{length, getD, take, drop, replicate, length-append, length-drop}
+use lib.ListN.{length, getD, take, drop, replicate, length-append, length-drop, drop-of-length-le}
 use lib.Seq.{sets, length-sets, length-take-le, drop-cons}
 use Rattle.rules.specs.Claim.{test}
 use Rattle.rules.specs.Layout.{configuration}
@@ -27,7 +27,7 @@ use Rattle.script.specs.Take.{callingAt, isCalling, isBetween}
 use Rattle.script.specs.Advance.{Advanced, advanced, advance}
 use Rattle.script.proofs.Going.{accepted}
 use Rattle.script.proofs.Meaning.{Meaning, configured, called, meaningAt, meaning, faultOf, GoodAt, Good, Called, Told}
-use Rattle.script.proofs.Piece.{ends, taken, place}
+use Rattle.script.proofs.Piece.{ends, taken, place, rest-of}
 use Rattle.script.proofs.Script.{piece-told, at-start, at-call, at-end}
 use Rattle.session.specs.declared.Session.{Session}
 use Rattle.session.specs.Turn.{newSession, faultText, finishText, Turn, wordsOf, bytesOf, accepts, tableReady, storeReady, outcomeOf, oneMore, afterCall, acted, turn}
@@ -344,6 +344,15 @@ turn-place x t st l s i =
     cond-both (λ (k : Turn). k .next + length (k .rest) ≡ i + length s) (x .over) _ _
     (λ e. omega arith)
     (λ e. let a = acted-rest (advance (x .reader) t l s i .moved .what) x st (advance (x .reader) t l s i) in rw (a .0, a .1) (place (x .reader) t l s i))
+
+-- what is left stands from there on
+pub turn-rest : (x : Session) (t st l s : List ℕ) (i : ℕ) → turn x t st l (drop i s) i .rest ≡ drop (turn x t st l (drop i s) i .next) s
+unfolding turn
+turn-rest x t st l s i =
+    cond-both (λ (k : Turn). k .rest ≡ drop (k .next) s) (x .over) _ _
+    (λ e. let d = length-drop i s in let m : length s ≤ i + length (drop i s) = omega arith in sym (drop-of-length-le s m))
+    (λ e. let a = acted-rest (advance (x .reader) t l (drop i s) i .moved .what) x st (advance (x .reader) t l (drop i s) i) in
+    rw (a .0, a .1) (rest-of (x .reader) t l (drop i s) i s refl))
 
 -- so a loop over a piece ends
 pub nearer : (x : Session) (t st l s : List ℕ) (i n : ℕ) → i < length s → n ≡ turn x t st l (drop i s) i .next → length s - n < length s - i

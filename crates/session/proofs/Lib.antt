@@ -4,4 +4,5 @@ pub mod Calls
 pub mod Ready
 pub mod Due
 pub mod Ways
+pub mod Playing
 pub mod Whole

@@ -7,8 +7,8 @@ use native.Mathlib.Omega.{arith}
 use native.Mathlib.Nat.{mul-le-mul, min-eq-left, min-eq-right}
 use native.Mathlib.Decide.{decLe}
 use lib.Dec.{eqb}
-use lib.ListN.{length, getD, take, drop, length-drop}
-use lib.Seq.{sets, sets-eq, take-all, take-at, length-take-le}
+use lib.ListN.{length, getD, take, drop, length-append, length-drop}
+use lib.Seq.{sets, sets-eq, take-all, take-at, drop-at, length-take-le}
 use Rattle.rules.specs.Layout.{blockBytes, file, slots, blocks, tableWords}
 use Rattle.rules.specs.Errors.{XOK, ascii}
 use Rattle.rules.specs.SetUp.{setUpAnswer, setUpTable}
@@ -17,7 +17,7 @@ use Rattle.rules.specs.Replay.{maxReplayBlocks, maxBuffer, callOf, line, headin
 use borrow.Author.Tests.{eq-eqb, ne-eqb}
 use Rattle.laws.proofs.Tests.{cond-true, cond-false}
 use Rattle.output.specs.Wrote.{Wrote}
-use Rattle.output.proofs.Laws.{none, as-text, fits}
+use Rattle.output.proofs.Laws.{none, as-text}
 use Rattle.text.specs.Room.{lineBytes}
 use Rattle.text.proofs.Length.{line-short}
 use Rattle.script.specs.declared.Reader.{Reader}
@@ -29,14 +29,20 @@ use Rattle.script.specs.Advance.{Advanced, advance, Advances}
 use Rattle.session.specs.declared.Session.{Session}
 use Rattle.session.specs.declared.Stepped.{Stepped}
 use Rattle.session.specs.declared.Setup.{Setup}
-use Rattle.session.specs.Turn.{newSession, faultText, finishText, Turn, wordsOf, bytesOf, accepts, storeReady, outcomeOf, oneMore, acted, turn, Written, Prepared, Ran, Turned}
+use Rattle.session.specs.Turn.{faultText, finishText, Turn, wordsOf, bytesOf, accepts, storeReady, outcomeOf, oneMore, acted, turn, Written, Prepared, Begun, Ran, Acts, Turned}
 
 -- ---- text that is written, and short enough for a line
-pub written : (o s : List ℕ) (r : ℕ) (o′ : List ℕ) → length s ≤ lineBytes → Wrote o 0 s r o′ → Written o s r o′
-written o s r o′ h w = record { text = w; handed = λ m. fits o s r o′ w (omega arith) .1 }
+pub nothing : (o : List ℕ) (at : ℕ) → Written o at [] at o
+nothing o at = record { text = none o at; short = omega arith }
 
-pub nothing : (o : List ℕ) → Written o [] 0 o
-nothing o = written o [] 0 o (omega arith) (none o 0)
+-- where there is room for a line, it stands there
+pub stands : (o : List ℕ) (at : ℕ) (s : List ℕ) (r : ℕ) (o′ : List ℕ) → at + lineBytes ≤ length o → Written o at s r o′ → drop at (take r o′) ≡ s
+stands o at s r o′ m w =
+    let h = w .short in
+    let e : r ≡ at + length s = omega (arith, w .text .next) in
+    let n : length (take at o) ≡ at = length-take-le at o (omega arith) in
+    ap (drop at) (ap₂ take e (w .text .left ∙ sets-eq s o at (omega arith)) ∙ take-at (take at o ++ s) (drop (at + length s) o) (at + length s) (let f = length-append (take at o) s in omega arith))
+    ∙ drop-at (take at o) s at n
 
 -- the fixed lines
 short-script : length badScript ≤ lineBytes
@@ -51,34 +57,32 @@ short-heading : length heading ≤ lineBytes
 unfolding heading ascii
 short-heading = omega arith
 
-module _ (b : Bool) (o : List ℕ) (r : ℕ) (o′ : List ℕ) where
-  pub fault-script : b ≡ true → Wrote o 0 badScript r o′ → Written o (faultText b) r o′
-  fault-script e w = rw e (written o badScript r o′ short-script w)
+module _ (b : Bool) (o : List ℕ) (at r : ℕ) (o′ : List ℕ) where
+  pub fault-script : b ≡ true → Wrote o at badScript r o′ → Written o at (faultText b) r o′
+  fault-script e w = rw e (record { text = w; short = short-script })
 
-  pub fault-configuration : b ≡ false → Wrote o 0 badConfiguration r o′ → Written o (faultText b) r o′
-  fault-configuration e w = rw e (written o badConfiguration r o′ short-configuration w)
-
-pub headed : (o : List ℕ) (r : ℕ) (o′ : List ℕ) → Wrote o 0 heading r o′ → Written o heading r o′
-headed o r o′ w = written o heading r o′ short-heading w
+  pub fault-configuration : b ≡ false → Wrote o at badConfiguration r o′ → Written o at (faultText b) r o′
+  fault-configuration e w = rw e (record { text = w; short = short-configuration })
 
 -- the same text by another name
-pub named : (o s s′ : List ℕ) (r : ℕ) (o′ : List ℕ) → s ≡ s′ → Written o s r o′ → Written o s′ r o′
-named o s s′ r o′ e w = subst (λ (z : List ℕ). Written o z r o′) e w
+pub named : (o : List ℕ) (at : ℕ) (s s′ : List ℕ) (r : ℕ) (o′ : List ℕ) → s ≡ s′ → Written o at s r o′ → Written o at s′ r o′
+named o at s s′ r o′ e w = subst (λ (z : List ℕ). Written o at z r o′) e w
 
 -- ---- where the input ends
 module _ (x : Session) (o : List ℕ) where
-  pub finish-over : x .over ≡ true → Written o (finishText x) 0 o
+  pub finish-over : x .over ≡ true → Written o 0 (finishText x) 0 o
   unfolding finishText
-  finish-over e = named o [] (finishText x) 0 o (sym (cond-true (x .over) _ _ e)) (nothing o)
+  finish-over e = named o 0 [] (finishText x) 0 o (sym (cond-true (x .over) _ _ e)) (nothing o 0)
 
-  pub finish-between : x .over ≡ false → isBetween (x .reader) ≡ true → Written o (finishText x) 0 o
+  pub finish-between : x .over ≡ false → isBetween (x .reader) ≡ true → Written o 0 (finishText x) 0 o
   unfolding finishText
-  finish-between e f = named o [] (finishText x) 0 o (sym (cond-false (x .over) _ _ e ∙ cond-true (isBetween (x .reader)) _ _ f)) (nothing o)
+  finish-between e f = named o 0 [] (finishText x) 0 o (sym (cond-false (x .over) _ _ e ∙ cond-true (isBetween (x .reader)) _ _ f)) (nothing o 0)
 
-  pub finish-mid : (b : Bool) (r : ℕ) (o′ : List ℕ) → x .over ≡ false → isBetween (x .reader) ≡ false → b ≡ isCalling (x .reader) → Written o (faultText b) r o′ → Written o (finishText x) r o′
+  pub finish-mid : (b : Bool) (r : ℕ) (o′ : List ℕ) → x .over ≡ false → isBetween (x .reader) ≡ false → b ≡ isCalling (x .reader) → Written o 0 (faultText b) r o′
+      → Written o 0 (finishText x) r o′
   unfolding finishText
   finish-mid b r o′ e f g w =
-      named o (faultText b) (finishText x) r o′ (ap faultText g ∙ sym (cond-false (x .over) _ _ e ∙ cond-false (isBetween (x .reader)) _ _ f)) w
+      named o 0 (faultText b) (finishText x) r o′ (ap faultText g ∙ sym (cond-false (x .over) _ _ e ∙ cond-false (isBetween (x .reader)) _ _ f)) w
 
 -- ---- a part of a slice that was lent comes back over its front
 pub over-front : (t new : List ℕ) (w : ℕ) → length new ≡ length (take w t) → w ≤ length t → new ++ drop w t ≡ sets t 0 new
@@ -122,15 +126,15 @@ prepared t st tw w fb q m a new st′ e₁ e₂ e₃ e₄ e₅ e₆ e₇ e₈ n 
     }
 
 -- ---- a call is run
-pub ran : (x : Session) (n : ℕ) (nums t st l out : List ℕ) (w v q k : ℕ) (o : Outcome) (a : Answer) (tn sn bn : List ℕ) (len : ℕ) (out′ : List ℕ)
+pub ran : (x : Session) (n : ℕ) (nums t st l out : List ℕ) (at w v q k : ℕ) (o : Outcome) (a : Answer) (tn sn bn : List ℕ) (r : ℕ) (out′ : List ℕ)
     → w ≡ min (x .words) (length t) → v ≡ min (x .bytes) (length st) → q ≡ min (getD nums 5 0) maxBuffer → k ≡ min q (length l)
     → o ≡ step (record { table = take w t; store = take v st }) (callOf nums (take k l))
     → a ≡ o .answered → tn ≡ o .state .table → sn ≡ o .state .store → bn ≡ o .buffer
     → length tn ≡ length (take w t) → length sn ≡ length (take v st) → length bn ≡ length (take k l)
-    → Wrote out 0 (line n (getD nums 1 0) a (take k (bn ++ drop k l))) len out′
-    → Ran (outcomeOf x nums t st l) n nums t st l out len (tn ++ drop w t) (sn ++ drop v st) (bn ++ drop k l) out′
+    → Wrote out at (line n (getD nums 1 0) a (take k (bn ++ drop k l))) r out′
+    → Ran (outcomeOf x nums t st l) n nums t st l out at r (tn ++ drop w t) (sn ++ drop v st) (bn ++ drop k l) out′
 unfolding outcomeOf
-ran x n nums t st l out w v q k o a tn sn bn len out′ ew ev eq ek eo ea et es eb nt ns nb wr =
+ran x n nums t st l out at w v q k o a tn sn bn r out′ ew ev eq ek eo ea et es eb nt ns nb wr =
     let same : o ≡ step (record { table = take (x .words) t; store = take (x .bytes) st }) (callOf nums (take (min (getD nums 5 0) maxBuffer) l)) = eo
     ∙ ap₂ (λ (y z : List ℕ). step (record { table = y; store = z }) (callOf nums (take k l))) (ap (λ (j : ℕ). take j t) ew ∙ take-min (x .words) t) (ap (λ (j : ℕ). take j st) ev ∙ take-min (x .bytes) st)
     ∙ ap (λ (y : List ℕ). step (record { table = take (x .words) t; store = take (x .bytes) st }) (callOf nums y)) (ap (λ (j : ℕ). take j l) ek ∙ take-min q l ∙ ap (λ (j : ℕ). take j l) eq) in
@@ -139,105 +143,101 @@ ran x n nums t st l out w v q k o a tn sn bn len out′ ew ev eq ek eo ea et es 
       table = over-front t tn w nt (omega arith) ∙ ap (sets t 0) (et ∙ ap (λ (z : Outcome). z .state .table) same);
       store = over-front st sn v ns (omega arith) ∙ ap (sets st 0) (es ∙ ap (λ (z : Outcome). z .state .store) same);
       buffer = over-front l bn k nb (omega arith) ∙ ap (sets l 0) (eb ∙ ap (λ (z : Outcome). z .buffer) same);
-      written = named out (line n (getD nums 1 0) a bn) _ len out′ (ap₂ (line n (getD nums 1 0)) (ea ∙ ap (λ (z : Outcome). z .answered) same) (eb ∙ ap (λ (z : Outcome). z .buffer) same))
-          (written out (line n (getD nums 1 0) a bn) len out′ (line-short n (getD nums 1 0) a bn (omega arith))
-          (as-text out 0 _ (line n (getD nums 1 0) a bn) len out′ (ap (line n (getD nums 1 0) a) (take-at bn (drop k l) k long)) wr));
+      written = named out at (line n (getD nums 1 0) a bn) _ r out′ (ap₂ (line n (getD nums 1 0)) (ea ∙ ap (λ (z : Outcome). z .answered) same) (eb ∙ ap (λ (z : Outcome). z .buffer) same))
+          (record {
+            text = as-text out at _ (line n (getD nums 1 0) a bn) r out′ (ap (line n (getD nums 1 0) a) (take-at bn (drop k l) k long)) wr;
+            short = line-short n (getD nums 1 0) a bn (omega arith);
+          });
     }
 
 -- ---- what each way of a turn leaves
 
--- the configuration is whole
-abbrev whole : Reader → ℕ → List ℕ → Advanced
-whole reader next t = record { moved = record { what = what.Configuration; reader = reader; next = next }; rest = []; table = t; buffer = [] }
-
-module _ (reader : Reader) (next : ℕ) (t st : List ℕ) (y : Setup) (t′ st′ o : List ℕ) (len : ℕ) (o′ : List ℕ) (p : Prepared t st y t′ st′) where
+-- the configuration is whole: taken, or refused
+module _ (reader : Reader) (next : ℕ) (t st : List ℕ) (y : Setup) (t′ st′ o : List ℕ) (at r : ℕ) (o′ : List ℕ) (p : Prepared t st y t′ st′) where
   abbrev ready : Bool → Stepped
-  ready b = record { session = record { reader = reader; lines = 0; words = y .words; bytes = y .bytes; over = b }; next = next; len = len }
+  ready b = record { session = record { reader = reader; lines = 0; words = y .words; bytes = y .bytes; over = b }; next = next; end = r }
 
   answered : (b : Bool) → eqb (y .answer) XOK ≡ b → accepts t st ≡ b
   unfolding accepts
   answered b e = ap (λ (z : ℕ). eqb z XOK) (sym (p .answer)) ∙ e
 
-  turned-ready : (b : Bool) → accepts t st ≡ b → Written o (cond b heading badConfiguration) len o′
-      → Turned (acted what.Configuration newSession st (whole reader next t)) o (ready (not b)) t′ st′ [] o′
-  unfolding acted
-  turned-ready b e w =
+  begun : (b : Bool) → accepts t st ≡ b → Written o at (cond b heading badConfiguration) r o′ → Begun reader next t st o at (ready (not b)) t′ st′ o′
+  begun b e w =
       record {
         session = λ i. record { reader = reader; lines = 0; words = p .words i; bytes = p .bytes i; over = not (e⁻ i) };
         next = refl;
         table = p .table;
         store = p .store;
-        buffer = refl;
-        written = named o (cond b heading badConfiguration) _ len o′ (ap (λ (z : Bool). cond z heading badConfiguration) e⁻) w;
+        written = named o at (cond b heading badConfiguration) _ r o′ (ap (λ (z : Bool). cond z heading badConfiguration) e⁻) w;
       }
     where
       e⁻ : b ≡ accepts t st
       e⁻ = sym e
 
-  pub configured-taken : y .answer ≡ XOK → Wrote o 0 heading len o′ → Turned (acted what.Configuration newSession st (whole reader next t)) o (ready false) t′ st′ [] o′
-  configured-taken e w = turned-ready true (answered true (eq-eqb (y .answer) XOK e)) (headed o len o′ w)
+  pub begun-taken : y .answer ≡ XOK → Wrote o at heading r o′ → Begun reader next t st o at (ready false) t′ st′ o′
+  begun-taken e w = begun true (answered true (eq-eqb (y .answer) XOK e)) (record { text = w; short = short-heading })
 
-  pub configured-refused : (y .answer ≡ XOK → ⊥) → Written o badConfiguration len o′ → Turned (acted what.Configuration newSession st (whole reader next t)) o (ready true) t′ st′ [] o′
-  configured-refused e w = turned-ready false (answered false (ne-eqb (y .answer) XOK e)) w
+  pub begun-refused : (y .answer ≡ XOK → ⊥) → Written o at badConfiguration r o′ → Begun reader next t st o at (ready true) t′ st′ o′
+  begun-refused e w = begun false (answered false (ne-eqb (y .answer) XOK e)) w
 
 -- a piece is read as far as m says
 abbrev readTo : Moved → List ℕ → List ℕ → List ℕ → Advanced
 readTo m rest t l = record { moved = m; rest = rest; table = t; buffer = l }
 
-abbrev Turns : Session → Moved → List ℕ → List ℕ → List ℕ → List ℕ → Stepped → List ℕ → List ℕ → List ℕ → List ℕ → Type 0
-Turns x m t st l o r t′ st′ l′ o′ = (rest : List ℕ) → Turned (acted (m .what) x st (readTo m rest t l)) o r t′ st′ l′ o′
+at-what : (w : What) (x : Session) (m : Moved) (t st l o : List ℕ) (at : ℕ) (r : Stepped) (t′ st′ l′ o′ : List ℕ) → m .what ≡ w
+    → ((rest : List ℕ) → Turned (acted w x st (readTo m rest t l)) o at r t′ st′ l′ o′) → Acts x m t st l o at r t′ st′ l′ o′
+at-what w x m t st l o at r t′ st′ l′ o′ e f rest = subst (λ (z : What). Turned (acted z x st (readTo m rest t l)) o at r t′ st′ l′ o′) (sym e) (f rest)
 
-at-what : (w : What) (x : Session) (m : Moved) (t st l o : List ℕ) (r : Stepped) (t′ st′ l′ o′ : List ℕ) → m .what ≡ w
-    → ((rest : List ℕ) → Turned (acted w x st (readTo m rest t l)) o r t′ st′ l′ o′) → Turns x m t st l o r t′ st′ l′ o′
-at-what w x m t st l o r t′ st′ l′ o′ e f rest = subst (λ (z : What). Turned (acted z x st (readTo m rest t l)) o r t′ st′ l′ o′) (sym e) (f rest)
-
-module _ (x : Session) (m : Moved) (t st l o : List ℕ) where
+module _ (x : Session) (m : Moved) (t st l o : List ℕ) (at : ℕ) where
   pub act-more : m .what ≡ what.More
-      → Turns x m t st l o (record { session = record { reader = m .reader; lines = x .lines; words = x .words; bytes = x .bytes; over = false }; next = m .next; len = 0 }) t st l o
+      → Acts x m t st l o at (record { session = record { reader = m .reader; lines = x .lines; words = x .words; bytes = x .bytes; over = false }; next = m .next; end = at }) t st l o
   unfolding acted
-  act-more e = at-what what.More x m t st l o _ t st l o e (λ rest. record { session = refl; next = refl; table = refl; store = refl; buffer = refl; written = nothing o })
+  act-more e = at-what what.More x m t st l o at _ t st l o e (λ rest. record { session = refl; next = refl; table = refl; store = refl; buffer = refl; written = nothing o at })
 
-  pub act-configuration : (r : Stepped) (t′ st′ o′ : List ℕ) → m .what ≡ what.Configuration
-      → Turned (acted what.Configuration newSession st (whole (m .reader) (m .next) t)) o r t′ st′ [] o′ → Turns x m t st l o r t′ st′ l o′
+  pub act-configuration : (r : Stepped) (t′ st′ o′ : List ℕ) → m .what ≡ what.Configuration → Begun (m .reader) (m .next) t st o at r t′ st′ o′ → Acts x m t st l o at r t′ st′ l o′
   unfolding acted
   act-configuration r t′ st′ o′ e k =
-      at-what what.Configuration x m t st l o r t′ st′ l o′ e
+      at-what what.Configuration x m t st l o at r t′ st′ l o′ e
       (λ rest. record { session = k .session; next = k .next; table = k .table; store = k .store; buffer = refl; written = k .written })
 
-  pub act-call : (n len : ℕ) (t′ st′ l′ o′ : List ℕ) → m .what ≡ what.Call → n ≡ oneMore (x .lines)
-      → Ran (outcomeOf x (m .reader .nums) t st l) n (m .reader .nums) t st l o len t′ st′ l′ o′
-      → Turns x m t st l o (record { session = record { reader = m .reader; lines = n; words = x .words; bytes = x .bytes; over = false }; next = m .next; len = len }) t′ st′ l′ o′
+  pub act-call : (n r : ℕ) (t′ st′ l′ o′ : List ℕ) → m .what ≡ what.Call → n ≡ oneMore (x .lines)
+      → Ran (outcomeOf x (m .reader .nums) t st l) n (m .reader .nums) t st l o at r t′ st′ l′ o′
+      → Acts x m t st l o at (record { session = record { reader = m .reader; lines = n; words = x .words; bytes = x .bytes; over = false }; next = m .next; end = r }) t′ st′ l′ o′
   unfolding acted
-  act-call n len t′ st′ l′ o′ e f k =
-      at-what what.Call x m t st l o _ t′ st′ l′ o′ e
+  act-call n r t′ st′ l′ o′ e f k =
+      at-what what.Call x m t st l o at _ t′ st′ l′ o′ e
       (λ rest. record {
         session = ap (λ (z : ℕ). record { reader = m .reader; lines = z; words = x .words; bytes = x .bytes; over = false }) f;
         next = refl;
         table = k .table;
         store = k .store;
         buffer = k .buffer;
-        written = named o _ _ len o′ (ap (λ (z : ℕ). line z (getD (m .reader .nums) 1 0) (outcomeOf x (m .reader .nums) t st l .answered) (outcomeOf x (m .reader .nums) t st l .buffer)) f) (k .written);
+        written =
+            named o at _ _ r o′
+            (ap (λ (z : ℕ). line z (getD (m .reader .nums) 1 0) (outcomeOf x (m .reader .nums) t st l .answered) (outcomeOf x (m .reader .nums) t st l .buffer)) f)
+            (k .written);
       })
 
-  pub act-fault : (b : Bool) (len : ℕ) (o′ : List ℕ) → m .what ≡ what.Fault → b ≡ isCalling (x .reader) → Written o (faultText b) len o′
-      → Turns x m t st l o (record { session = record { reader = m .reader; lines = x .lines; words = x .words; bytes = x .bytes; over = true }; next = m .next; len = len }) t st l o′
+  pub act-fault : (b : Bool) (r : ℕ) (o′ : List ℕ) → m .what ≡ what.Fault → b ≡ isCalling (x .reader) → Written o at (faultText b) r o′
+      → Acts x m t st l o at (record { session = record { reader = m .reader; lines = x .lines; words = x .words; bytes = x .bytes; over = true }; next = m .next; end = r }) t st l o′
   unfolding acted
-  act-fault b len o′ e f k =
-      at-what what.Fault x m t st l o _ t st l o′ e
-      (λ rest. record { session = refl; next = refl; table = refl; store = refl; buffer = refl; written = named o (faultText b) _ len o′ (ap faultText f) k })
+  act-fault b r o′ e f k =
+      at-what what.Fault x m t st l o at _ t st l o′ e
+      (λ rest. record { session = refl; next = refl; table = refl; store = refl; buffer = refl; written = named o at (faultText b) _ r o′ (ap faultText f) k })
 
 -- a session that is over reads nothing; any other acts on what was read
-pub step-over : (x : Session) (t st l o s : List ℕ) (i n : ℕ) → x .over ≡ true → n ≡ max i (length s) → Turned (turn x t st l (drop i s) i) o (record { session = x; next = n; len = 0 }) t st l o
+pub step-over : (x : Session) (t st l o : List ℕ) (at : ℕ) (s : List ℕ) (i n : ℕ) → x .over ≡ true → n ≡ max i (length s)
+    → Turned (turn x t st l (drop i s) i) o at (record { session = x; next = n; end = at }) t st l o
 unfolding turn
-step-over x t st l o s i n e f =
-    subst (λ (k : Turn). Turned k o (record { session = x; next = n; len = 0 }) t st l o) (sym (cond-true (x .over) _ _ e))
-    (record { session = refl; next = f ∙ (let d = length-drop i s in omega arith); table = refl; store = refl; buffer = refl; written = nothing o })
+step-over x t st l o at s i n e f =
+    subst (λ (k : Turn). Turned k o at (record { session = x; next = n; end = at }) t st l o) (sym (cond-true (x .over) _ _ e))
+    (record { session = refl; next = f ∙ (let d = length-drop i s in omega arith); table = refl; store = refl; buffer = refl; written = nothing o at })
 
-pub step-on : (x : Session) (t st l o s : List ℕ) (i : ℕ) (m : Moved) (t₁ l₁ : List ℕ) (r : Stepped) (t′ st′ l′ o′ : List ℕ) → x .over ≡ false
-    → Advances (advance (x .reader) t l s i) m t₁ l₁ → Turns x m t₁ st l₁ o r t′ st′ l′ o′ → Turned (turn x t st l s i) o r t′ st′ l′ o′
+pub step-on : (x : Session) (t st l o : List ℕ) (at : ℕ) (s : List ℕ) (i : ℕ) (m : Moved) (t₁ l₁ : List ℕ) (r : Stepped) (t′ st′ l′ o′ : List ℕ) → x .over ≡ false
+    → Advances (advance (x .reader) t l s i) m t₁ l₁ → Acts x m t₁ st l₁ o at r t′ st′ l′ o′ → Turned (turn x t st l s i) o at r t′ st′ l′ o′
 unfolding turn
-step-on x t st l o s i m t₁ l₁ r t′ st′ l′ o′ e a k =
+step-on x t st l o at s i m t₁ l₁ r t′ st′ l′ o′ e a k =
     let p : Advanced = advance (x .reader) t l s i in
     let same : readTo m (p .rest) t₁ l₁ ≡ p = λ j. record { moved = a .moved j; rest = p .rest; table = a .table j; buffer = a .buffer j } in
-    subst (λ (z : Turn). Turned z o r t′ st′ l′ o′) (sym (cond-false (x .over) _ _ e))
-    (subst (λ (z : Advanced). Turned (acted (z .moved .what) x st z) o r t′ st′ l′ o′) same (k (p .rest)))
+    subst (λ (z : Turn). Turned z o at r t′ st′ l′ o′) (sym (cond-false (x .over) _ _ e))
+    (subst (λ (z : Advanced). Turned (acted (z .moved .what) x st z) o at r t′ st′ l′ o′) same (k (p .rest)))

@@ -12,8 +12,10 @@ use Rattle.rules.specs.Errors.{XOK}
 use Rattle.rules.specs.SetUp.{setUpAnswer, setUpTable}
 use Rattle.rules.specs.Step.{Outcome, step}
 use Rattle.rules.specs.Replay.{headerNumbers, maxReplayBlocks, maxBuffer, callOf, line, heading, badConfiguration, badScript}
+use Rattle.script.specs.declared.Reader.{Reader}
 use Rattle.script.specs.declared.What.{What}
 use Rattle.script.specs.declared.What.the-variants.{More, Configuration, Call, Fault}
+use Rattle.script.specs.declared.Moved.{Moved}
 use Rattle.script.specs.Take.{newReader, isCalling, isBetween}
 use Rattle.script.specs.Advance.{Advanced, advance}
 use Rattle.output.specs.Wrote.{Wrote}
@@ -139,10 +141,10 @@ turn x t st l s i =
 
 -- ---- what the code leaves
 
--- the text s is written at the front of the buffer o, r bytes of it; where o has room for a line, that is all of it
-pub record Written (o s : List ℕ) (r : ℕ) (o′ : List ℕ) : Type 0 where
-  pub text : Wrote o 0 s r o′
-  pub handed : lineBytes ≤ length o → take r o′ ≡ s
+-- the text s is written into the buffer o from a place on, and r is the place past it; no text is longer than the room of a line
+pub record Written (o : List ℕ) (at : ℕ) (s : List ℕ) (r : ℕ) (o′ : List ℕ) : Type 0 where
+  pub text : Wrote o at s r o′
+  pub short : length s ≤ lineBytes
 
 -- the configuration at the front of the table t is set up
 pub record Prepared (t st : List ℕ) (r : Setup) (t′ st′ : List ℕ) : Type 0 where
@@ -152,18 +154,32 @@ pub record Prepared (t st : List ℕ) (r : Setup) (t′ st′ : List ℕ) : Type
   pub table : t′ ≡ tableReady t st
   pub store : st′ ≡ storeReady st
 
--- a call is run: o is its outcome, and n its number
-pub record Ran (o : Outcome) (n : ℕ) (nums t st l out : List ℕ) (r : ℕ) (t′ st′ l′ out′ : List ℕ) : Type 0 where
-  pub table : t′ ≡ sets t 0 (o .state .table)
-  pub store : st′ ≡ sets st 0 (o .state .store)
-  pub buffer : l′ ≡ sets l 0 (o .buffer)
-  pub written : Written out (line n (getD nums 1 0) (o .answered) (o .buffer)) r out′
+-- a call is run: k is its outcome, and n its number
+pub record Ran (k : Outcome) (n : ℕ) (nums t st l o : List ℕ) (at r : ℕ) (t′ st′ l′ o′ : List ℕ) : Type 0 where
+  pub table : t′ ≡ sets t 0 (k .state .table)
+  pub store : st′ ≡ sets st 0 (k .state .store)
+  pub buffer : l′ ≡ sets l 0 (k .buffer)
+  pub written : Written o at (line n (getD nums 1 0) (k .answered) (k .buffer)) r o′
 
--- the session and the slices are those of the turn k, and its text is written into the buffer o
-pub record Turned (k : Turn) (o : List ℕ) (r : Stepped) (t′ st′ l′ o′ : List ℕ) : Type 0 where
+-- the session and the slices are those of the turn k, and its text is written into the buffer o from a place on
+pub record Turned (k : Turn) (o : List ℕ) (at : ℕ) (r : Stepped) (t′ st′ l′ o′ : List ℕ) : Type 0 where
   pub session : r .session ≡ k .session
   pub next : r .next ≡ k .next
   pub table : t′ ≡ k .table
   pub store : st′ ≡ k .store
   pub buffer : l′ ≡ k .buffer
-  pub written : Written o (k .text) (r .len) o′
+  pub written : Written o at (k .text) (r .end) o′
+
+-- that, where the configuration is whole: the session before it, the rest of the piece and the buffer do not matter
+pub record Begun (reader : Reader) (i : ℕ) (t st o : List ℕ) (at : ℕ) (r : Stepped) (t′ st′ o′ : List ℕ) : Type 0 where
+  pub session :
+      r .session ≡ record { reader = reader; lines = 0; words = wordsOf t; bytes = bytesOf t st; over = not (accepts t st) }
+  pub next : r .next ≡ i
+  pub table : t′ ≡ tableReady t st
+  pub store : st′ ≡ storeReady st
+  pub written : Written o at (cond (accepts t st) heading badConfiguration) (r .end) o′
+
+-- that, where a piece was read as far as m says, whatever is left of it
+abbrev pub Acts : Session → Moved → List ℕ → List ℕ → List ℕ → List ℕ → ℕ → Stepped → List ℕ → List ℕ → List ℕ → List ℕ → Type 0
+Acts x m t st l o at r t′ st′ l′ o′ =
+    (rest : List ℕ) → Turned (acted (m .what) x st (record { moved = m; rest = rest; table = t; buffer = l })) o at r t′ st′ l′ o′

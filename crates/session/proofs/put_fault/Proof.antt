@@ -17,7 +17,7 @@ same-length c = search needs
 
 returns : tie.Need-returns
 unfolding badScript ascii
-returns c = fault-script _ _ _ _ (c .before .before .before .before .before .if1 .taken) (c .before .before .put-bytes .ensures)
+returns c = fault-script _ _ _ _ _ (c .before .before .before .before .before .if1 .taken) (c .before .before .put-bytes .ensures)
 
 slice-aggregate-put-bytes-2 : tie.Need-slice-aggregate-put-bytes-2
 slice-aggregate-put-bytes-2 c = search needs
@@ -30,7 +30,7 @@ same-length-2 c = search needs
 
 returns-2 : tie.Need-returns-2
 unfolding badConfiguration ascii
-returns-2 c = fault-configuration _ _ _ _ (c .before .before .before .before .before .if1 .left) (c .before .before .put-bytes2 .ensures)
+returns-2 c = fault-configuration _ _ _ _ _ (c .before .before .before .before .before .if1 .left) (c .before .before .put-bytes2 .ensures)
 
 pub put-fault-spec : {M : Type 1} → statement M
 put-fault-spec =
