@@ -37,7 +37,8 @@ mod status;
 
 const LAST_CODE: u32 = 18;
 
-// "An answer is the number and two words."
+// "An answer is the number and two words." A host in C takes it as it stands.
+#[repr(C)]
 pub struct Answer {
     pub error: u32,
     pub first: u32,

@@ -1,0 +1,38 @@
+// What a host in C or Rust links: the proved functions under C names, with the same contracts. A slice is a pointer and a length.
+ghost use mathlib.Core.Path.{_≡_};
+ghost use mathlib.Core.Bool.{cond};
+ghost use Rattle.rules.specs.Claim.{test};
+ghost use Rattle.rules.specs.WellFormed.{wellFormed};
+ghost use Rattle.rules.specs.Step.{step};
+ghost use Rattle.calls.specs.Did.{Did, stateOf, callOf};
+use calls::Answer;
+
+const WELL_FORMED: u32 = 0;
+
+const NOT_WELL_FORMED: u32 = 1;
+
+#[no_mangle]
+pub extern "C" fn monitor_check(table: &[u32], store_bytes: usize) -> u32
+    ensures { λ r. ⌜ r ≡ cond (test (wellFormed (now (table .entry)) «store_bytes»)) 0 1 ⌝ }
+{
+    if table::check(table, store_bytes) {
+        return WELL_FORMED;
+    }
+    NOT_WELL_FORMED
+}
+
+#[no_mangle]
+pub extern "C" fn monitor_call(
+    table: &mut [u32],
+    store: &mut [u8],
+    caller: u32,
+    code: u32,
+    a: u32,
+    b: u32,
+    c: u32,
+    buffer: &mut [u8],
+) -> Answer
+    ensures { λ r. ⌜ Did (step (stateOf (now (table .entry)) (now (store .entry))) (callOf caller code a b c (now (buffer .entry)))) r (now (table .exit)) (now (store .exit)) (now (buffer .exit)) ⌝ }
+{
+    calls::call(table, store, caller, code, a, b, c, buffer)
+}
