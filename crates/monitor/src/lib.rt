@@ -3,6 +3,7 @@ ghost use mathlib.Core.Path.{_≡_};
 ghost use mathlib.Core.Bool.{cond};
 ghost use Rattle.rules.specs.Claim.{test};
 ghost use Rattle.rules.specs.WellFormed.{wellFormed};
+ghost use Rattle.rules.specs.SetUp.{setUpAnswer, setUpTable};
 ghost use Rattle.rules.specs.Step.{step};
 ghost use Rattle.calls.specs.Did.{Did, stateOf, callOf};
 use calls::Answer;
@@ -10,6 +11,14 @@ use calls::Answer;
 const WELL_FORMED: u32 = 0;
 
 const NOT_WELL_FORMED: u32 = 1;
+
+#[no_mangle]
+pub extern "C" fn monitor_setup(table: &mut [u32], store_bytes: usize) -> u32
+    ensures { λ r. ⌜ r ≡ setUpAnswer (now (table .entry)) «store_bytes» ⌝ }
+    ensures { λ _. ⌜ now (table .exit) ≡ setUpTable (now (table .entry)) «store_bytes» ⌝ }
+{
+    table::set_up(table, store_bytes)
+}
 
 #[no_mangle]
 pub extern "C" fn monitor_check(table: &[u32], store_bytes: usize) -> u32
