@@ -7,7 +7,7 @@ use lib.ListN.{set, replicate}
 use Rattle.rules.specs.Words.{allBelow, sumBelow, countBelow, lowest}
 use Rattle.rules.specs.Claim.{test}
 use Rattle.rules.specs.Level.{within, equals, flowsTo}
-use Rattle.rules.specs.Layout.{headerWords, cellWords, process, segment, file, cells, slots, blocks, cellWord, levelOf, configuration, firstSlot, cellOf, flows, Addr, at, rd, live, serial, owner, group, parent, queue, heldAt, usedAt, messageAt, bits, sharable, size, references, links, opens}
+use Rattle.rules.specs.Layout.{headerWords, cellWords, process, segment, file, cells, slots, blocks, cellWord, levelOf, configuration, firstSlot, cellOf, flows, Addr, at, rd, live, serial, owner, group, parent, queue, heldAt, usedAt, messageAt, bits, sharable, size, references, opens}
 use Rattle.rules.specs.Seid.{class, seid, classOf, indexOf, serialOf, isSeid}
 use Rattle.rules.specs.Modes.{validModes, writes}
 use Rattle.rules.specs.Rights.{asksWrite, validAccess}

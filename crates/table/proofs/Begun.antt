@@ -2,14 +2,14 @@
 use mathlib.Core.Path.{_≡_, refl, sym, ap, ap₂, _∙_}
 use mathlib.Core.Bool.{true, false}
 use mathlib.Core.List.{List, _++_, append-assoc, append-nil}
-use Prim.Native.Nat.{ℕ, suc, _+_, _-_, _*_, _≤_, _<_}
+use Prim.Native.Nat.{ℕ, _+_, _-_, _*_, _≤_, _<_}
 use native.Mathlib.Numerals.{add-one}
 use native.Mathlib.Omega.{arith}
 use lib.ListN.{length, getD, set, take, replicate, length-set, length-append, length-replicate, replicate-append-replicate, List·getD-append}
 use lib.Seq.{length-take-le, take-suc-set, take-length, take-at, getD-take}
 use Rattle.rules.specs.Words.{sumBelow}
 use Rattle.rules.specs.Claim.{Holds, test}
-use Rattle.rules.specs.Layout.{maxSlots, process, segment, file, headerWords, cellWords, recordWords, cells, slots, cellWord, cellSlots, configuration, firstSlot, tableWords, live, serial, owner, group}
+use Rattle.rules.specs.Layout.{maxSlots, process, segment, file, headerWords, cellWords, recordWords, cells, cellWord, configuration, firstSlot, tableWords, live, serial, owner, group}
 use Rattle.rules.specs.Errors.{XOK, XbParam}
 use Rattle.rules.specs.Rule.{write}
 use Rattle.rules.specs.WellFormed.{configured}
@@ -20,7 +20,7 @@ use Rattle.laws.proofs.Places.{conf-cells}
 use Rattle.laws.proofs.Shape.{Shape, shape-of}
 use Rattle.laws.proofs.Written.{write-append, length-write, conf-write}
 use Rattle.table.specs.declared.header.Header.{Header}
-use Rattle.table.specs.Shape.{IsHeader, baseOf, Framed}
+use Rattle.table.specs.Shape.{baseOf, Framed}
 use Rattle.table.proofs.Config.{cell-word, cells-read, slots-read, base-read}
 
 -- ---- clearing

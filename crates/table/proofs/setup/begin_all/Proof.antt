@@ -1,8 +1,8 @@
 -- `setup::begin_all` meets its contract: the first processes of the cells passed have begun.
 use borrow.Author.Needs.{needs}
 use native.Mathlib.Omega.{arith}
-use mathlib.Core.Path.{_≡_, refl}
-use Prim.Native.Nat.{_-_, _+_, _*_}
+use mathlib.Core.Path.{refl}
+use Prim.Native.Nat.{_-_}
 use Rattle.table.proofs.setup.begin_all.Statement.{statement}
 use Rattle.table.proofs.Begun.{Begun, begun-none, begun-long, begun-low, cell-in, record-in, slot-in, begun-more, begun-all}
 use Rattle.table.proofs.setup.begin_all.Tie as tie
