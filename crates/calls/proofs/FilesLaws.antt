@@ -242,7 +242,7 @@ module _ {t : List ℕ} {w : World} (known : Known t w) (a b : ℕ) (buffer : Li
 -- ---- open: the search for a clash
 
 module _ {t : List ℕ} {w : World} (sound : Sound t w) (s b : ℕ) (form : isSeid (class file) (w .files) s ≡ true) (modes : validModes b ≡ true) where
-  pub clash-told : (p d : ℕ) → p < slots (configuration t) process → d < entries → {y held used v : ℕ} {c : Bool} → y ≡ d → held ≡ rdBy w t (at process p (8 + 2 * y))
+  clash-told : (p d : ℕ) → p < slots (configuration t) process → d < entries → {y held used v : ℕ} {c : Bool} → y ≡ d → held ≡ rdBy w t (at process p (8 + 2 * y))
       → used ≡ rdBy w t (at process p (8 + 2 * y + 1)) → v ≡ s → c ≡ clashOf used b → eqb held v && c ≡ clashesAt (rd (configuration t) t) s b p d
   unfolding clashesAt
   clash-told p d lp ld {y} ye he ue ve ce =
@@ -250,6 +250,17 @@ module _ {t : List ℕ} {w : World} (sound : Sound t w) (s b : ℕ) (form : isSe
       rw (he, ce, ue, ve, see (sound .known) (at process p (8 + 2 * y)), see (sound .known) (at process p (8 + 2 * y + 1)), ye, nine)
       (and-same (eqb (rd (configuration t) t (at process p (8 + 2 * d))) s) _ _
       (λ e. clash-valid _ b (descriptor (configuration t) (rd (configuration t) t) (sound .records) p d lp ld .valid (λ z. class-some s 129 (omega arith) (is-formed (class file) (w .files) s form .class-is) (sym (eqb-true _ s e) ∙ z))) modes))
+
+  -- an entry that does not hold the file clashes with nothing, and of one that does the modes alone are asked
+  pub clash-none : (p d : ℕ) → p < slots (configuration t) process → d < entries → {y held v : ℕ} → y ≡ d → held ≡ rdBy w t (at process p (8 + 2 * y))
+      → v ≡ s → eqb held v ≡ false → false ≡ clashesAt (rd (configuration t) t) s b p d
+  clash-none p d lp ld {y} {held} {v} ye he ve e =
+      ap (λ (x : Bool). x && clashOf (rdBy w t (at process p (8 + 2 * y + 1))) b) (sym e) ∙ clash-told p d lp ld ye he refl ve refl
+
+  pub clash-held : (p d : ℕ) → p < slots (configuration t) process → d < entries → {y held used v : ℕ} {c : Bool} → y ≡ d → held ≡ rdBy w t (at process p (8 + 2 * y))
+      → used ≡ rdBy w t (at process p (8 + 2 * y + 1)) → v ≡ s → c ≡ clashOf used b → eqb held v ≡ true → c ≡ clashesAt (rd (configuration t) t) s b p d
+  clash-held p d lp ld {y} {held} {used} {v} {c} ye he ue ve ce e =
+      ap (λ (x : Bool). x && c) (sym e) ∙ clash-told p d lp ld ye he ue ve ce
 
 module _ {t : List ℕ} {w : World} (known : Known t w) (s b : ℕ) {from n : ℕ} (fe : from ≡ firstBy (configuration t) 3 (w .home)) (ne : n ≡ cellWord (configuration t) (w .home) 3) where
   from-is : from ≡ firstSlot (configuration t) process (cellOf (configuration t) process (w .me))

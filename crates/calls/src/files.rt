@@ -281,8 +281,11 @@ fn clashes_at(t: &[u32], w: World, p: u32, d: usize, f: FileId, b: u32) -> bool
 {
     let at = DESCRIPTORS + 2 * d;
     let held = in_process(t, w, p, at);
+    if held != f.word() {
+        return false;
+    }
     let used = in_process(t, w, p, at + 1);
-    (held == f.word()) & clash(used, b)
+    clash(used, b)
 }
 
 // "The own cell's live descriptors are searched process by process and entry by entry up to the first clash."
