@@ -6,3 +6,4 @@ pub mod Due
 pub mod Ways
 pub mod Playing
 pub mod Whole
+pub mod Outcomes

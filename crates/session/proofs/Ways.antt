@@ -14,7 +14,6 @@ use Rattle.rules.specs.Errors.{XOK, ascii}
 use Rattle.rules.specs.SetUp.{setUpAnswer, setUpTable}
 use Rattle.rules.specs.Step.{Call, Answer, Outcome, answer, step}
 use Rattle.rules.specs.Replay.{maxReplayBlocks, maxBuffer, callOf, line, heading, badConfiguration, badScript}
-use borrow.Author.Tests.{eq-eqb, ne-eqb}
 use Rattle.laws.proofs.Tests.{cond-true, cond-false}
 use Rattle.output.specs.Wrote.{Wrote}
 use Rattle.output.proofs.Laws.{none, as-text}
@@ -29,7 +28,7 @@ use Rattle.script.specs.Advance.{Advanced, advance, Advances}
 use Rattle.session.specs.declared.Session.{Session}
 use Rattle.session.specs.declared.Stepped.{Stepped}
 use Rattle.session.specs.declared.Setup.{Setup}
-use Rattle.session.specs.Turn.{faultText, finishText, Turn, wordsOf, bytesOf, accepts, storeReady, outcomeOf, oneMore, acted, turn, Written, Prepared, Begun, Ran, Acts, Turned}
+use Rattle.session.specs.Turn.{onward, faultText, finishText, Turn, wordsOf, bytesOf, accepts, storeReady, outcomeOf, oneMore, acted, turn, Written, Prepared, Begun, Ran, Acts, Turned}
 
 -- ---- text that is written, and short enough for a line
 pub nothing : (o : List ℕ) (at : ℕ) → Written o at [] at o
@@ -152,33 +151,27 @@ ran x n nums t st l out at w v q k o a tn sn bn r out′ ew ev eq ek eo ea et es
 
 -- ---- what each way of a turn leaves
 
--- the configuration is whole: taken, or refused
-module _ (reader : Reader) (next : ℕ) (t st : List ℕ) (y : Setup) (t′ st′ o : List ℕ) (at r : ℕ) (o′ : List ℕ) (p : Prepared t st y t′ st′) where
-  abbrev ready : Bool → Stepped
-  ready b = record { session = record { reader = reader; lines = 0; words = y .words; bytes = y .bytes; over = b }; next = next; end = r }
+-- the first line
+module _ (b : Bool) (o : List ℕ) (at r : ℕ) (o′ : List ℕ) where
+  pub opening-heading : b ≡ true → Wrote o at heading r o′ → Written o at (cond b heading badConfiguration) r o′
+  opening-heading e w = rw e (record { text = w; short = short-heading })
 
-  answered : (b : Bool) → eqb (y .answer) XOK ≡ b → accepts t st ≡ b
-  unfolding accepts
-  answered b e = ap (λ (z : ℕ). eqb z XOK) (sym (p .answer)) ∙ e
+  pub opening-bad : b ≡ false → Written o at badConfiguration r o′ → Written o at (cond b heading badConfiguration) r o′
+  opening-bad e w = rw e w
 
-  begun : (b : Bool) → accepts t st ≡ b → Written o at (cond b heading badConfiguration) r o′ → Begun reader next t st o at (ready (not b)) t′ st′ o′
-  begun b e w =
-      record {
-        session = λ i. record { reader = reader; lines = 0; words = p .words i; bytes = p .bytes i; over = not (e⁻ i) };
-        next = refl;
-        table = p .table;
-        store = p .store;
-        written = named o at (cond b heading badConfiguration) _ r o′ (ap (λ (z : Bool). cond z heading badConfiguration) e⁻) w;
-      }
-    where
-      e⁻ : b ≡ accepts t st
-      e⁻ = sym e
-
-  pub begun-taken : y .answer ≡ XOK → Wrote o at heading r o′ → Begun reader next t st o at (ready false) t′ st′ o′
-  begun-taken e w = begun true (answered true (eq-eqb (y .answer) XOK e)) (record { text = w; short = short-heading })
-
-  pub begun-refused : (y .answer ≡ XOK → ⊥) → Written o at badConfiguration r o′ → Begun reader next t st o at (ready true) t′ st′ o′
-  begun-refused e w = begun false (answered false (ne-eqb (y .answer) XOK e)) w
+-- the configuration is whole; what set-up answers decides
+pub begun : (reader : Reader) (i : ℕ) (t st : List ℕ) (y : Setup) (t′ st′ o : List ℕ) (at r : ℕ) (o′ : List ℕ) → Prepared t st y t′ st′
+    → Written o at (cond (eqb (y .answer) XOK) heading badConfiguration) r o′
+    → Begun reader i t st o at (record { session = record { reader = reader; lines = 0; words = y .words; bytes = y .bytes; over = not (eqb (y .answer) XOK) }; next = i; end = r }) t′ st′ o′
+unfolding accepts
+begun reader i t st y t′ st′ o at r o′ p w =
+    record {
+      session = λ j. record { reader = reader; lines = 0; words = p .words j; bytes = p .bytes j; over = not (eqb (p .answer j) XOK) };
+      next = refl;
+      table = p .table;
+      store = p .store;
+      written = named o at _ _ r o′ (ap (λ (z : ℕ). cond (eqb z XOK) heading badConfiguration) (p .answer)) w;
+    }
 
 -- a piece is read as far as m says
 abbrev readTo : Moved → List ℕ → List ℕ → List ℕ → Advanced
@@ -189,10 +182,9 @@ at-what : (w : What) (x : Session) (m : Moved) (t st l o : List ℕ) (at : ℕ) 
 at-what w x m t st l o at r t′ st′ l′ o′ e f rest = subst (λ (z : What). Turned (acted z x st (readTo m rest t l)) o at r t′ st′ l′ o′) (sym e) (f rest)
 
 module _ (x : Session) (m : Moved) (t st l o : List ℕ) (at : ℕ) where
-  pub act-more : m .what ≡ what.More
-      → Acts x m t st l o at (record { session = record { reader = m .reader; lines = x .lines; words = x .words; bytes = x .bytes; over = false }; next = m .next; end = at }) t st l o
+  pub act-more : (y : Session) → m .what ≡ what.More → y ≡ onward x (m .reader) (x .lines) false → Acts x m t st l o at (record { session = y; next = m .next; end = at }) t st l o
   unfolding acted
-  act-more e = at-what what.More x m t st l o at _ t st l o e (λ rest. record { session = refl; next = refl; table = refl; store = refl; buffer = refl; written = nothing o at })
+  act-more y e f = at-what what.More x m t st l o at _ t st l o e (λ rest. record { session = f; next = refl; table = refl; store = refl; buffer = refl; written = nothing o at })
 
   pub act-configuration : (r : Stepped) (t′ st′ o′ : List ℕ) → m .what ≡ what.Configuration → Begun (m .reader) (m .next) t st o at r t′ st′ o′ → Acts x m t st l o at r t′ st′ l o′
   unfolding acted
@@ -200,14 +192,14 @@ module _ (x : Session) (m : Moved) (t st l o : List ℕ) (at : ℕ) where
       at-what what.Configuration x m t st l o at r t′ st′ l o′ e
       (λ rest. record { session = k .session; next = k .next; table = k .table; store = k .store; buffer = refl; written = k .written })
 
-  pub act-call : (n r : ℕ) (t′ st′ l′ o′ : List ℕ) → m .what ≡ what.Call → n ≡ oneMore (x .lines)
+  pub act-call : (y : Session) (n r : ℕ) (t′ st′ l′ o′ : List ℕ) → m .what ≡ what.Call → n ≡ oneMore (x .lines) → y ≡ onward x (m .reader) n false
       → Ran (outcomeOf x (m .reader .nums) t st l) n (m .reader .nums) t st l o at r t′ st′ l′ o′
-      → Acts x m t st l o at (record { session = record { reader = m .reader; lines = n; words = x .words; bytes = x .bytes; over = false }; next = m .next; end = r }) t′ st′ l′ o′
+      → Acts x m t st l o at (record { session = y; next = m .next; end = r }) t′ st′ l′ o′
   unfolding acted
-  act-call n r t′ st′ l′ o′ e f k =
+  act-call y n r t′ st′ l′ o′ e f g k =
       at-what what.Call x m t st l o at _ t′ st′ l′ o′ e
       (λ rest. record {
-        session = ap (λ (z : ℕ). record { reader = m .reader; lines = z; words = x .words; bytes = x .bytes; over = false }) f;
+        session = g ∙ ap (λ (z : ℕ). onward x (m .reader) z false) f;
         next = refl;
         table = k .table;
         store = k .store;
@@ -218,12 +210,12 @@ module _ (x : Session) (m : Moved) (t st l o : List ℕ) (at : ℕ) where
             (k .written);
       })
 
-  pub act-fault : (b : Bool) (r : ℕ) (o′ : List ℕ) → m .what ≡ what.Fault → b ≡ isCalling (x .reader) → Written o at (faultText b) r o′
-      → Acts x m t st l o at (record { session = record { reader = m .reader; lines = x .lines; words = x .words; bytes = x .bytes; over = true }; next = m .next; end = r }) t st l o′
+  pub act-fault : (y : Session) (b : Bool) (r : ℕ) (o′ : List ℕ) → m .what ≡ what.Fault → b ≡ isCalling (x .reader) → y ≡ onward x (m .reader) (x .lines) true
+      → Written o at (faultText b) r o′ → Acts x m t st l o at (record { session = y; next = m .next; end = r }) t st l o′
   unfolding acted
-  act-fault b r o′ e f k =
+  act-fault y b r o′ e f g k =
       at-what what.Fault x m t st l o at _ t st l o′ e
-      (λ rest. record { session = refl; next = refl; table = refl; store = refl; buffer = refl; written = named o at (faultText b) _ r o′ (ap faultText f) k })
+      (λ rest. record { session = g; next = refl; table = refl; store = refl; buffer = refl; written = named o at (faultText b) _ r o′ (ap faultText f) k })
 
 -- a session that is over reads nothing; any other acts on what was read
 pub step-over : (x : Session) (t st l o : List ℕ) (at : ℕ) (s : List ℕ) (i n : ℕ) → x .over ≡ true → n ≡ max i (length s)

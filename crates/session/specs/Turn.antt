@@ -28,7 +28,11 @@ use Rattle.session.specs.declared.Setup.{Setup}
 abbrev pub newSession : Session
 newSession = record { reader = newReader; lines = 0; words = 0; bytes = 0; over = false }
 
--- the lent table then: the header's three zeros, which the input does not have, are written
+-- a session with the same table and store, further on in the input
+abbrev pub onward : Session → Reader → ℕ → Bool → Session
+onward x r n b = record { reader = r; lines = n; words = x .words; bytes = x .bytes; over = b }
+
+-- the lent table at the start: the header's three zeros, which the input does not have, are written
 abbrev pub blankTable : List ℕ → List ℕ
 blankTable t = sets t headerNumbers (0 ∷ 0 ∷ 0 ∷ [])
 
@@ -83,7 +87,7 @@ oneMore n = (n + 1) % 2 ^ 64
 abbrev pub afterCall : Session → List ℕ → Advanced → Outcome → Turn
 afterCall x st p o =
     record {
-      session = record { reader = p .moved .reader; lines = oneMore (x .lines); words = x .words; bytes = x .bytes; over = false };
+      session = onward x (p .moved .reader) (oneMore (x .lines)) false;
       next = p .moved .next;
       rest = p .rest;
       table = sets (p .table) 0 (o .state .table);
@@ -96,7 +100,7 @@ afterCall x st p o =
 unfoldable pub acted : What → Session → List ℕ → Advanced → Turn
 acted More x st p =
     record {
-      session = record { reader = p .moved .reader; lines = x .lines; words = x .words; bytes = x .bytes; over = false };
+      session = onward x (p .moved .reader) (x .lines) false;
       next = p .moved .next;
       rest = p .rest;
       table = p .table;
@@ -123,7 +127,7 @@ acted Configuration x st p =
 acted Call x st p = afterCall x st p (outcomeOf x (p .moved .reader .nums) (p .table) st (p .buffer))
 acted Fault x st p =
     record {
-      session = record { reader = p .moved .reader; lines = x .lines; words = x .words; bytes = x .bytes; over = true };
+      session = onward x (p .moved .reader) (x .lines) true;
       next = p .moved .next;
       rest = p .rest;
       table = p .table;

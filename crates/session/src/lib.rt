@@ -1,10 +1,12 @@
 // A replay session: a script goes in, in pieces of any size, and its listing comes out. The caller lends the memory: a table and a store, a buffer for the bytes of a
 // call, and room for a line of text.
+ghost use mathlib.Core.Bool.{cond};
 ghost use mathlib.Core.Path.{_≡_};
 ghost use Prim.Native.Nat.{_*_, max, min};
 ghost use lib.ListN.{length, drop};
 ghost use Rattle.rules.specs.Layout.{file, slots, blocks, tableWords};
-ghost use Rattle.session.specs.Turn.{newSession, blankTable, faultText, finishText, outcomeOf, turn, Written, Prepared, Begun, Ran, Acts, Turned};
+ghost use Rattle.rules.specs.Replay.{heading, badConfiguration};
+ghost use Rattle.session.specs.Turn.{newSession, onward, blankTable, faultText, finishText, outcomeOf, turn, Written, Prepared, Begun, Ran, Acts, Turned};
 ghost use Rattle.session.specs.Play.{play, Played};
 use rules::BLOCK_BYTES;
 use rules::BLOCKS;
@@ -29,6 +31,21 @@ pub struct Session {
     pub words: usize,
     pub bytes: usize,
     pub over: bool,
+}
+
+impl Session {
+    // The same table and store, further on in the input.
+    fn onward(self, reader: Reader, lines: u64, over: bool) -> Session
+        ensures { λ r. ⌜ r ≡ onward self reader lines over ⌝ }
+    {
+        Session {
+            reader,
+            lines,
+            words: self.words,
+            bytes: self.bytes,
+            over,
+        }
+    }
 }
 
 // How far a piece was read, and the place past the text that is due.
@@ -138,7 +155,17 @@ fn prepare(table: &mut [u32], store: &mut [u8]) -> Setup
     }
 }
 
-// What follows a configuration: the heading and then calls, or, where it is refused, the bad line and nothing more.
+// The first line: the heading, or the bad line where the configuration is refused.
+fn put_opening(out: &mut [u8], at: usize, accepted: bool) -> usize
+    ensures { λ r. ⌜ Written (now (out .entry)) at (cond accepted heading badConfiguration) r (now (out .exit)) ⌝ }
+{
+    if accepted {
+        return output::put_bytes(out, at, b"n error first second\n");
+    }
+    put_fault(out, at, false)
+}
+
+// The configuration is whole: calls follow it, or, where it is refused, nothing more is read.
 fn begin(
     reader: Reader,
     next: usize,
@@ -150,24 +177,14 @@ fn begin(
     ensures { λ r. ⌜ Begun reader next (now (table .entry)) (now (store .entry)) (now (out .entry)) at r (now (table .exit)) (now (store .exit)) (now (out .exit)) ⌝ }
 {
     let y = prepare(table, store);
-    if y.answer != XOK {
-        let end = put_fault(out, at, false);
-        let session = Session {
-            reader,
-            lines: 0,
-            words: y.words,
-            bytes: y.bytes,
-            over: true,
-        };
-        return Stepped { session, next, end };
-    }
-    let end = output::put_bytes(out, at, b"n error first second\n");
+    let accepted = y.answer == XOK;
+    let end = put_opening(out, at, accepted);
     let session = Session {
         reader,
         lines: 0,
         words: y.words,
         bytes: y.bytes,
-        over: false,
+        over: !accepted,
     };
     Stepped { session, next, end }
 }
@@ -218,13 +235,7 @@ fn act(
     let next = m.next;
     match what {
         What::More => {
-            let session = Session {
-                reader,
-                lines: x.lines,
-                words: x.words,
-                bytes: x.bytes,
-                over: false,
-            };
+            let session = x.onward(reader, x.lines, false);
             Stepped {
                 session,
                 next,
@@ -236,25 +247,13 @@ fn act(
             let n = std::num::wrapping_add_u64(x.lines, 1);
             let nums = reader.nums;
             let end = run(x, n, nums, table, store, buf, out, at);
-            let session = Session {
-                reader,
-                lines: n,
-                words: x.words,
-                bytes: x.bytes,
-                over: false,
-            };
+            let session = x.onward(reader, n, false);
             Stepped { session, next, end }
         }
         What::Fault => {
             let before = x.reader;
             let end = put_fault(out, at, before.is_calling());
-            let session = Session {
-                reader,
-                lines: x.lines,
-                words: x.words,
-                bytes: x.bytes,
-                over: true,
-            };
+            let session = x.onward(reader, x.lines, true);
             Stepped { session, next, end }
         }
     }

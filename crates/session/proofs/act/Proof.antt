@@ -7,6 +7,9 @@ use Rattle.session.proofs.act.Tie as tie
 enum-told : tie.Need-enum-told
 enum-told c = search needs
 
+onward-requires : tie.Need-onward-requires
+onward-requires c κs = search needs
+
 enum-told-2 : tie.Need-enum-told-2
 enum-told-2 c = search needs
 
@@ -22,6 +25,9 @@ wrapping-add-u64-requires c κs = search needs
 run-requires : tie.Need-run-requires
 run-requires c κs = search needs
 
+onward-requires-2 : tie.Need-onward-requires-2
+onward-requires-2 c κs = search needs
+
 enum-told-4 : tie.Need-enum-told-4
 enum-told-4 c = search needs
 
@@ -31,8 +37,11 @@ is-calling-requires c κs = search needs
 put-fault-requires : tie.Need-put-fault-requires
 put-fault-requires c κs = search needs
 
+onward-requires-3 : tie.Need-onward-requires-3
+onward-requires-3 c κs = search needs
+
 returns : tie.Need-returns
-returns c = act-more _ _ _ _ _ _ _ (c .enum-told .given .1)
+returns c = act-more _ _ _ _ _ _ _ _ (c .before .enum-told .given .1) (c .onward .ensures)
 
 same-length : tie.Need-same-length
 same-length c = search needs
@@ -59,27 +68,30 @@ same-length-7 : tie.Need-same-length-7
 same-length-7 c = search needs
 
 returns-3 : tie.Need-returns-3
-returns-3 c = act-call _ _ _ _ _ _ _ _ _ _ _ _ _ (c .before .before .before .before .before .before .before .before .before .before .before .before .before .before .before .enum-told3 .given .1) (c .before .before .before .before .before .before .before .before .before .before .before .before .before .before .wrapping-add-u64 .ensures) (c .before .before .before .before .before .before .before .before .run .ensures)
+returns-3 c = act-call _ _ _ _ _ _ _ _ _ _ _ _ _ _ (c .before .before .before .before .before .before .before .before .before .before .before .before .before .before .before .before .enum-told3 .given .1) (c .before .before .before .before .before .before .before .before .before .before .before .before .before .before .before .wrapping-add-u64 .ensures) (c .onward2 .ensures) (c .before .before .before .before .before .before .before .before .before .run .ensures)
 
 same-length-8 : tie.Need-same-length-8
 same-length-8 c = search needs
 
 returns-4 : tie.Need-returns-4
-returns-4 c = act-fault _ _ _ _ _ _ _ _ _ _ (c .before .before .before .before .before .before .enum-told4 .given .1) (c .before .before .before .is-calling .ensures) (c .before .before .put-fault .ensures)
+returns-4 c = act-fault _ _ _ _ _ _ _ _ _ _ _ (c .before .before .before .before .before .before .before .enum-told4 .given .1) (c .before .before .before .before .is-calling .ensures) (c .onward3 .ensures) (c .before .before .before .put-fault .ensures)
 
 pub act-spec : {M : Type 1} → statement M
 act-spec =
     tie.close
     (tie.spec
     enum-told
+    onward-requires
     enum-told-2
     begin-requires
     enum-told-3
     wrapping-add-u64-requires
     run-requires
+    onward-requires-2
     enum-told-4
     is-calling-requires
     put-fault-requires
+    onward-requires-3
     returns
     same-length
     same-length-2
