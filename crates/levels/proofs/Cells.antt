@@ -4,19 +4,20 @@ use mathlib.Core.List.{List, []}
 use mathlib.Core.Path.{_≡_, refl, sym, ap, _∙_}
 use Prim.Native.Nat.{ℕ, _+_, _*_, _<_, _≤_, min}
 use native.Mathlib.Omega.{arith}
-use native.Mathlib.Nat.{add-zero, le-antisymm}
+use native.Mathlib.Nat.{add-zero, le-refl, le-antisymm}
 use lib.Dec.{ltb}
-use lib.ListN.{getD, take, length-take, List·getD-eq-default}
+use lib.ListN.{getD, set, take, length-take, List·getD-eq-default}
+use lib.Seq.{getD-set-same, set-getD, set-set}
 use borrow.Author.Tests.{lt-ltb, le-ltb, ltb-true, ltb-false}
 use Rattle.rules.specs.Words.{tabFrom}
 use Rattle.rules.specs.Level.{level, flowsTo}
 use Rattle.rules.specs.Layout.{maxCells, headerWords, cellWords, cells, cellWord, levelOf, configuration, flows, flowMatrix}
 use Rattle.laws.proofs.Tests.{same-test, split}
-use Rattle.laws.proofs.Tab.{getD-tab2}
-use Rattle.laws.proofs.Fill.{tab-at, tab-past, tab-any, tab-same, upTo, upTo-all}
+use Rattle.laws.proofs.Tab.{length-tab, getD-tab2}
+use Rattle.laws.proofs.Fill.{tab-at, tab-past, tab-any, tab-same, upTo, upTo-more, upTo-all}
 use Rattle.laws.proofs.Places.{conf-cells, conf-cell}
 use Rattle.levels.specs.declared.Level.{Level}
-use Rattle.levels.specs.Rule.{ruleLevel, codeLevel, flowRow}
+use Rattle.levels.specs.Rule.{ruleLevel, codeLevel}
 
 -- ---- a cell's words
 
@@ -71,8 +72,9 @@ and-cond false b = refl
 abbrev pub flowsFor : List Level → Level → ℕ → Bool
 flowsFor all from d = flowsTo (ruleLevel from) (ruleLevel (getD all d nil))
 
-pub row-all : (all : List Level) (from : Level) (n d : ℕ) (to : List Bool) → d ≤ n → n ≤ d → to ≡ tabFrom 0 maxCells (upTo false (flowsFor all from) d) → to ≡ flowRow all n from
-row-all all from n d to h l p = p ∙ ap (λ (k : ℕ). tabFrom 0 maxCells (upTo false (flowsFor all from) k)) (le-antisymm h l)
+-- the first d entries of a row
+abbrev pub rowTo : List Level → Level → ℕ → List Bool
+rowTo all from d = tabFrom 0 maxCells (upTo false (flowsFor all from) d)
 
 -- a row of the matrix, and one of all no
 abbrev pub rowIn : List ℕ → ℕ → List Bool
@@ -80,6 +82,29 @@ rowIn t c = tabFrom 0 maxCells (λ d. flows (configuration t) c d)
 
 abbrev pub no : List Bool
 no = tabFrom 0 maxCells (λ d. false)
+
+-- the matrix whose first c rows are made
+abbrev pub rowsTo : List ℕ → ℕ → List (List Bool)
+rowsTo t c = tabFrom 0 maxCells (upTo no (rowIn t) c)
+
+-- row c begins as all no
+pub row-begun : (t : List ℕ) (c : ℕ) (all : List Level) (from : Level) (m : List (List Bool)) → c < maxCells → m ≡ rowsTo t c → m ≡ set (rowsTo t c) c (rowTo all from 0)
+unfolding tabFrom
+row-begun t c all from m h p = p ∙ sym (ap (λ (r : List Bool). set (rowsTo t c) c r) (sym here) ∙ set-getD (rowsTo t c) c no)
+  where
+    here : getD (rowsTo t c) c no ≡ no
+    here = tab-at maxCells (upTo no (rowIn t) c) c no h ∙ ap (λ (b : Bool). cond b (rowIn t c) no) (le-ltb c c (le-refl c))
+
+-- and gets one entry more, in its place in the matrix
+pub row-more : (t : List ℕ) (c : ℕ) (all : List Level) (from : Level) (d : ℕ) (m : List (List Bool)) (v : Bool) → c < maxCells → d < maxCells
+    → m ≡ set (rowsTo t c) c (rowTo all from d) → v ≡ flowsFor all from d → set m c (set (getD m c []) d v) ≡ set (rowsTo t c) c (rowTo all from (d + 1))
+row-more t c all from d m v h l p e =
+    ap (λ (x : List (List Bool)). set x c (set (getD m c []) d v)) p
+    ∙ set-set (rowsTo t c) c (rowTo all from d) (set (getD m c []) d v)
+    ∙ ap (λ (r : List Bool). set (rowsTo t c) c r) (upTo-more false (flowsFor all from) maxCells d (getD m c []) v l row e)
+  where
+    row : getD m c [] ≡ rowTo all from d
+    row = ap (λ (x : List (List Bool)). getD x c []) p ∙ getD-set-same (rowsTo t c) c (rowTo all from d) [] (rw length-tab h)
 
 -- the configuration's cells are the table's first word
 cells-kept : (t : List ℕ) → cells (configuration t) ≡ getD t 0 0
@@ -111,12 +136,19 @@ module _ (t : List ℕ) (n : ℕ) (count : n ≡ min (getD t 0 0) maxCells) wher
         rw (known c (omega arith), known d m, counted d m, ← counted c (omega arith), lt-ltb c n h)
         (sym (and-cond (ltb d (cells (configuration t))) (flowsTo (levelOf (configuration t) c) (levelOf (configuration t) d))))
 
-    pub row-in : (c : ℕ) → c < n → flowRow all n (getD all c nil) ≡ rowIn t c
+    row-in : (c : ℕ) → c < n → rowTo all (getD all c nil) n ≡ rowIn t c
     row-in c h =
         tab-same maxCells (upTo false (flowsFor all (getD all c nil)) n) (λ d. flows (configuration t) c d) false
         (entry-in c h)
 
-  pub matrix-all : (c : ℕ) (m : List (List Bool)) → c ≤ n → n ≤ c → m ≡ tabFrom 0 maxCells (upTo no (rowIn t) c) → m ≡ flowMatrix (configuration t)
+    -- a row with all its entries is the matrix's
+    pub row-done : (c d : ℕ) (m : List (List Bool)) → c < n → d ≤ n → n ≤ d → m ≡ set (rowsTo t c) c (rowTo all (getD all c nil) d) → m ≡ rowsTo t (c + 1)
+    row-done c d m h a b p =
+        p
+        ∙ upTo-more no (rowIn t) maxCells c (rowsTo t c) (rowTo all (getD all c nil) d) (omega arith) refl
+        (ap (rowTo all (getD all c nil)) (le-antisymm a b) ∙ row-in c h)
+
+  pub matrix-all : (c : ℕ) (m : List (List Bool)) → c ≤ n → n ≤ c → m ≡ rowsTo t c → m ≡ flowMatrix (configuration t)
   unfolding flowMatrix
   matrix-all c m h l p = p ∙ upTo-all no (rowIn t) maxCells c (λ k a b. row-past k (omega arith) b)
 

@@ -7,7 +7,7 @@ ghost use Prim.Native.Nat.{_≤_, min};
 ghost use lib.ListN.{getD};
 ghost use Rattle.rules.specs.Words.{tabFrom};
 ghost use Rattle.rules.specs.Layout.{maxCells, configuration, levelOf, flowMatrix};
-ghost use Rattle.levels.specs.Rule.{ruleLevel, codeLevel, flowRow};
+ghost use Rattle.levels.specs.Rule.{ruleLevel, codeLevel};
 use rules::CELL_WORDS;
 use rules::HEADER_WORDS;
 use rules::MAX_CELLS;
@@ -96,21 +96,6 @@ fn levels(t: &[u32], n: u32) -> [Level; MAX_CELLS]
     all
 }
 
-// Which of the first n cells the level may flow to.
-fn row(all: [Level; MAX_CELLS], n: usize, from: Level) -> [bool; MAX_CELLS]
-    requires { ⌜ n ≤ maxCells ⌝ }
-    ensures { λ r. ⌜ r ≡ flowRow all n from ⌝ }
-{
-    let mut to = [false; MAX_CELLS];
-    let mut d = 0;
-    while d < n {
-        let level = all[d];
-        to[d] = from.flows_to(level);
-        d += 1;
-    }
-    to
-}
-
 // Which cell may flow to which: made at the start of a call and handed round whole.
 pub fn flow_matrix(t: &[u32]) -> [[bool; MAX_CELLS]; MAX_CELLS]
     ensures { λ r. ⌜ r ≡ flowMatrix (configuration (now (t .entry))) ⌝ }
@@ -122,7 +107,12 @@ pub fn flow_matrix(t: &[u32]) -> [[bool; MAX_CELLS]; MAX_CELLS]
     let mut c = 0;
     while c < n {
         let from = all[c];
-        m[c] = row(all, n, from);
+        let mut d = 0;
+        while d < n {
+            let level = all[d];
+            m[c][d] = from.flows_to(level);
+            d += 1;
+        }
         c += 1;
     }
     m

@@ -1,71 +1,93 @@
--- `levels::flow_matrix` meets its contract: the first c rows are the rule's and the others no, as the rows past the last cell are.
-use mathlib.Core.Path.{_≡_, refl, _∙_}
+-- `levels::flow_matrix` meets its contract: the first c rows are the rule's, row c is up to its entry d, and the others are no, as the rows past the last cell are.
+use mathlib.Core.Path.{_≡_, refl}
 use Prim.Native.Nat.{_≤_, _-_}
-use native.Mathlib.Omega.{arith}
-use borrow.Author.Needs.{needs}
+use lib.ListN.{set}
 use Rattle.rules.specs.Words.{tabFrom}
-use Rattle.rules.specs.Layout.{maxCells}
-use Rattle.laws.proofs.Fill.{upTo, upTo-more}
-use Rattle.levels.proofs.Cells.{no, rowIn, row-in, matrix-all}
+use Rattle.levels.proofs.Cells.{rowTo, rowsTo, row-begun, row-more, row-done, matrix-all}
+use borrow.Author.Needs.{needs}
+use native.Mathlib.Omega.{arith}
 use Rattle.levels.proofs.flow_matrix.Statement.{statement}
 use Rattle.levels.proofs.flow_matrix.Tie as tie
 
+abbrev Inv-loop2 : tie.InvT-loop2
+Inv-loop2 t cells all n m₀ c from d₀ m d = (d ≤ n) × (m ≡ set (rowsTo t c) c (rowTo all from d))
+
+abbrev μ-loop2 : tie.MeasureT-loop2
+μ-loop2 t cells all n m₀ c from d₀ m d = n - d
+
 abbrev Inv-loop : tie.InvT-loop
-Inv-loop t cells all n m₀ c₀ m c = (c ≤ n) × (m ≡ tabFrom 0 maxCells (upTo no (rowIn t) c))
+Inv-loop t cells all n m₀ c₀ m c = (c ≤ n) × (m ≡ rowsTo t c)
 
 abbrev μ-loop : tie.MeasureT-loop
 μ-loop t cells all n m₀ c₀ m c = n - c
 
-count-requires : tie.Need-count-requires Inv-loop μ-loop
+count-requires : tie.Need-count-requires Inv-loop2 μ-loop2 Inv-loop μ-loop
 count-requires c κs = search needs
 
-levels-requires : tie.Need-levels-requires Inv-loop μ-loop
+levels-requires : tie.Need-levels-requires Inv-loop2 μ-loop2 Inv-loop μ-loop
 levels-requires c κs = search needs
 
-cast-n : tie.Need-cast-n Inv-loop μ-loop
+cast-n : tie.Need-cast-n Inv-loop2 μ-loop2 Inv-loop μ-loop
 cast-n c = search needs
 
-loop-holds : tie.Need-loop-holds Inv-loop μ-loop
+loop-holds : tie.Need-loop-holds Inv-loop2 μ-loop2 Inv-loop μ-loop
 unfolding tabFrom
 loop-holds c = (omega arith, refl)
 
-mul-from : tie.Need-mul-from Inv-loop μ-loop
+mul-from : tie.Need-mul-from Inv-loop2 μ-loop2 Inv-loop μ-loop
 mul-from c = search needs
 
-array-copy-out-from : tie.Need-array-copy-out-from Inv-loop μ-loop
+array-copy-out-from : tie.Need-array-copy-out-from Inv-loop2 μ-loop2 Inv-loop μ-loop
 array-copy-out-from c = search needs
 
-row-requires : tie.Need-row-requires Inv-loop μ-loop
-row-requires c κs = search needs
+loop2-holds : tie.Need-loop2-holds Inv-loop2 μ-loop2 Inv-loop μ-loop
+loop2-holds c = (omega arith, row-begun _ _ (c .before .before .before .levels .result) _ _ (omega (arith, c .before .loop-test .taken, c .before .before .before .before .count .ensures)) (c .before .before .loop .inv .1))
 
-mul-m : tie.Need-mul-m Inv-loop μ-loop
+mul-level : tie.Need-mul-level Inv-loop2 μ-loop2 Inv-loop μ-loop
+mul-level c = search needs
+
+array-copy-out-level : tie.Need-array-copy-out-level Inv-loop2 μ-loop2 Inv-loop μ-loop
+array-copy-out-level c = search needs
+
+flows-to-requires : tie.Need-flows-to-requires Inv-loop2 μ-loop2 Inv-loop μ-loop
+flows-to-requires c κs = search needs
+
+mul-m : tie.Need-mul-m Inv-loop2 μ-loop2 Inv-loop μ-loop
 mul-m c = search needs
 
-array-set-from-m : tie.Need-array-set-from-m Inv-loop μ-loop
-array-set-from-m c = search needs
+index-1-m : tie.Need-index-1-m Inv-loop2 μ-loop2 Inv-loop μ-loop
+index-1-m c = search needs
 
-add-c : tie.Need-add-c Inv-loop μ-loop
+index-2-m : tie.Need-index-2-m Inv-loop2 μ-loop2 Inv-loop μ-loop
+index-2-m c = search needs
+
+add-d : tie.Need-add-d Inv-loop2 μ-loop2 Inv-loop μ-loop
+add-d c = search needs
+
+loop2-less : tie.Need-loop2-less Inv-loop2 μ-loop2 Inv-loop μ-loop
+loop2-less c = search needs
+
+loop2-again : tie.Need-loop2-again Inv-loop2 μ-loop2 Inv-loop μ-loop
+loop2-again c = (omega arith, row-more _ _ (c .before .before .before .before .before .before .before .levels .result) _ _ _ _ (omega arith) (omega arith) (c .before .before .before .loop2 .inv .1) (c .flows-to .ensures))
+
+add-c : tie.Need-add-c Inv-loop2 μ-loop2 Inv-loop μ-loop
 add-c c = search needs
 
-loop-less : tie.Need-loop-less Inv-loop μ-loop
+loop-less : tie.Need-loop-less Inv-loop2 μ-loop2 Inv-loop μ-loop
 loop-less c = search needs
 
-loop-again : tie.Need-loop-again Inv-loop μ-loop
-loop-again c = (
-  omega arith,
-  upTo-more no (rowIn (c .before .before .before .before .before .before .before .args .t .now)) maxCells _ _ _ (omega arith)
-      (c .before .before .before .loop .inv .1)
-      (c .row .ensures
-      ∙ row-in _ _ (c .before .before .before .before .before .count .ensures) _ (c .before .before .before .before .levels .ensures) _ (c .before .before .loop-test .taken)),
-)
+loop-again : tie.Need-loop-again Inv-loop2 μ-loop2 Inv-loop μ-loop
+loop-again c = (omega arith, row-done _ _ (c .before .before .before .before .before .before .count .ensures) _ (c .before .before .before .before .before .levels .ensures) _ _ _ (c .before .before .before .loop-test .taken) (c .before .loop2 .inv .0) (c .loop2-test .left) (c .before .loop2 .inv .1))
 
-returns : tie.Need-returns Inv-loop μ-loop
+returns : tie.Need-returns Inv-loop2 μ-loop2 Inv-loop μ-loop
 returns c = matrix-all _ _ (c .before .before .before .count .ensures) _ _ (c .before .loop .inv .0) (c .loop-test .left) (c .before .loop .inv .1)
 
 pub flow-matrix-spec : {M : Type 1} → statement M
 flow-matrix-spec =
     tie.close
     (tie.spec
+    Inv-loop2
+    μ-loop2
     Inv-loop
     μ-loop
     count-requires
@@ -74,9 +96,16 @@ flow-matrix-spec =
     loop-holds
     mul-from
     array-copy-out-from
-    row-requires
+    loop2-holds
+    mul-level
+    array-copy-out-level
+    flows-to-requires
     mul-m
-    array-set-from-m
+    index-1-m
+    index-2-m
+    add-d
+    loop2-less
+    loop2-again
     add-c
     loop-less
     loop-again
