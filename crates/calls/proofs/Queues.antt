@@ -63,7 +63,7 @@ shown-four t from b e =
 
 -- ---- the queue moved up
 
-pub moved-more : (t : List ℕ) (from n : ℕ) → movedAt t from (n + 1) ≡ set (movedAt t from n) (from + n) (getD t (from + n + messageWords) 0)
+moved-more : (t : List ℕ) (from n : ℕ) → movedAt t from (n + 1) ≡ set (movedAt t from n) (from + n) (getD t (from + n + messageWords) 0)
 unfolding movedAt
 moved-more t from n = rw add-one
 
@@ -73,11 +73,22 @@ length-moved t from zero = refl
 length-moved t from (suc n) = length-set (movedAt t from n) (from + n) (getD t (from + n + messageWords) 0) ∙ length-moved t from n
 
 -- words not yet passed are as they were
-pub moved-later : (t : List ℕ) (from n j : ℕ) → from + n ≤ j → getD (movedAt t from n) j 0 ≡ getD t j 0
+moved-later : (t : List ℕ) (from n j : ℕ) → from + n ≤ j → getD (movedAt t from n) j 0 ≡ getD t j 0
 unfolding movedAt
 moved-later t from zero j l = refl
 moved-later t from (suc n) j l =
     getD-set-other (movedAt t from n) (from + n) j (getD t (from + n + messageWords) 0) 0 (λ e. omega arith) ∙ moved-later t from n j (omega arith)
+
+-- one word more, read before anything is stored there
+pub moved-next : (t l : List ℕ) (from i : ℕ) → l ≡ movedAt t from i → set l (from + i) (getD l (from + i + messageWords) 0) ≡ movedAt t from (i + 1)
+moved-next t l from i e =
+    ap (λ (x : List ℕ). set x (from + i) (getD x (from + i + messageWords) 0)) e
+    ∙ ap (λ (v : ℕ). set (movedAt t from i) (from + i) v) (moved-later t from i (from + i + messageWords) (omega arith))
+    ∙ sym (moved-more t from i)
+
+-- the caller's messages lie within the table, also once a word was stored
+pub messages-within : {t u : List ℕ} {w : World} {from : ℕ} (i v : ℕ) → Sound t w → from ≡ offsetBy w (at process (w .me) messagesAt) → u ≡ set t i v → from + 28 + messageWords ≤ length u
+messages-within {t} {w = w} i v s fe ue = rw (fe, ue, length-set t i v, spot (s .known) (at process (w .me) messagesAt), s .words) (omega (arith, s .caller))
 
 -- t is the table that is read, u the one that is written: they agree at the words to be moved
 moved-is : (h t u : List ℕ) (p n : ℕ) → ((j : ℕ) → j < n → rd h t (at process p (messagesAt + j + messageWords)) ≡ getD u (offset h (at process p messagesAt) + j + messageWords) 0)

@@ -44,7 +44,6 @@ use rules::XOK;
 use rules::XPOST_EH;
 use words::byte;
 use words::first;
-use words::put;
 use words::put_bytes;
 use words::wide;
 use words::word;
@@ -83,13 +82,12 @@ fn show(t: &[u32], from: usize, b: &mut [u8])
 
 // n words from a place on, each taken from a message further.
 fn move_up(t: &mut [u32], from: usize, n: usize)
-    requires { ⌜ (from < 2 ^ 44) × (n < 2 ^ 44) ⌝ }
+    requires { ⌜ (from < 2 ^ 44) × (n < 2 ^ 44) × (from + n + messageWords ≤ length (now t)) ⌝ }
     ensures { λ _. ⌜ now (t .exit) ≡ movedAt (now (t .entry)) from n ⌝ }
 {
     let mut i = 0;
     while i < n {
-        let next = word(t, from + i + MESSAGE_WORDS);
-        put(t, from + i, next);
+        t[from + i] = t[from + i + MESSAGE_WORDS];
         i += 1;
     }
 }

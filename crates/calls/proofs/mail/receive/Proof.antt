@@ -1,5 +1,5 @@
 -- `mail::receive` meets its contract: the message is shown before the queue moves up.
-use Rattle.calls.proofs.Queues.{receive-refused, receive-done}
+use Rattle.calls.proofs.Queues.{messages-within, receive-refused, receive-done}
 use native.Mathlib.Omega.{arith}
 use borrow.Author.Needs.{needs}
 use Rattle.calls.proofs.mail.receive.Statement.{statement}
@@ -42,7 +42,7 @@ mul-moved : tie.Need-mul-moved
 mul-moved c = search needs
 
 move-up-requires : tie.Need-move-up-requires
-move-up-requires c κs = search needs
+move-up-requires c κs = (omega arith, omega arith, messages-within _ _ (c .before .before .before .before .before .before .before .before .before .before .before .before .before .before .before .before .before .before .before .pre) (c .before .before .before .before .before .before .before .before .before .before .before .process-place .ensures .0) (c .before .before .before .put-process .ensures))
 
 add-clear : tie.Need-add-clear
 add-clear c = search needs
