@@ -2,4 +2,5 @@
 pub mod Weights
 pub mod Groups
 pub mod Read
+pub mod Scanning
 pub mod Round

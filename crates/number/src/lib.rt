@@ -1,9 +1,10 @@
 // Numbers in seven-bit groups, low group first: read a byte at a time, and written.
 ghost use mathlib.Core.Path.{_≡_};
 ghost use Prim.Native.Nat.{_<_, _^_};
+ghost use lib.ListN.{drop};
 ghost use Rattle.rules.specs.Replay.{maxGroups, encoded};
 ghost use Rattle.output.specs.Wrote.{Wrote};
-ghost use Rattle.number.specs.Fed.{grown, fedBy};
+ghost use Rattle.number.specs.Fed.{grown, fedBy, scanOf};
 
 // A number of which count groups are read, and their value.
 pub struct Part {
@@ -16,6 +17,13 @@ pub enum Fed {
     More(Part),
     Done(u32),
     Bad,
+}
+
+// What some bytes make of it: the part before the byte that ended it, and the place past that byte.
+pub struct Scan {
+    pub fed: Fed,
+    pub part: Part,
+    pub next: usize,
 }
 
 const MAX_GROUPS: u32 = 5;
@@ -61,6 +69,31 @@ pub fn feed(p: Part, b: u8) -> Fed
         return Fed::Done(value as u32);
     }
     Fed::Bad
+}
+
+// The bytes of a number from a place on, up to its last one, a bad one, or the end of the bytes.
+pub fn feed_all(p: Part, s: &[u8], from: usize) -> Scan
+    ensures { λ r. ⌜ r ≡ scanOf p (drop from (now (s .entry))) from ⌝ }
+{
+    let mut part = p;
+    let mut i = from;
+    while i < s.len() {
+        let fed = feed(part, s[i]);
+        i += 1;
+        match fed {
+            Fed::More(q) => {
+                part = q;
+            }
+            Fed::Done(_) => {
+                return Scan { fed, part, next: i };
+            }
+            Fed::Bad => {
+                return Scan { fed, part, next: i };
+            }
+        }
+    }
+    let fed = Fed::More(part);
+    Scan { fed, part, next: i }
 }
 
 // Writes a number at a place; answers the place past it.
