@@ -1,6 +1,7 @@
 -- Laws of the reader of a script.
 pub mod Stages
 pub mod Piece
+pub mod Stretch
 pub mod Going
 pub mod Meaning
 pub mod Kept

@@ -1,18 +1,16 @@
 -- A piece of the input: one byte of it, its end; and that any cutting of the input gives the same.
-use mathlib.Core.Bool.{Bool, true, false}
+use mathlib.Core.Bool.{true, false}
 use mathlib.Core.List.{List, [], _∷_, _++_}
 use mathlib.Core.Path.{_≡_, refl, sym, ap, _∙_}
-use Prim.Native.Nat.{ℕ, suc, _+_, _<_, _≤_}
+use Prim.Native.Nat.{ℕ, suc, _+_, _≤_}
 use native.Mathlib.Omega.{arith}
-use native.Mathlib.Numerals.{add-one}
-use lib.ListN.{getD, drop, length, drop-of-length-le}
-use lib.Seq.{drop-cons, drop-drop}
+use lib.ListN.{drop, length, drop-of-length-le}
+use lib.Seq.{drop-drop}
 use Rattle.laws.proofs.Tests.{split}
 use Rattle.script.specs.declared.Reader.{Reader}
 use Rattle.script.specs.declared.What.the-variants.{More}
-use Rattle.script.specs.declared.Took.{Took}
-use Rattle.script.specs.Take.{isMore, take, Reads}
-use Rattle.script.specs.Advance.{Advanced, advanced, stopped, advance, Advances}
+use Rattle.script.specs.Take.{isMore, take}
+use Rattle.script.specs.Advance.{Advanced, advanced, stopped, advance, resumed}
 
 -- ---- one byte, and what is left of the piece
 module _ (r : Reader) (t l : List ℕ) (b : ℕ) (s : List ℕ) (i : ℕ) where
@@ -30,41 +28,16 @@ pub ends : (r : Reader) (t l : List ℕ) (i : ℕ) → advance r t l [] i ≡ ad
 unfolding advance
 ends r t l i = refl
 
--- ---- the same at place i of the piece s, as the code has it
-front : (s : List ℕ) (i : ℕ) → i < length s → drop i s ≡ getD s i 0 ∷ drop (i + 1) s
-front s i h = rw (add-one, drop-cons s i 0 h)
-
-module _ (r : Reader) (t l s : List ℕ) (i : ℕ) (h : i < length s) (x : Took) (t′ l′ : List ℕ) (p : Reads (take r t l (getD s i 0)) x t′ l′) (m : Bool) (w : m ≡ isMore (x .what)) where
-  more-of : isMore (take r t l (getD s i 0) .took .what) ≡ m
-  more-of = ap (λ (y : Took). isMore (y .what)) (sym (p .took)) ∙ sym w
-
-  pub code-goes-on : m ≡ true → advance r t l (drop i s) i ≡ advance (x .reader) t′ l′ (drop (i + 1) s) (i + 1)
-  code-goes-on e = rw (front s i h, p .took, p .table, p .buffer) (goes-on r t l (getD s i 0) (drop (i + 1) s) i (more-of ∙ e))
-
-  pub code-stops : m ≡ false → Advances (advance r t l (drop i s) i) (record { what = x .what; reader = x .reader; next = i + 1 }) t′ l′
-  code-stops e =
-      let q : advance r t l (drop i s) i ≡ stopped (take r t l (getD s i 0)) (i + 1) (drop (i + 1) s) =
-      rw (front s i h) (stops r t l (getD s i 0) (drop (i + 1) s) i (more-of ∙ e)) in
-      rw q (record { moved = ap (λ (y : Took). record { what = y .what; reader = y .reader; next = i + 1 }) (p .took); table = p .table; buffer = p .buffer })
-
+-- ---- the same at the end of the piece s, as the code has it
 pub code-ends : (r : Reader) (t l s : List ℕ) (i : ℕ) → length s ≤ i → advance r t l (drop i s) i ≡ advanced More r i [] t l
 code-ends r t l s i h = rw (drop-of-length-le s h) (ends r t l i)
 
 -- ---- any cutting of the input gives the same
-
--- what a further piece makes of what was read
-unfoldable pub resumed : Advanced → List ℕ → Advanced
-resumed p ys =
-    elim (isMore (p .moved .what)) [
-      | true ↦ advance (p .moved .reader) (p .table) (p .buffer) ys (p .moved .next)
-      | false ↦ record { moved = p .moved; rest = p .rest ++ ys; table = p .table; buffer = p .buffer }
-    ]
-
-going-resumed : (p : Advanced) (ys : List ℕ) → isMore (p .moved .what) ≡ true → resumed p ys ≡ advance (p .moved .reader) (p .table) (p .buffer) ys (p .moved .next)
+pub going-resumed : (p : Advanced) (ys : List ℕ) → isMore (p .moved .what) ≡ true → resumed p ys ≡ advance (p .moved .reader) (p .table) (p .buffer) ys (p .moved .next)
 unfolding resumed
 going-resumed p ys e = rw (e, resumed)
 
-stopped-resumed : (p : Advanced) (ys : List ℕ) → isMore (p .moved .what) ≡ false
+pub stopped-resumed : (p : Advanced) (ys : List ℕ) → isMore (p .moved .what) ≡ false
     → resumed p ys ≡ record { moved = p .moved; rest = p .rest ++ ys; table = p .table; buffer = p .buffer }
 unfolding resumed
 stopped-resumed p ys e = rw (e, resumed)

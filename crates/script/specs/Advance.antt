@@ -1,8 +1,9 @@
 -- What a piece of the input does: its bytes are taken up to the end of the configuration or of a call, a fault, or the piece's end.
 use mathlib.Core.Bool.{true, false}
-use mathlib.Core.List.{List, [], _∷_}
+use mathlib.Core.List.{List, [], _∷_, _++_}
 use mathlib.Core.Path.{_≡_}
-use Prim.Native.Nat.{ℕ, _+_}
+use Prim.Native.Nat.{ℕ, _+_, _<_}
+use lib.ListN.{drop}
 use Rattle.script.specs.declared.Reader.{Reader}
 use Rattle.script.specs.declared.What.{What}
 use Rattle.script.specs.declared.What.the-variants.{More}
@@ -28,6 +29,19 @@ advance r t l [] i = advanced More r i [] t l
 advance r t l (b ∷ s) i =
     let x : Read = take r t l b in
     elim (isMore (x .took .what)) [ true ↦ advance (x .took .reader) (x .table) (x .buffer) s (i + 1) | false ↦ stopped x (i + 1) s ]
+
+-- what a further piece makes of what was read
+unfoldable pub resumed : Advanced → List ℕ → Advanced
+resumed p ys =
+    elim (isMore (p .moved .what)) [
+      | true ↦ advance (p .moved .reader) (p .table) (p .buffer) ys (p .moved .next)
+      | false ↦ record { moved = p .moved; rest = p .rest ++ ys; table = p .table; buffer = p .buffer }
+    ]
+
+-- the code has read some bytes of the piece s, from place i on: with what is left of it, that comes to what all of it does
+pub record Goes (r : Reader) (t l s : List ℕ) (i : ℕ) (m : Moved) (t′ l′ : List ℕ) : Type 0 where
+  pub past : i < m .next
+  pub same : advance r t l (drop i s) i ≡ resumed (record { moved = m; rest = []; table = t′; buffer = l′ }) (drop (m .next) s)
 
 -- what the code leaves is that
 pub record Advances (x : Advanced) (m : Moved) (t′ l′ : List ℕ) : Type 0 where

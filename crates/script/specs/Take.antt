@@ -2,12 +2,12 @@
 -- (That this is what the rules read is proved in proofs/.)
 use mathlib.Core.Bool.{Bool, true, false, cond, _&&_}
 use mathlib.Core.List.{List}
-use mathlib.Core.Path.{_≡_}
 use Prim.Native.Nat.{ℕ, _+_, _-_, _*_}
 use lib.Dec.{ltb, eqb}
 use lib.ListN.{getD, set, replicate}
 use Rattle.rules.specs.Layout.{maxCells, headerWords, cellWords}
 use Rattle.rules.specs.Replay.{headerNumbers, callNumbers, maxBuffer}
+use Rattle.number.specs.declared.Part.{Part}
 use Rattle.number.specs.declared.Fed.{Fed}
 use Rattle.number.specs.declared.Fed.the-variants as fed
 use Rattle.number.specs.Fed.{start, fedBy}
@@ -38,6 +38,13 @@ newReader = awaiting Header (headerNumbers - 1) (replicate callNumbers 0)
 abbrev pub atCall : List ℕ → Reader
 atCall nums = awaiting Numbers (callNumbers - 1) nums
 
+-- in a call's buffer
+abbrev pub isBytes : Stage → Bool
+isBytes Header = false
+isBytes Cells = false
+isBytes Numbers = false
+isBytes Bytes = true
+
 -- past the configuration
 abbrev pub callingAt : Stage → Bool
 callingAt Header = false
@@ -61,6 +68,17 @@ isBetween r = betweenAt (r .stage) r
 -- at the next number or byte of the stage
 abbrev pub onward : Reader → List ℕ → Reader
 onward r nums = record { stage = r .stage; part = start; field = r .field + 1; last = r .last; nums = nums }
+
+-- n bytes further in a call's buffer, of which some are to come: one at the least
+abbrev pub further : Reader → ℕ → Reader
+further r n = record { stage = r .stage; part = start; field = r .field + n; last = r .last; nums = r .nums }
+
+abbrev pub bytesLeft : Reader → ℕ
+bytesLeft r = r .last - r .field + 1
+
+-- with another part of its number read
+abbrev pub withPart : Reader → Part → Reader
+withPart r p = record { stage = r .stage; part = p; field = r .field; last = r .last; nums = r .nums }
 
 -- ---- a number is whole: v, number `field` of the stage
 
@@ -118,7 +136,7 @@ read x t l = record { took = x; table = t; buffer = l }
 
 -- a byte of a number, by what it makes of the number
 unfoldable pub fedTook : Reader → List ℕ → Fed → Took
-fedTook r t (fed.More q) = took More (record { stage = r .stage; part = q; field = r .field; last = r .last; nums = r .nums })
+fedTook r t (fed.More q) = took More (withPart r q)
 fedTook r t (fed.Done v) = numbered r t v
 fedTook r t fed.Bad = took Fault r
 
@@ -142,9 +160,3 @@ takeAt Bytes r t l b = read (byteTook r) t (set l (r .field) b)
 
 unfoldable pub take : Reader → List ℕ → List ℕ → ℕ → Read
 take r t l b = takeAt (r .stage) r t l b
-
--- what the code leaves is that
-pub record Reads (x : Read) (r : Took) (t′ l′ : List ℕ) : Type 0 where
-  pub took : r ≡ x .took
-  pub table : t′ ≡ x .table
-  pub buffer : l′ ≡ x .buffer

@@ -1,11 +1,12 @@
-// A replay script, read a byte at a time: the header's numbers, the cells' numbers, then calls, each of six numbers and its buffer's bytes. Any of these may
-// lie across any number of pieces of the input.
+// A replay script, read in pieces: the header's numbers, the cells' numbers, then calls, each of six numbers and its buffer's bytes. Any of these may lie across
+// any number of pieces of the input.
+ghost use mathlib.Core.Bool.{true, false};
+ghost use mathlib.Core.List.{List};
 ghost use mathlib.Core.Path.{_≡_};
-ghost use Prim.Native.Nat.{_<_};
-ghost use lib.ListN.{drop, set};
-ghost use Rattle.number.specs.Fed.{fedBy};
-ghost use Rattle.script.specs.Take.{awaiting as awaitingAt, newReader, isMore, isCalling, isBetween, onward, keptNums, keptTable, headerEnded, numbersEnded, ended, numbered, fedTook, fedTable, byteTook, take, Reads};
-ghost use Rattle.script.specs.Advance.{advance, Advances};
+ghost use Prim.Native.Nat.{ℕ, _+_, _<_, _≤_, min};
+ghost use lib.ListN.{drop, length, set};
+ghost use Rattle.script.specs.Take.{awaiting as awaitingAt, newReader, isMore, isBytes, isCalling, isBetween, onward, further, keptNums, keptTable, headerEnded, numbersEnded, ended, numbered, withPart, fedTook, fedTable, bytesLeft};
+ghost use Rattle.script.specs.Advance.{advance, Advances, Goes};
 use number::Fed;
 use number::Part;
 use rules::CELL_WORDS;
@@ -37,7 +38,7 @@ pub enum What {
     Fault,
 }
 
-// What a byte made of a reader.
+// What a number made of a reader.
 pub struct Took {
     pub what: What,
     pub reader: Reader,
@@ -65,6 +66,12 @@ fn is_more(what: What) -> bool
         What::Call => false,
         What::Fault => false,
     }
+}
+
+fn least(a: usize, b: usize) -> usize
+    ensures { λ r. ⌜ r ≡ min a b ⌝ }
+{
+    if a < b { a } else { b }
 }
 
 // A reader at the first number or byte of a stage.
@@ -137,6 +144,22 @@ impl Reader {
             stage,
             part: Part { value: 0, count: 0 },
             field: self.field + 1,
+            last: self.last,
+            nums,
+        }
+    }
+
+    // n bytes further in a call's buffer.
+    fn further(self, n: usize) -> Reader
+        requires { ⌜ self .field + n ≤ self .last ⌝ }
+        ensures { λ r. ⌜ r ≡ further self n ⌝ }
+    {
+        let stage = self.stage;
+        let nums = self.nums;
+        Reader {
+            stage,
+            part: Part { value: 0, count: 0 },
+            field: self.field + n as u32,
             last: self.last,
             nums,
         }
@@ -248,15 +271,28 @@ impl Reader {
         self.ended(nums, table, v)
     }
 
-    // A byte of a number.
-    fn take_number(self, table: &mut [u32], b: u8) -> Took
-        ensures { λ r. ⌜ (r ≡ fedTook self (now (table .entry)) (fedBy (self .part) b)) × (now (table .exit) ≡ fedTable self (now (table .entry)) (fedBy (self .part) b)) ⌝ }
+    // With another part of its number read.
+    fn with_part(self, part: Part) -> Reader
+        ensures { λ r. ⌜ r ≡ withPart self part ⌝ }
     {
-        let part = self.part;
-        match number::feed(part, b) {
+        let stage = self.stage;
+        let nums = self.nums;
+        Reader {
+            stage,
+            part,
+            field: self.field,
+            last: self.last,
+            nums,
+        }
+    }
+
+    // What the bytes of a number made of it.
+    fn take_fed(self, table: &mut [u32], fed: Fed) -> Took
+        ensures { λ r. ⌜ (r ≡ fedTook self (now (table .entry)) fed) × (now (table .exit) ≡ fedTable self (now (table .entry)) fed) ⌝ }
+    {
+        match fed {
             Fed::More(q) => {
-                let mut reader = self;
-                reader.part = q;
+                let reader = self.with_part(q);
                 Took {
                     what: What::More,
                     reader,
@@ -270,37 +306,83 @@ impl Reader {
         }
     }
 
-    // A byte of a call's buffer.
-    fn take_byte(self, buf: &mut [u8], b: u8) -> Took
-        ensures { λ r. ⌜ (r ≡ byteTook self) × (now (buf .exit) ≡ set (now (buf .entry)) (self .field) b) ⌝ }
+    // The bytes of a number, as far as it or the piece goes.
+    fn take_number(self, table: &mut [u32], s: &[u8], from: usize) -> Moved
+        requires { ⌜ (isBytes (self .stage) ≡ false) × (from < length (now s)) ⌝ }
+        ensures { λ m. ⌜ ((l : List ℕ) → Goes self (now (table .entry)) l (now (s .entry)) from m (now (table .exit)) l) ⌝ }
     {
-        output::put_byte(buf, words::wide(self.field), b);
-        let nums = self.nums;
-        if self.field < self.last {
-            let reader = self.onward(nums);
-            return Took {
-                what: What::More,
-                reader,
-            };
-        }
-        let reader = awaiting(Stage::Numbers, LAST_OF_CALL, nums);
-        Took {
-            what: What::Call,
+        let part = self.part;
+        let x = number::feed_all(part, s, from);
+        let fed = x.fed;
+        let before = self.with_part(x.part);
+        let took = before.take_fed(table, fed);
+        let what = took.what;
+        let reader = took.reader;
+        Moved {
+            what,
             reader,
+            next: x.next,
         }
     }
 
-    // Any byte.
-    pub fn take(self, table: &mut [u32], buf: &mut [u8], b: u8) -> Took
-        ensures { λ r. ⌜ Reads (take self (now (table .entry)) (now (buf .entry)) b) r (now (table .exit)) (now (buf .exit)) ⌝ }
+    // How many bytes of a call's buffer are to come: one at the least, since its last comes next or later.
+    fn bytes_left(self) -> usize
+        ensures { λ r. ⌜ r ≡ bytesLeft self ⌝ }
+    {
+        if self.field < self.last {
+            words::wide(self.last - self.field) + 1
+        } else {
+            1
+        }
+    }
+
+    // The bytes of a call's buffer, as far as it or the piece goes.
+    fn take_bytes(self, buf: &mut [u8], s: &[u8], from: usize) -> Moved
+        requires { ⌜ (isBytes (self .stage) ≡ true) × (from < length (now s)) ⌝ }
+        ensures { λ m. ⌜ ((t : List ℕ) → Goes self t (now (buf .entry)) (now (s .entry)) from m t (now (buf .exit))) ⌝ }
+    {
+        let left = self.bytes_left();
+        let n = least(left, s.len() - from);
+        words::put_bytes(buf, words::wide(self.field), &s[from..from + n]);
+        if n < left {
+            let reader = self.further(n);
+            return Moved {
+                what: What::More,
+                reader,
+                next: from + n,
+            };
+        }
+        let nums = self.nums;
+        let reader = awaiting(Stage::Numbers, LAST_OF_CALL, nums);
+        Moved {
+            what: What::Call,
+            reader,
+            next: from + n,
+        }
+    }
+
+    // In a call's buffer.
+    fn is_bytes(self) -> bool
+        ensures { λ r. ⌜ r ≡ isBytes (self .stage) ⌝ }
     {
         let stage = self.stage;
         match stage {
-            Stage::Header => self.take_number(table, b),
-            Stage::Cells => self.take_number(table, b),
-            Stage::Numbers => self.take_number(table, b),
-            Stage::Bytes => self.take_byte(buf, b),
+            Stage::Header => false,
+            Stage::Cells => false,
+            Stage::Numbers => false,
+            Stage::Bytes => true,
         }
+    }
+
+    // Some bytes of a piece, from a place on.
+    fn take_some(self, table: &mut [u32], buf: &mut [u8], s: &[u8], from: usize) -> Moved
+        requires { ⌜ from < length (now s) ⌝ }
+        ensures { λ m. ⌜ Goes self (now (table .entry)) (now (buf .entry)) (now (s .entry)) from m (now (table .exit)) (now (buf .exit)) ⌝ }
+    {
+        if self.is_bytes() {
+            return self.take_bytes(buf, s, from);
+        }
+        self.take_number(table, s, from)
     }
 }
 
@@ -311,17 +393,13 @@ pub fn advance(r: Reader, table: &mut [u32], buf: &mut [u8], s: &[u8], from: usi
     let mut reader = r;
     let mut i = from;
     while i < s.len() {
-        let took = reader.take(table, buf, s[i]);
-        reader = took.reader;
-        i += 1;
-        let what = took.what;
+        let m = reader.take_some(table, buf, s, i);
+        let what = m.what;
         if !is_more(what) {
-            return Moved {
-                what,
-                reader,
-                next: i,
-            };
+            return m;
         }
+        reader = m.reader;
+        i = m.next;
     }
     Moved {
         what: What::More,

@@ -1,11 +1,13 @@
 -- `script::advance` meets its contract: from each place on, the rest of the piece comes to what the whole does.
-use mathlib.Core.Path.{_≡_, refl, sym, _∙_}
+use mathlib.Core.Path.{_≡_, refl, _∙_}
 use Prim.Native.Nat.{_-_}
 use lib.ListN.{length, drop}
-use borrow.Author.Needs.{needs}
 use borrow.Author.Tests.{not-true, not-false}
 use Rattle.script.specs.Advance.{advance}
-use Rattle.script.proofs.Piece.{code-goes-on, code-stops, code-ends}
+use Rattle.script.proofs.Piece.{code-ends}
+use Rattle.script.proofs.Stretch.{code-goes-on, code-stops}
+use borrow.Author.Needs.{needs}
+use native.Mathlib.Omega.{arith}
 use Rattle.script.proofs.advance.Statement.{statement}
 use Rattle.script.proofs.advance.Tie as tie
 
@@ -18,14 +20,8 @@ abbrev μ-loop : tie.MeasureT-loop
 loop-holds : tie.Need-loop-holds Inv-loop μ-loop
 loop-holds c = (refl, refl, refl)
 
-shared-slice-read-take : tie.Need-shared-slice-read-take Inv-loop μ-loop
-shared-slice-read-take c = search needs
-
-take-requires : tie.Need-take-requires Inv-loop μ-loop
-take-requires c κs = search needs
-
-add-i : tie.Need-add-i Inv-loop μ-loop
-add-i c = search needs
+take-some-requires : tie.Need-take-some-requires Inv-loop μ-loop
+take-some-requires c κs = search needs
 
 is-more-requires : tie.Need-is-more-requires Inv-loop μ-loop
 is-more-requires c κs = search needs
@@ -37,13 +33,13 @@ same-length-2 : tie.Need-same-length-2 Inv-loop μ-loop
 same-length-2 c = search needs
 
 returns : tie.Need-returns Inv-loop μ-loop
-returns c = rw (← c .before .before .before .before .before .before .before .before .before .before .before .before .loop .inv .2) (code-stops _ _ _ _ _ (c .before .before .before .before .before .before .before .before .before .before .before .loop-test .taken) _ _ _ (c .before .before .before .before .before .before .before .take .ensures) _ (c .before .is-more .ensures) (not-true _ (c .if1 .taken)))
+returns c = rw (← c .before .before .before .before .before .before .before .before .before .before .loop .inv .2) (code-stops _ _ _ _ _ _ _ _ (c .before .before .before .before .before .before .take-some .ensures) _ (c .before .is-more .ensures) (not-true _ (c .if1 .taken)))
 
 loop-less : tie.Need-loop-less Inv-loop μ-loop
-loop-less c = search needs
+loop-less c = let z = c .before .before .before .before .before .before .before .take-some .ensures .past in omega arith
 
 loop-again : tie.Need-loop-again Inv-loop μ-loop
-loop-again c = (search needs, search needs, sym (code-goes-on _ _ _ _ _ (c .before .before .before .before .before .before .before .before .before .before .before .loop-test .taken) _ _ _ (c .before .before .before .before .before .before .before .take .ensures) _ (c .before .is-more .ensures) (not-false _ (c .if1 .left))) ∙ c .before .before .before .before .before .before .before .before .before .before .before .before .loop .inv .2)
+loop-again c = (search needs, search needs, code-goes-on _ _ _ _ _ _ _ _ (c .before .before .before .before .before .before .before .take-some .ensures) _ (c .before .before .is-more .ensures) (not-false _ (c .before .if1 .left)) ∙ c .before .before .before .before .before .before .before .before .before .before .before .loop .inv .2)
 
 same-length-3 : tie.Need-same-length-3 Inv-loop μ-loop
 same-length-3 c = search needs
@@ -61,9 +57,7 @@ advance-spec =
     Inv-loop
     μ-loop
     loop-holds
-    shared-slice-read-take
-    take-requires
-    add-i
+    take-some-requires
     is-more-requires
     same-length
     same-length-2
