@@ -3,7 +3,7 @@ ghost use mathlib.Core.Path.{_≡_};
 ghost use Rattle.rules.specs.Level.{equals, flowsTo, flowsFrom};
 ghost use mathlib.Core.Bool.{false};
 ghost use mathlib.Core.List.{[]};
-ghost use Prim.Native.Nat.{_≤_, min};
+ghost use Prim.Native.Nat.{min};
 ghost use lib.ListN.{getD};
 ghost use Rattle.rules.specs.Words.{tabFrom};
 ghost use Rattle.rules.specs.Layout.{maxCells, configuration, levelOf, flowMatrix};
