@@ -2,12 +2,12 @@
 use mathlib.Core.Bool.{Bool, true, false}
 use mathlib.Core.List.{List, [], _∷_}
 use mathlib.Core.Path.{_≡_, refl, sym, ap, _∙_}
-use Prim.Native.Nat.{ℕ, suc, _+_, _-_, _<_, _≤_, min}
+use Prim.Native.Nat.{ℕ, suc, _+_, _-_, _<_, _≤_}
 use native.Mathlib.Omega.{arith}
 use native.Mathlib.Numerals.{add-one}
 use lib.Dec.{ltb}
 use lib.ListN.{getD, set, take as firsts, drop, length, length-take, length-drop, take-append-drop}
-use lib.Seq.{sets, drop-cons, drop-drop}
+use lib.Seq.{sets, take-all, drop-cons, drop-drop}
 use borrow.Author.Tests.{lt-ltb, le-ltb}
 use Rattle.laws.proofs.Tests.{split}
 use Rattle.number.specs.declared.Part.{Part}
@@ -24,7 +24,7 @@ use Rattle.script.specs.declared.Moved.{Moved}
 use Rattle.script.specs.declared.What.the-variants.{More, Call}
 use Rattle.script.specs.Take.{isMore, isBytes, onward, further, bytesLeft, withPart, atCall, took, fedTook, fedTable, Read, read, numberRead, byteTook, takeAt, take}
 use Rattle.script.specs.Advance.{Advanced, advanced, stopped, advance, resumed, Advances, Goes}
-use Rattle.script.proofs.Piece.{goes-on, stops, ends, going-resumed, stopped-resumed, cut}
+use Rattle.script.proofs.Piece.{goes-on, stops, ends, code-ends, going-resumed, stopped-resumed, cut}
 
 -- ---- one byte, and what is left of the piece
 one-byte : (r : Reader) (t l : List ℕ) (b : ℕ) (s : List ℕ) (i : ℕ) → advance r t l (b ∷ s) i ≡ resumed (stopped (take r t l b) (i + 1) []) s
@@ -145,45 +145,50 @@ all-bytes r t l b (b′ ∷ s) i n h =
     ∙ ap (λ (a : ℕ). callAt r t a (sets m (r .field + 1) (b′ ∷ s))) (let z : i + 1 + k ≡ i + suc k = omega arith in z)
     ∙ ap (λ (a : ℕ). callAt r t (i + suc k) (sets m a (b′ ∷ s))) (add-one (r .field))
 
--- the first n bytes of what is left of the piece, as the code has them
-piece-goes : (r : Reader) (t l s : List ℕ) (i n : ℕ) (m : Moved) (l′ : List ℕ) → 0 < n → m .next ≡ i + n
-    → advance r t l (firsts n (drop i s)) i ≡ record { moved = m; rest = []; table = t; buffer = l′ }
-    → Goes r t l s i m t l′
-piece-goes r t l s i n m l′ h e p =
-    record {
-      past = omega arith;
-      same =
-          ap (λ (x : List ℕ). advance r t l x i) (sym (take-append-drop n (drop i s)))
-          ∙ cut r t l (firsts n (drop i s)) (drop n (drop i s)) i
-          ∙ ap (λ (x : Advanced). resumed x (drop n (drop i s))) p
-          ∙ ap (resumed (record { moved = m; rest = []; table = t; buffer = l′ })) (drop-drop n i s ∙ ap (λ (k : ℕ). drop k s) (sym e));
-    }
-
-module _ (r : Reader) (t l s : List ℕ) (i left n : ℕ) (b : isBytes (r .stage) ≡ true) (h : i < length s) (o : left ≡ bytesLeft r) (e : n ≡ min left (length s - i)) (l′ : List ℕ) (at : ℕ) (p : l′ ≡ sets l at (firsts (i + n - i) (drop i s))) (f : at ≡ r .field) where
-  some : 0 < n
-  some = omega arith
-
-  long : length (firsts n (drop i s)) ≡ n
-  long = length-take n (drop i s) ∙ (let z = length-drop i s in omega arith)
-
-  stored : sets l (r .field) (firsts n (drop i s)) ≡ l′
-  stored =
-      sym
-      (p
-      ∙ ap (λ (a : ℕ). sets l a (firsts (i + n - i) (drop i s))) f
-      ∙ ap (λ (k : ℕ). sets l (r .field) (firsts k (drop i s))) (let z : i + n - i ≡ n = omega arith in z))
-
-  pub code-more-bytes : n < left → Goes r t l s i (record { what = More; reader = further r n; next = i + n }) t l′
-  code-more-bytes w = piece-goes r t l s i n _ l′ some refl (go (firsts n (drop i s)) long ∙ ap (moreAt r t (r .field + n) (i + n)) stored)
+-- as the code has it
+module _ (r : Reader) (t l s : List ℕ) (i left : ℕ) (b : isBytes (r .stage) ≡ true) (h : i < length s) (o : left ≡ bytesLeft r) (at : ℕ) (f : at ≡ r .field) (l′ : List ℕ) where
+  -- the piece ends before the buffer
+  pub code-more-bytes : length s - i < left → l′ ≡ sets l at (firsts (length s - i) (drop i s))
+      → Goes r t l s i (record { what = More; reader = further r (length s - i); next = length s }) t l′
+  code-more-bytes w p =
+      record {
+        past = h;
+        same =
+            go (drop i s) (length-drop i s)
+            ∙ ap (moreAt r t (r .field + (length s - i)) (length s)) (sym (p ∙ ap (λ (a : ℕ). sets l a (firsts (length s - i) (drop i s))) f ∙ ap (sets l (r .field)) (take-all (length s - i) (drop i s) (let z = length-drop i s in omega arith))))
+            ∙ sym
+            (going-resumed (moreAt r t (r .field + (length s - i)) (length s) l′) (drop (length s) s) refl
+            ∙ code-ends (further r (length s - i)) t l′ s (length s) (omega arith));
+      }
     where
-      go : (x : List ℕ) → length x ≡ n → advance r t l x i ≡ moreAt r t (r .field + n) (i + n) (sets l (r .field) x)
+      go : (x : List ℕ) → length x ≡ length s - i → advance r t l x i ≡ moreAt r t (r .field + (length s - i)) (length s) (sets l (r .field) x)
       go [] z = absurd (omega arith)
-      go (a ∷ x) z = rw (← z) (more-bytes r t l a x i b (omega arith))
+      go (a ∷ x) z =
+          more-bytes r t l a x i b (omega arith)
+          ∙ ap (λ (k : ℕ). moreAt r t (r .field + k) (i + suc (length x)) (sets l (r .field) (a ∷ x))) z
+          ∙ ap (λ (k : ℕ). moreAt r t (r .field + (length s - i)) k (sets l (r .field) (a ∷ x))) (let e : i + suc (length x) ≡ length s = omega arith in e)
 
-  pub code-all-bytes : left ≤ n → Goes r t l s i (record { what = Call; reader = atCall (r .nums); next = i + n }) t l′
-  code-all-bytes w = piece-goes r t l s i n _ l′ some refl (go (firsts n (drop i s)) long ∙ ap (callAt r t (i + n)) stored)
+  -- it does not
+  pub code-all-bytes : left ≤ length s - i → l′ ≡ sets l at (firsts (i + left - i) (drop i s))
+      → Goes r t l s i (record { what = Call; reader = atCall (r .nums); next = i + left }) t l′
+  code-all-bytes w p =
+      record {
+        past = omega arith;
+        same =
+            ap (λ (x : List ℕ). advance r t l x i) (sym (take-append-drop left (drop i s)))
+            ∙ cut r t l (firsts left (drop i s)) (drop left (drop i s)) i
+            ∙ ap (λ (x : Advanced). resumed x (drop left (drop i s)))
+            (go (firsts left (drop i s)) (length-take left (drop i s) ∙ (let z = length-drop i s in omega arith)) ∙ ap (callAt r t (i + left)) (sym stored))
+            ∙ ap (resumed (callAt r t (i + left) l′)) (drop-drop left i s);
+      }
     where
-      go : (x : List ℕ) → length x ≡ n → advance r t l x i ≡ callAt r t (i + n) (sets l (r .field) x)
+      stored : l′ ≡ sets l (r .field) (firsts left (drop i s))
+      stored =
+          p
+          ∙ ap (λ (a : ℕ). sets l a (firsts (i + left - i) (drop i s))) f
+          ∙ ap (λ (k : ℕ). sets l (r .field) (firsts k (drop i s))) (let z : i + left - i ≡ left = omega arith in z)
+
+      go : (x : List ℕ) → length x ≡ left → advance r t l x i ≡ callAt r t (i + left) (sets l (r .field) x)
       go [] z = absurd (omega arith)
       go (a ∷ x) z = rw (← z) (all-bytes r t l a x i b (omega arith))
 

@@ -3,7 +3,7 @@
 ghost use mathlib.Core.Bool.{true, false};
 ghost use mathlib.Core.List.{List};
 ghost use mathlib.Core.Path.{_≡_};
-ghost use Prim.Native.Nat.{ℕ, _+_, _<_, _≤_, min};
+ghost use Prim.Native.Nat.{ℕ, _+_, _<_, _≤_};
 ghost use lib.ListN.{drop, length, set};
 ghost use Rattle.script.specs.Take.{awaiting as awaitingAt, newReader, isMore, isBytes, isCalling, isBetween, onward, further, keptNums, keptTable, headerEnded, numbersEnded, ended, numbered, withPart, fedTook, fedTable, bytesLeft};
 ghost use Rattle.script.specs.Advance.{advance, Advances, Goes};
@@ -66,12 +66,6 @@ fn is_more(what: What) -> bool
         What::Call => false,
         What::Fault => false,
     }
-}
-
-fn least(a: usize, b: usize) -> usize
-    ensures { λ r. ⌜ r ≡ min a b ⌝ }
-{
-    if a < b { a } else { b }
 }
 
 // A reader at the first number or byte of a stage.
@@ -341,23 +335,25 @@ impl Reader {
         requires { ⌜ (isBytes (self .stage) ≡ true) × (from < length (now s)) ⌝ }
         ensures { λ m. ⌜ ((t : List ℕ) → Goes self t (now (buf .entry)) (now (s .entry)) from m t (now (buf .exit))) ⌝ }
     {
+        let at = words::wide(self.field);
         let left = self.bytes_left();
-        let n = least(left, s.len() - from);
-        words::put_bytes(buf, words::wide(self.field), &s[from..from + n]);
-        if n < left {
-            let reader = self.further(n);
+        let ahead = s.len() - from;
+        if ahead < left {
+            words::put_bytes(buf, at, &s[from..]);
+            let reader = self.further(ahead);
             return Moved {
                 what: What::More,
                 reader,
-                next: from + n,
+                next: s.len(),
             };
         }
+        words::put_bytes(buf, at, &s[from..from + left]);
         let nums = self.nums;
         let reader = awaiting(Stage::Numbers, LAST_OF_CALL, nums);
         Moved {
             what: What::Call,
             reader,
-            next: from + n,
+            next: from + left,
         }
     }
 

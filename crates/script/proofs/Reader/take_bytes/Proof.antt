@@ -1,23 +1,17 @@
--- `script::Reader::take_bytes` meets its contract: the buffer is left before its end, or at it.
+-- `script::Reader::take_bytes` meets its contract: the piece ends before the buffer, or not.
 use Rattle.script.proofs.Stretch.{code-more-bytes, code-all-bytes}
 use borrow.Author.Needs.{needs}
 use Rattle.script.proofs.Reader.take_bytes.Statement.{statement}
 use Rattle.script.proofs.Reader.take_bytes.Tie as tie
 
-bytes-left-requires : tie.Need-bytes-left-requires
-bytes-left-requires c κs = search needs
-
-sub-least : tie.Need-sub-least
-sub-least c = search needs
-
-least-requires : tie.Need-least-requires
-least-requires c κs = search needs
-
 wide-requires : tie.Need-wide-requires
 wide-requires c κs = search needs
 
-add-put-bytes : tie.Need-add-put-bytes
-add-put-bytes c = search needs
+bytes-left-requires : tie.Need-bytes-left-requires
+bytes-left-requires c κs = search needs
+
+sub-ahead : tie.Need-sub-ahead
+sub-ahead c = search needs
 
 sub-put-bytes : tie.Need-sub-put-bytes
 sub-put-bytes c = search needs
@@ -34,45 +28,59 @@ put-bytes-requires c κs = search needs
 further-requires : tie.Need-further-requires
 further-requires c κs = search needs
 
-add-t21 : tie.Need-add-t21
-add-t21 c = search needs
-
 same-length : tie.Need-same-length
 same-length c = search needs
 
 returns : tie.Need-returns
-returns c = λ t. rw (c .further .ensures) (code-more-bytes _ t _ _ _ _ _ (c .before .before .before .before .before .before .before .before .before .before .before .before .pre .0) (c .before .before .before .before .before .before .before .before .before .before .before .before .pre .1) (c .before .before .before .before .before .before .before .before .before .bytes-left .ensures) (c .before .before .before .before .before .before .before .before .least .ensures) _ _ (c .before .before .before .before .put-bytes .ensures) (c .before .before .before .before .before .before .wide .ensures) (c .before .if1 .taken))
+returns c = λ t. rw (c .further .ensures) (code-more-bytes _ t _ _ _ _ (c .before .before .before .before .before .before .before .before .before .before .before .pre .0) (c .before .before .before .before .before .before .before .before .before .before .before .pre .1) (c .before .before .before .before .before .before .before .bytes-left .ensures) _ (c .before .before .before .before .before .before .before .before .wide .ensures) _ (c .before .before .before .before .before .before .if1 .taken) (c .before .before .before .put-bytes .ensures))
+
+add-put-bytes : tie.Need-add-put-bytes
+add-put-bytes c = search needs
+
+sub-put-bytes-2 : tie.Need-sub-put-bytes-2
+sub-put-bytes-2 c = search needs
+
+part-put-bytes-start-2 : tie.Need-part-put-bytes-start-2
+part-put-bytes-start-2 c = search needs
+
+part-put-bytes-end-2 : tie.Need-part-put-bytes-end-2
+part-put-bytes-end-2 c = search needs
+
+put-bytes-requires-2 : tie.Need-put-bytes-requires-2
+put-bytes-requires-2 c κs = search needs
 
 awaiting-requires : tie.Need-awaiting-requires
 awaiting-requires c κs = search needs
 
-add-t10 : tie.Need-add-t10
-add-t10 c = search needs
+add-t11 : tie.Need-add-t11
+add-t11 c = search needs
 
 same-length-2 : tie.Need-same-length-2
 same-length-2 c = search needs
 
 returns-2 : tie.Need-returns-2
-returns-2 c = λ t. rw (c .awaiting .ensures) (code-all-bytes _ t _ _ _ _ _ (c .before .before .before .before .before .before .before .before .before .before .before .before .before .pre .0) (c .before .before .before .before .before .before .before .before .before .before .before .before .before .pre .1) (c .before .before .before .before .before .before .before .before .before .before .bytes-left .ensures) (c .before .before .before .before .before .before .before .before .before .least .ensures) _ _ (c .before .before .before .before .before .put-bytes .ensures) (c .before .before .before .before .before .before .before .wide .ensures) (c .before .before .if1 .left))
+returns-2 c = λ t. rw (c .awaiting .ensures) (code-all-bytes _ t _ _ _ _ (c .before .before .before .before .before .before .before .before .before .before .before .before .pre .0) (c .before .before .before .before .before .before .before .before .before .before .before .before .pre .1) (c .before .before .before .before .before .before .before .before .bytes-left .ensures) _ (c .before .before .before .before .before .before .before .before .before .wide .ensures) _ (c .before .before .before .before .before .before .before .if1 .left) (c .before .before .before .before .put-bytes2 .ensures))
 
 pub take-bytes-spec : {M : Type 1} → statement M
 take-bytes-spec =
     tie.close
     (tie.spec
-    bytes-left-requires
-    sub-least
-    least-requires
     wide-requires
-    add-put-bytes
+    bytes-left-requires
+    sub-ahead
     sub-put-bytes
     part-put-bytes-start
     part-put-bytes-end
     put-bytes-requires
     further-requires
-    add-t21
     same-length
     returns
+    add-put-bytes
+    sub-put-bytes-2
+    part-put-bytes-start-2
+    part-put-bytes-end-2
+    put-bytes-requires-2
     awaiting-requires
-    add-t10
+    add-t11
     same-length-2
     returns-2)
