@@ -27,6 +27,7 @@ use Rattle.laws.proofs.Shape.{file-record, descriptor}
 use Rattle.modes.specs.Clash.{clashOf}
 use Rattle.modes.proofs.Numbers.{clash-valid}
 use Rattle.ids.specs.Seid.{seidOf}
+use Rattle.ids.proofs.Parts.{seid-fits}
 use Rattle.calls.specs.declared.Answer.{Answer}
 use Rattle.calls.specs.declared.World.{World}
 use Rattle.calls.specs.World.{offsetBy, rdBy, Known, Sound, firstBy, freedAt}
@@ -38,7 +39,7 @@ use Rattle.calls.proofs.Named.{Is}
 use Rattle.calls.proofs.Entries.{not-chosen}
 use Rattle.calls.proofs.Given.{a-file, freed-is}
 use Rattle.calls.proofs.Holders.{made-is, entered-is, taken-is, one-fits}
-use Rattle.calls.proofs.Finds.{self-fits, self-formed}
+use Rattle.calls.proofs.Finds.{self-formed}
 
 -- ---- rules that are one, and choices of numbers
 
@@ -198,7 +199,7 @@ module _ {t : List ℕ} {w : World} (known : Known t w) (f d a b : ℕ) where
     serial-is = ne ∙ see known (at file f serial)
 
     pub made-seid : s ≡ seid (class file) f (rd (configuration t) t (at file f serial) + 1)
-    made-seid = se ∙ self-fits (class file) f (n + 1) (omega arith) small (omega (arith, serial-is)) ∙ rw serial-is
+    made-seid = se ∙ seid-fits (class file) f (n + 1) (omega arith) small (omega (arith, serial-is)) ∙ rw serial-is
 
     pub made-words : {o y place : ℕ} {t1 t2 : List ℕ} → o ≡ offsetBy w (at file f 0) → t1 ≡ madeAt t o (n + 1) u g a 0 0 → y ≡ d
         → place ≡ offsetBy w (at process (w .me) (8 + 2 * y)) → t2 ≡ set (set t1 place s) (place + 1) b

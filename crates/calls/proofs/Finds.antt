@@ -6,9 +6,9 @@ use Prim.Native.Nat.{ℕ, _≤_, _<_}
 use native.Mathlib.Omega.{arith}
 use lib.Dec.{eqb, ltb, leb}
 use lib.ListN.{getD}
-use borrow.Author.Tests.{ne-eqb, lt-ltb, le-leb}
+use borrow.Author.Tests.{ne-eqb}
 use Rattle.rules.specs.Layout.{maxSerial, Kind, process, segment, file, configuration, cellOf, slots, flowMatrix, Addr, at, rd, live, serial, owner, group, bits}
-use Rattle.rules.specs.Seid.{class, seid, indexOf, serialOf, isSeid, formed, seidAt, orSelf, present}
+use Rattle.rules.specs.Seid.{class, indexOf, serialOf, isSeid, formed, seidAt, orSelf, present}
 use Rattle.rules.specs.Rights.{rights}
 use Rattle.rules.specs.Rule.{Refusal, firstRefusal}
 use Rattle.rules.specs.Find.{absent, inOwnCell, flowsToCaller, find, own, rightsAt}
@@ -16,6 +16,7 @@ use Rattle.laws.proofs.Seids.{Formed, is-formed, class-pos, class-some}
 use Rattle.laws.proofs.Shape.{process-record}
 use Rattle.levels.proofs.Cells.{matrix-any}
 use Rattle.ids.specs.Seid.{seidOf}
+use Rattle.ids.proofs.Parts.{seid-fits}
 use Rattle.calls.specs.declared.World.{World}
 use Rattle.calls.specs.World.{rdBy, Known, Sound}
 use Rattle.calls.specs.Finds.{findPast, ownPast}
@@ -93,9 +94,6 @@ module _ {t : List ℕ} {w : World} (known : Known t w) where
 
 -- ---- the calling process for seid 0
 
-pub self-fits : (c i s : ℕ) → c < 256 → i < 256 → s ≤ maxSerial → seidOf c i s ≡ seid c i s
-self-fits c i s p q r = rw (lt-ltb c 256 p, lt-ltb i 256 q, le-leb s maxSerial r)
-
 pub self-told : {t : List ℕ} {w : World} → Sound t w → (a : ℕ) {s x r : ℕ} → s ≡ rdBy w t (at process (w .me) serial) → x ≡ seidOf (class process) (w .me) s → r ≡ cond (eqb a 0) x a
     → r ≡ orSelf (rd (configuration t) t) (w .me) a
 unfolding orSelf seidAt
@@ -104,7 +102,7 @@ self-told {t} {w} sound a {s} se xe re =
     let p = process-record (configuration t) (rd (configuration t) t) (sound .records) (w .me) (sound .caller) in
     let l : s ≤ maxSerial = omega (arith, p .serial-fits) in
     let q : w .me < 256 = omega (arith, shape (sound .known) .few process, sound .caller) in
-    rw (re, xe, self-fits (class process) (w .me) s (omega arith) q l, e)
+    rw (re, xe, seid-fits (class process) (w .me) s (omega arith) q l, e)
 
 -- a seid in its form is not 0, and so is itself
 pub self-formed : (r : Addr → ℕ) (p : ℕ) (k : Kind) (n s : ℕ) → isSeid (class k) n s ≡ true → orSelf r p s ≡ s
