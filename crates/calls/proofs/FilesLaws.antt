@@ -27,7 +27,6 @@ use Rattle.laws.proofs.Shape.{file-record, descriptor}
 use Rattle.modes.specs.Clash.{clashOf}
 use Rattle.modes.proofs.Numbers.{clash-valid}
 use Rattle.ids.specs.Seid.{seidOf}
-use Rattle.ids.proofs.Parts.{seid-fits}
 use Rattle.calls.specs.declared.Answer.{Answer}
 use Rattle.calls.specs.declared.World.{World}
 use Rattle.calls.specs.World.{offsetBy, rdBy, Known, Sound, firstBy, freedAt}
@@ -40,6 +39,7 @@ use Rattle.calls.proofs.Entries.{not-chosen}
 use Rattle.calls.proofs.Given.{a-file, freed-is}
 use Rattle.calls.proofs.Holders.{made-is, entered-is, taken-is, one-fits}
 use Rattle.calls.proofs.Finds.{self-formed}
+use Rattle.calls.proofs.Room.{made-seid}
 
 -- ---- rules that are one, and choices of numbers
 
@@ -198,15 +198,12 @@ module _ {t : List ℕ} {w : World} (known : Known t w) (f d a b : ℕ) where
     serial-is : n ≡ rd (configuration t) t (at file f serial)
     serial-is = ne ∙ see known (at file f serial)
 
-    pub made-seid : s ≡ seid (class file) f (rd (configuration t) t (at file f serial) + 1)
-    made-seid = se ∙ seid-fits (class file) f (n + 1) (omega arith) small (omega (arith, serial-is)) ∙ rw serial-is
-
     pub made-words : {o y place : ℕ} {t1 t2 : List ℕ} → o ≡ offsetBy w (at file f 0) → t1 ≡ madeAt t o (n + 1) u g a 0 0 → y ≡ d
         → place ≡ offsetBy w (at process (w .me) (8 + 2 * y)) → t2 ≡ set (set t1 place s) (place + 1) b
         → t2 ≡ write (configuration t) t (created (rd (configuration t) t) (w .me) a f (rd (configuration t) t (at file f serial) + 1) ++ entered file (w .me) d (seid (class file) f (rd (configuration t) t (at file f serial) + 1)) b)
     made-words {y = y} oe e1 ye pe e2 =
         e2
-        ∙ rw (e1, oe, pe, made-seid, serial-is, ue, ge, see known (at process (w .me) owner), see known (at process (w .me) group), spot known (at file f 0), spot known (at process (w .me) (8 + 2 * y)), ye)
+        ∙ rw (e1, oe, pe, made-seid known file small room ne se, serial-is, ue, ge, see known (at process (w .me) owner), see known (at process (w .me) group), spot known (at file f 0), spot known (at process (w .me) (8 + 2 * y)), ye)
         (sym (made-is (configuration t) t file f (rd (configuration t) t (at file f serial) + 1) (rd (configuration t) t (at process (w .me) owner)) (rd (configuration t) t (at process (w .me) group)) a 0 0
         (entered file (w .me) d (seid (class file) f (rd (configuration t) t (at file f serial) + 1)) b)
         ∙ entered-is (configuration t)

@@ -1,4 +1,4 @@
--- Room: the code's searches for a free slot and an empty entry are the rule's, over the kind.
+-- Room: the code's searches for a free slot and an empty entry are the rule's, over the kind, and so is a new object's seid.
 use mathlib.Core.Path.{_≡_, refl, sym, ap, _∙_}
 use mathlib.Core.Bool.{Bool, true, false, _&&_}
 use mathlib.Core.List.{List}
@@ -10,6 +10,7 @@ use borrow.Author.Tests.{leb-false, ltb-true}
 use lib.ListN.{getD}
 use Rattle.rules.specs.Words.{sumBelow, lowest}
 use Rattle.rules.specs.Layout.{maxSlots, maxSerial, Kind, process, segment, file, headerWords, cellWords, recordWords, configuration, cells, slots, cellWord, cellSlots, cellSlotsWord, firstSlot, cellOf, Addr, at, offset, rd, heldAt, entries, live, serial}
+use Rattle.rules.specs.Seid.{class, seid}
 use Rattle.rules.specs.Find.{freeSlot, freeEntry}
 use Rattle.laws.proofs.Search.{lowest-same, lowest-hit}
 use Rattle.laws.proofs.Tests.{and-right}
@@ -17,9 +18,11 @@ use Rattle.laws.proofs.Cells.{run-end}
 use Rattle.laws.proofs.Below.{sum-more, sum-grows}
 use Rattle.laws.proofs.Places.{conf-cells, conf-cell}
 use Rattle.laws.proofs.Shape.{in-run}
+use Rattle.ids.specs.Seid.{seidOf}
+use Rattle.ids.proofs.Parts.{seid-fits}
 use Rattle.calls.specs.declared.World.{World}
 use Rattle.calls.specs.World.{baseBy, offsetBy, rdBy, Known, Sound, firstBy, freeTest, freeAt, emptyTest, emptyAt}
-use Rattle.calls.proofs.Worlds.{spot, shape, cells-is, home-is, first-by-kind, kind-word}
+use Rattle.calls.proofs.Worlds.{spot, see, shape, cells-is, home-is, first-by-kind, kind-word}
 use Rattle.calls.proofs.Given.{Thing, a-segment, a-file}
 
 -- ---- cells
@@ -108,3 +111,22 @@ module _ {t : List ℕ} {w : World} (sound : Sound t w) (k : Kind) where
       let home = in-run (configuration t) (shape (sound .known)) process (w .me) (sound .caller) in
       let e = run-end (configuration t) k c (home .0) in
       (omega (arith, shape (sound .known) .sums k), ltb-true _ maxSerial good)
+
+-- ---- the seid of a new object: x is the serial that the code has read at slot g, s the seid that it has made
+
+class-small : (k : Kind) → class k < 256
+class-small process = omega arith
+class-small segment = omega arith
+class-small file = omega arith
+
+pub made-seid : {t : List ℕ} {w : World} → Known t w → (k : Kind) {g x s : ℕ} → g < 256 → rd (configuration t) t (at k g serial) < maxSerial
+    → x ≡ rdBy w t (at k g serial) → s ≡ seidOf (class k) g (x + 1) → s ≡ seid (class k) g (rd (configuration t) t (at k g serial) + 1)
+made-seid {t} known k {g} {x} small room xe se =
+    let e : x ≡ rd (configuration t) t (at k g serial) = xe ∙ see known (at k g serial) in
+    se ∙ seid-fits (class k) g (x + 1) (class-small k) small (omega arith) ∙ rw e
+
+-- at a slot that was found
+pub new-seid : {t : List ℕ} {w : World} → Sound t w → (k : Kind) {g x s : ℕ} → (g < slots (configuration t) k) × (rd (configuration t) t (at k g serial) < maxSerial)
+    → x ≡ rdBy w t (at k g serial) → s ≡ seidOf (class k) g (x + 1) → (x < maxSerial) × (s ≡ seid (class k) g (rd (configuration t) t (at k g serial) + 1))
+new-seid sound k {g} found xe se =
+    (omega (arith, found .1, xe, see (sound .known) (at k g serial)), made-seid (sound .known) k (omega (arith, found .0, shape (sound .known) .few k)) (found .1) xe se)

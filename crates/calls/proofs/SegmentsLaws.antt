@@ -5,11 +5,9 @@ use mathlib.Core.List.{List, _∷_}
 use Prim.Native.Nat.{ℕ, _+_, _*_, _≤_, _<_}
 use native.Mathlib.Omega.{arith}
 use lib.Dec.{leb, eqb}
-use Rattle.rules.specs.Layout.{maxSlots, maxSerial, cellWords, cellSlotsWord, Kind, process, segment, file, configuration, slots, cells, at, offset, rd, live, serial, owner, group, entries, usedAt}
-use Rattle.rules.specs.Seid.{class, seid}
+use Rattle.rules.specs.Layout.{maxSlots, cellWords, cellSlotsWord, Kind, process, segment, configuration, cells, at, offset, rd, live, serial, owner, group, entries, usedAt}
 use Rattle.rules.specs.Rule.{Word, _≔_, write}
-use Rattle.ids.proofs.Parts.{seid-fits}
-use Rattle.ids.specs.Seid.{segmentOf, seidOf}
+use Rattle.ids.specs.Seid.{segmentOf}
 use Rattle.ids.specs.declared.SegmentIs.{SegmentIs}
 use Rattle.ids.specs.declared.SegmentIs.the-variants.{Is}
 use Rattle.calls.specs.declared.World.{World}
@@ -17,7 +15,7 @@ use Rattle.calls.specs.declared.segments.Segment.{Segment}
 use Rattle.calls.specs.World.{rdBy, Known, Sound, firstBy}
 use Rattle.calls.specs.Finds.{fourAt}
 use Rattle.calls.specs.Seen.{seenSegment}
-use Rattle.calls.proofs.Worlds.{see, shape, kind-word}
+use Rattle.calls.proofs.Worlds.{see, kind-word}
 use Rattle.calls.proofs.Entries.{segment-form}
 use Rattle.calls.proofs.Room.{home-in}
 
@@ -38,20 +36,7 @@ pub used-word : {t : List ℕ} {w : World} → Known t w → (p a : ℕ) {y u : 
     → u ≡ rd (configuration t) t (at process p (usedAt segment a))
 used-word k p a {y} same read = read ∙ see k (at process p (41 + 2 * y)) ∙ rw same
 
--- ---- a new object's slot and its seid
-
-class-small : (k : Kind) → class k < 256
-class-small process = omega arith
-class-small segment = omega arith
-class-small file = omega arith
-
--- x is the serial that the code has read, s the seid that it has made
-pub made-seid : {t : List ℕ} {w : World} → Sound t w → (k : Kind) {g x s : ℕ} → (g < slots (configuration t) k) × (rd (configuration t) t (at k g serial) < maxSerial)
-    → x ≡ rdBy w t (at k g serial) → s ≡ seidOf (class k) g (x + 1) → (x < maxSerial) × (s ≡ seid (class k) g (rd (configuration t) t (at k g serial) + 1))
-made-seid {t} {w} sound k {g} {x} {s} new xe se =
-    let e : x ≡ rd (configuration t) t (at k g serial) = xe ∙ see (sound .known) (at k g serial) in
-    let l : g < 256 = omega (arith, new .0, shape (sound .known) .few k) in
-    (omega (arith, new .1), se ∙ seid-fits (class k) g (x + 1) (class-small k) l (omega (arith, new .1)) ∙ rw e)
+-- ---- a new object's slot
 
 -- four words of a record
 pub four-is : (h t : List ℕ) (k : Kind) (i a b c d : ℕ) (ws : List Word)

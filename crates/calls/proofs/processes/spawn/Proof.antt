@@ -18,8 +18,8 @@ use Rattle.calls.specs.World.{offsetBy, rdBy, Sound}
 use Rattle.calls.specs.Finds.{fourAt}
 use Rattle.calls.proofs.Worlds.{see, spot}
 use Rattle.calls.proofs.Entries.{not-chosen}
-use Rattle.calls.proofs.Room.{slot-told, end-told, free-ok}
-use Rattle.calls.proofs.SegmentsLaws.{made-seid, four-is, searching}
+use Rattle.calls.proofs.Room.{slot-told, end-told, free-ok, new-seid}
+use Rattle.calls.proofs.SegmentsLaws.{four-is, searching}
 use native.Mathlib.Omega.{arith}
 use borrow.Author.Needs.{needs}
 use Rattle.calls.proofs.processes.spawn.Statement.{statement}
@@ -47,7 +47,7 @@ module _ {t : List ℕ} {w : World} (sound : Sound t w) (a b : ℕ) (buffer : Li
   module _ (z : e ≡ 0) {x : ℕ} (xe : x ≡ rdBy w t (at process q serial)) where
     result : {s : ℕ} → s ≡ seidOf (class process) q (x + 1) → s ≡ ruleAt t (λ h r. spawn h r (w .me) a b buffer) .effects .first
     unfolding spawn
-    result se = made-seid sound process (room z) xe se .1 ∙ rw qe
+    result se = new-seid sound process (room z) xe se .1 ∙ rw qe
 
     words : {p place : ℕ} {t₁ t₂ : List ℕ} → p ≡ orSelf (rd (configuration t) t) (w .me) 0 → place ≡ offsetBy w (at process q 0) → t₁ ≡ fourAt t place 1 (x + 1) a b
         → t₂ ≡ set t₁ (offsetBy w (at process q parent)) p → t₂ ≡ write (configuration t) t (ruleAt t (λ h r. spawn h r (w .me) a b buffer) .effects .words)
@@ -99,7 +99,7 @@ in-process-requires-3 : tie.Need-in-process-requires-3
 in-process-requires-3 c κs = search needs
 
 add-serial : tie.Need-add-serial
-add-serial c = record { fits = omega (arith, made-seid (c .before .before .before .before .before .before .before .before .before .before .before .before .before .before .before .before .before .before .pre) process (room (c .before .before .before .before .before .before .before .before .before .before .before .before .before .before .before .before .before .before .pre) _ _ [] (c .before .before .before .before .before .before .before .before .before .before .before .before .before .before .before .in-process .ensures) (c .before .before .before .before .before .before .before .before .before .before .before .before .before .in-process2 .ensures) (slot-told (c .before .before .before .before .before .before .before .before .before .before .before .before .before .before .before .before .before .before .pre .known) process (c .before .before .before .before .before .before .before .before .before .before .before .process-base .ensures .0) refl (c .before .before .before .before .before .before .before .before .before .before .free-slot .ensures)) (end-told (c .before .before .before .before .before .before .before .before .before .before .before .before .before .before .before .before .before .before .pre .known) process (c .before .before .before .before .before .before .before .before .run-end .ensures)) (c .before .before .before .before .before .before .before .first .ensures) (c .before .before .before .before .before .before .first2 .ensures) (c .before .before .before .before .before .first3 .ensures) (c .before .before .before .before .if1 .left)) (c .in-process3 .ensures) refl .0) }
+add-serial c = record { fits = omega (arith, new-seid (c .before .before .before .before .before .before .before .before .before .before .before .before .before .before .before .before .before .before .pre) process (room (c .before .before .before .before .before .before .before .before .before .before .before .before .before .before .before .before .before .before .pre) _ _ [] (c .before .before .before .before .before .before .before .before .before .before .before .before .before .before .before .in-process .ensures) (c .before .before .before .before .before .before .before .before .before .before .before .before .before .in-process2 .ensures) (slot-told (c .before .before .before .before .before .before .before .before .before .before .before .before .before .before .before .before .before .before .pre .known) process (c .before .before .before .before .before .before .before .before .before .before .before .process-base .ensures .0) refl (c .before .before .before .before .before .before .before .before .before .before .free-slot .ensures)) (end-told (c .before .before .before .before .before .before .before .before .before .before .before .before .before .before .before .before .before .before .pre .known) process (c .before .before .before .before .before .before .before .before .run-end .ensures)) (c .before .before .before .before .before .before .before .first .ensures) (c .before .before .before .before .before .before .first2 .ensures) (c .before .before .before .before .before .first3 .ensures) (c .before .before .before .before .if1 .left)) (c .in-process3 .ensures) refl .0) }
 
 process-place-requires : tie.Need-process-place-requires
 process-place-requires c κs = search needs

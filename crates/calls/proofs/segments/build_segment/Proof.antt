@@ -21,9 +21,9 @@ use Rattle.calls.specs.Finds.{madeAt}
 use Rattle.calls.proofs.Worlds.{see, spot}
 use Rattle.calls.proofs.Given.{a-segment}
 use Rattle.calls.proofs.Entries.{not-chosen}
-use Rattle.calls.proofs.Room.{slot-told, end-told, free-ok}
+use Rattle.calls.proofs.Room.{slot-told, end-told, free-ok, new-seid}
 use Rattle.calls.proofs.Holders.{made-is, entered-is}
-use Rattle.calls.proofs.SegmentsLaws.{made-seid, searching}
+use Rattle.calls.proofs.SegmentsLaws.{searching}
 use native.Mathlib.Omega.{arith}
 use borrow.Author.Needs.{needs}
 use Rattle.calls.proofs.segments.build_segment.Statement.{statement}
@@ -53,7 +53,7 @@ module _ {t : List ℕ} {w : World} (sound : Sound t w) (a b c : ℕ) (buffer : 
   module _ (z : e ≡ 0) {x s : ℕ} (xe : x ≡ rdBy w t (at segment g serial)) (se : s ≡ seidOf (class segment) g (x + 1)) where
     result : said 0 s d ≡ said 0 (ruleAt t (λ h r. buildSegment h r (w .me) a b c buffer) .effects .first) (ruleAt t (λ h r. buildSegment h r (w .me) a b c buffer) .effects .second)
     unfolding buildSegment
-    result = rw (made-seid sound segment (room z) xe se .1, ge, de)
+    result = rw (new-seid sound segment (room z) xe se .1, ge, de)
 
     words : {u v place n entry y′ : ℕ} {mr mw : Bool} {t₁ t₂ : List ℕ} → y′ ≡ d → entry ≡ offsetBy w (at process (w .me) (40 + 2 * y′))
         → u ≡ rdBy w t (at process (w .me) owner) → v ≡ rdBy w t (at process (w .me) group) → place ≡ offsetBy w (at segment g 0)
@@ -65,7 +65,7 @@ module _ {t : List ℕ} {w : World} (sound : Sound t w) (a b c : ℕ) (buffer : 
         let h : List ℕ = configuration t in
         let k : Known t w = sound .known in
         let xr : x ≡ rd h t (at segment g serial) = xe ∙ see k (at segment g serial) in
-        let sr = made-seid sound segment (room z) xe se .1 in
+        let sr = new-seid sound segment (room z) xe se .1 in
         let er : entry ≡ offset h (at process (w .me) (heldAt segment d)) = ee ∙ spot k (at process (w .me) (40 + 2 * y′)) ∙ rw ye′ in
         let made : t₁ ≡ madeAt t (offset h (at segment g 0)) (x + 1) u v b c a = f₁ ∙ rw (le, spot k (at segment g 0)) in
         let filled : t₂ ≡ write h t₁ (entered segment (w .me) d s n) = f₂ ∙ rw er (sym (entered-is h t₁ (w .me) d s n [] a-segment)) in
@@ -127,7 +127,7 @@ in-segment-requires : tie.Need-in-segment-requires
 in-segment-requires c κs = search needs
 
 add-serial : tie.Need-add-serial
-add-serial c = record { fits = omega (arith, made-seid (c .before .before .before .before .before .before .before .before .before .before .before .before .before .before .before .before .before .before .before .pre) segment (room (c .before .before .before .before .before .before .before .before .before .before .before .before .before .before .before .before .before .before .before .pre) (c .before .before .before .before .before .before .before .before .before .before .before .before .before .before .before .before .before .before .before .args .a) (c .before .before .before .before .before .before .before .before .before .before .before .before .before .before .before .before .before .before .before .args .b) (c .before .before .before .before .before .before .before .before .before .before .before .before .before .before .before .before .before .before .before .args .c) [] (c .before .before .before .before .before .before .before .before .before .before .before .before .before .before .before .before .free-designator .ensures) (slot-told (c .before .before .before .before .before .before .before .before .before .before .before .before .before .before .before .before .before .before .before .pre .known) segment (c .before .before .before .before .before .before .before .before .before .before .before .before .segment-base .ensures .0) refl (c .before .before .before .before .before .before .before .before .before .before .before .free-slot .ensures)) (end-told (c .before .before .before .before .before .before .before .before .before .before .before .before .before .before .before .before .before .before .before .pre .known) segment (c .before .before .before .before .before .before .before .before .before .run-end .ensures)) (c .before .before .before .before .before .before .before .before .is-size .ensures) (c .before .before .before .before .before .before .before .wide2 .ensures) (c .before .before .before .before .before .before .first .ensures) (c .before .before .before .before .before .first2 .ensures) (c .before .before .before .before .first3 .ensures) (c .before .before .before .first4 .ensures) (c .before .before .if1 .left)) (c .in-segment .ensures) refl .0) }
+add-serial c = record { fits = omega (arith, new-seid (c .before .before .before .before .before .before .before .before .before .before .before .before .before .before .before .before .before .before .before .pre) segment (room (c .before .before .before .before .before .before .before .before .before .before .before .before .before .before .before .before .before .before .before .pre) (c .before .before .before .before .before .before .before .before .before .before .before .before .before .before .before .before .before .before .before .args .a) (c .before .before .before .before .before .before .before .before .before .before .before .before .before .before .before .before .before .before .before .args .b) (c .before .before .before .before .before .before .before .before .before .before .before .before .before .before .before .before .before .before .before .args .c) [] (c .before .before .before .before .before .before .before .before .before .before .before .before .before .before .before .before .free-designator .ensures) (slot-told (c .before .before .before .before .before .before .before .before .before .before .before .before .before .before .before .before .before .before .before .pre .known) segment (c .before .before .before .before .before .before .before .before .before .before .before .before .segment-base .ensures .0) refl (c .before .before .before .before .before .before .before .before .before .before .before .free-slot .ensures)) (end-told (c .before .before .before .before .before .before .before .before .before .before .before .before .before .before .before .before .before .before .before .pre .known) segment (c .before .before .before .before .before .before .before .before .before .run-end .ensures)) (c .before .before .before .before .before .before .before .before .is-size .ensures) (c .before .before .before .before .before .before .before .wide2 .ensures) (c .before .before .before .before .before .before .first .ensures) (c .before .before .before .before .before .first2 .ensures) (c .before .before .before .before .first3 .ensures) (c .before .before .before .first4 .ensures) (c .before .before .if1 .left)) (c .in-segment .ensures) refl .0) }
 
 seid-requires : tie.Need-seid-requires
 seid-requires c κs = search needs
