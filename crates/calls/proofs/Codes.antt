@@ -35,7 +35,7 @@ use Rattle.calls.specs.declared.Answer.{Answer}
 use Rattle.calls.specs.Left.{said, ruleAt, answerOf, tableOf, storeOf, bufferOf, Left}
 use Rattle.calls.specs.Blocks.{ReadLeft, WriteLeft}
 use Rattle.calls.specs.Did.{stateOf, callOf, ruleAnswer, Did, Through, ruleIn, Plain}
-use Rattle.calls.proofs.Posts.{left-same}
+use Rattle.calls.proofs.Leaves.{left-same}
 
 module _ (h : List ℕ) (q : Addr → ℕ) (s : List ℕ) (p code a b c : ℕ) (buffer : List ℕ) where
   pub rule-1 : code ≡ 1 → ruleOf h q s (callOf p code a b c buffer) ≡ spawn h q p a b buffer

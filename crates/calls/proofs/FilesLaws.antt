@@ -13,7 +13,7 @@ use Rattle.rules.specs.Layout.{maxBits, maxLinks, maxSerial, Kind, process, seg
 use Rattle.rules.specs.Seid.{class, classOf, seid, indexOf, isSeid, orSelf, present}
 use Rattle.rules.specs.Modes.{validModes, reads, writes, clash}
 use Rattle.rules.specs.Rights.{lacks}
-use Rattle.rules.specs.Rule.{firstRefusal, Rule, write}
+use Rattle.rules.specs.Rule.{firstRefusal, write}
 use Rattle.rules.specs.Find.{inOwnCell, flowsToCaller, rightsAt, freeSlot, freeEntry, entered}
 use Rattle.rules.specs.Call07.{created, create}
 use Rattle.rules.specs.Call08.{clashesAt, clashes, openFile}
@@ -31,9 +31,9 @@ use Rattle.calls.specs.declared.Answer.{Answer}
 use Rattle.calls.specs.declared.World.{World}
 use Rattle.calls.specs.World.{offsetBy, rdBy, Known, Sound, firstBy, freedAt}
 use Rattle.calls.specs.Finds.{findPast, ownPast, openPast, madeAt, takenUpAt}
-use Rattle.calls.specs.Left.{said, ruleAt, answerOf, tableOf, Left}
+use Rattle.calls.specs.Left.{said, ruleAt, Left}
 use Rattle.calls.proofs.Worlds.{spot, see, files-is, segments-is, home-is, first-by-kind}
-use Rattle.calls.proofs.Leaves.{left-refused}
+use Rattle.calls.proofs.Leaves.{left-refused, left-same}
 use Rattle.calls.proofs.Named.{Is}
 use Rattle.calls.proofs.Entries.{not-chosen}
 use Rattle.calls.proofs.Given.{a-file, freed-is}
@@ -41,10 +41,7 @@ use Rattle.calls.proofs.Holders.{made-is, entered-is, taken-is, one-fit
 use Rattle.calls.proofs.Finds.{self-formed}
 use Rattle.calls.proofs.Room.{made-seid}
 
--- ---- rules that are one, and choices of numbers
-
-pub left-same : (t : List ℕ) (f g : List ℕ → (Addr → ℕ) → Rule) {r : Answer} {t′ : List ℕ} → ruleAt t f ≡ ruleAt t g → Left t f r t′ → Left t g r t′
-left-same t f g e l = record { answer = l .answer ∙ ap answerOf e; table = l .table ∙ ap (tableOf (configuration t) t) e }
+-- ---- choices of numbers
 
 pub cond-some : (b : Bool) (m n : ℕ) → 0 < m → 0 < n → (cond b m n ≡ 0 → ⊥)
 cond-some true m n p q e = omega arith

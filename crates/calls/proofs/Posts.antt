@@ -18,11 +18,11 @@ use Rattle.levels.proofs.Cells.{matrix-any}
 use Rattle.calls.specs.declared.World.{World}
 use Rattle.calls.specs.declared.Answer.{Answer}
 use Rattle.calls.specs.World.{offsetBy, rdBy, Known, Sound}
-use Rattle.calls.specs.Left.{said, ruleAt, Left, answerOf, tableOf}
+use Rattle.calls.specs.Left.{said, ruleAt, Left}
 use Rattle.calls.specs.Finds.{fourAt}
 use Rattle.calls.specs.Mail.{postPast}
 use Rattle.calls.proofs.Worlds.{see, spot, shape, home-is}
-use Rattle.calls.proofs.Leaves.{left-refused, left-done}
+use Rattle.calls.proofs.Leaves.{left-refused, left-done, left-same}
 use Rattle.calls.proofs.Finds.{self-formed}
 
 -- a post's rule hangs on its seid alone
@@ -34,10 +34,6 @@ post-none : (h : List ℕ) (r : Addr → ℕ) (p a : ℕ) (b : List ℕ) {e : �
     → e ≡ cond (not (eqb (length b) textBytes)) 5 2 → e ≡ firstRefusal (post h r p a b .refusals)
 unfolding post
 post-none h r p a b n ee = rw n ee
-
--- two rules that are one on this table
-pub left-same : (t : List ℕ) (f g : List ℕ → (Addr → ℕ) → Rattle.rules.specs.Rule.Rule) {r : Answer} {t′ : List ℕ} → ruleAt t f ≡ ruleAt t g → Left t f r t′ → Left t g r t′
-left-same t f g e l = record { answer = l .answer ∙ ap answerOf e; table = l .table ∙ ap (tableOf (configuration t) t) e }
 
 module _ {t : List ℕ} {w : World} (known : Known t w) where
   -- the words of a message delivered

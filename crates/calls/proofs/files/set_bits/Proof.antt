@@ -1,7 +1,7 @@
 -- `files::set_bits` meets its contract: the rule that the seid's class picks.
-use Rattle.calls.proofs.FilesLaws.{left-same, by-segment, by-file, segment-absent, file-absent}
+use Rattle.calls.proofs.FilesLaws.{by-segment, by-file, segment-absent, file-absent}
 use Rattle.calls.proofs.Named.{found-file, no-file, found-segment, no-segment}
-use Rattle.calls.proofs.Leaves.{left-refused}
+use Rattle.calls.proofs.Leaves.{left-same}
 use Rattle.calls.proofs.Worlds.{files-is, segments-is}
 use Rattle.rules.specs.Call12.{setBitsOf, setBits}
 use Rattle.rules.specs.Layout.{segment, file}
