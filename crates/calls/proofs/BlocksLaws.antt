@@ -1,14 +1,14 @@
 -- What the block calls find, copy and write, in the rules' terms.
 use mathlib.Core.Path.{_≡_, refl, sym, ap, _∙_}
 use mathlib.Core.Bool.{Bool, true, false, cond, not}
-use mathlib.Core.List.{List, [], _∷_, _++_, append-nil}
+use mathlib.Core.List.{List, [], _∷_}
 use Prim.Native.Nat.{ℕ, suc, _+_, _*_, _-_, _≤_, _<_, max}
 use native.Mathlib.Omega.{arith}
 use native.Mathlib.Nat.{mul-le-mul-right}
 use native.Mathlib.Decide.{ℕ-discrete}
 use lib.Dec.{eqb, leb}
 use lib.ListN.{length, getD, set, take, drop, replicate, length-replicate, length-take, length-drop}
-use lib.Seq.{take-set-le, take-set-lt, drop-set-lt, drop-set-add, drop-length, sets, sets-eq}
+use lib.Seq.{take-set-le, take-set-lt, drop-set-lt, drop-set-add, sets}
 use borrow.Author.Tests.{eqb-true, leb-false}
 use borrow.Rule.Slice.PartMut.{midOf, putMid, put-same}
 use Rattle.rules.specs.Words.{part}
@@ -62,12 +62,6 @@ stretch-written s d l₁ l₂ x n k size b e hs hb q₁ q₂ =
     let z : length (replicate {A = ℕ} ((b - size) * blockBytes) 0) ≡ (b - size) * blockBytes = length-replicate ((b - size) * blockBytes) 0 in
     let e₁ : putMid x k s l₁ ≡ sets s (x + size * blockBytes) (replicate ((b - size) * blockBytes) 0) = ap (putMid x k s) q₁ ∙ mid-sets x k (replicate ((b - size) * blockBytes) 0) s (size * blockBytes) (omega arith) in
     ap (putMid x k (putMid x k s l₁)) q₂ ∙ mid-sets x k d (putMid x k s l₁) (b * blockBytes) (omega arith) ∙ ap (λ (y : List ℕ). sets y (x + b * blockBytes) d) e₁
-
--- as many stored from the first on as there are: they are all there is
-pub sets-all : (vs l : List ℕ) → length vs ≡ length l → sets l 0 vs ≡ vs
-sets-all vs l e =
-    sets-eq vs l 0 (omega arith)
-    ∙ (let z : 0 + length vs ≡ length l = omega arith in rw (z, drop-length l) (append-nil vs))
 
 pub part-length : (s : List ℕ) (i n : ℕ) → i + n ≤ length s → length (take n (drop i s)) ≡ n
 part-length s i n h = omega (arith, length-take n (drop i s), length-drop i s)

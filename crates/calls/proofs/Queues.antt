@@ -1,14 +1,14 @@
 -- Messages: a message shown as bytes, the queue moved up, in the rule's words.
 use mathlib.Core.Path.{_≡_, refl, sym, ap, _∙_}
 use mathlib.Core.Bool.{Bool, true, false, cond, not}
-use mathlib.Core.List.{List, [], _∷_, _++_}
+use mathlib.Core.List.{List, _++_, append-nil}
 use Prim.Native.Nat.{ℕ, zero, suc, _+_, _*_, _-_, _≤_, _<_}
 use native.Mathlib.Omega.{arith}
 use native.Mathlib.Numerals.{add-one}
 use lib.Dec.{eqb}
 use borrow.Author.Tests.{eqb-true}
 use lib.ListN.{length, getD, set, length-set, replicate}
-use lib.Seq.{sets, length-sets, sets-eq, getD-set-other}
+use lib.Seq.{sets, length-sets, sets-eq, drop-length, getD-set-other}
 use Rattle.rules.specs.Words.{tabFrom, bytes4}
 use Rattle.rules.specs.Layout.{Kind, process, configuration, Addr, at, offset, rd, queue, messages, messageWords, messagesAt, messageAt}
 use Rattle.rules.specs.Rule.{Word, _≔_, write, firstRefusal}
@@ -38,20 +38,11 @@ unfolding shownAt
 length-shown t from b zero = refl
 length-shown t from b (suc n) = length-sets (shownAt t from b n) (4 * n) (bytes4 (getD t (from + n) 0)) ∙ length-shown t from b n
 
-sets-append : (l xs ys : List ℕ) (i : ℕ) → sets l i (xs ++ ys) ≡ sets (sets l i xs) (i + length xs) ys
-sets-append l [] ys i = ap (λ (k : ℕ). sets l k ys) (omega arith)
-sets-append l (x ∷ xs) ys i = sets-append (set l i x) xs ys (suc i) ∙ ap (λ (k : ℕ). sets (sets (set l i x) (suc i) xs) k ys) (omega arith)
-
-drop-all : (l : List ℕ) → lib.ListN.drop (length l) l ≡ []
-drop-all [] = refl
-drop-all (x ∷ l) = drop-all l
-
 -- as many bytes as there is room for
 pub sets-all : (l xs : List ℕ) → length xs ≡ length l → sets l 0 xs ≡ xs
 sets-all l xs e =
     sets-eq xs l 0 (omega arith)
-    ∙ ap (λ (r : List ℕ). xs ++ r) (ap (λ (k : ℕ). lib.ListN.drop k l) (let z : 0 + length xs ≡ length l = omega arith in z) ∙ drop-all l)
-    ∙ mathlib.Core.List.append-nil xs
+    ∙ (let z : 0 + length xs ≡ length l = omega arith in rw (z, drop-length l) (append-nil xs))
 
 -- four words in sixteen bytes
 pub shown-four : (t : List ℕ) (from : ℕ) (b : List ℕ) → length b ≡ messageBytes → shownAt t from b messageWords

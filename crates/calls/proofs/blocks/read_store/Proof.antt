@@ -1,5 +1,6 @@
 -- `blocks::read_store` meets its contract: the whole buffer is the block.
-use Rattle.calls.proofs.BlocksLaws.{sets-all, part-length}
+use Rattle.calls.proofs.BlocksLaws.{part-length}
+use Rattle.calls.proofs.Queues.{sets-all}
 use Rattle.rules.specs.Layout.{blockBytes}
 use Rattle.rules.specs.Words.{part}
 use Prim.Native.Nat.{_+_, _-_, _*_}
