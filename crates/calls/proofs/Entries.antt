@@ -1,4 +1,4 @@
--- The caller's entries: what a filled one holds has its kind's form.
+-- Choices of two numbers, and the caller's entries: what a filled one holds has its kind's form.
 use mathlib.Core.Path.{_≡_, refl, sym, ap, _∙_}
 use mathlib.Core.Bool.{Bool, true, false, cond}
 use mathlib.Core.List.{List}
@@ -17,6 +17,11 @@ use Rattle.calls.proofs.Worlds.{see, files-is, segments-is}
 pub not-chosen : (b : Bool) (n x : ℕ) → 0 < n → cond b n x ≡ 0 → (b ≡ false) × (x ≡ 0)
 not-chosen true n x l e = absurd (omega arith)
 not-chosen false n x l e = (refl, e)
+
+-- and one of two that are not 0
+pub cond-some : (b : Bool) (m n : ℕ) → 0 < m → 0 < n → (cond b m n ≡ 0 → ⊥)
+cond-some true m n p q e = omega arith
+cond-some false m n p q e = omega arith
 
 module _ {t : List ℕ} {w : World} (sound : Sound t w) (a s : ℕ) {y : ℕ} (same : y ≡ a) (l : leb entries a ≡ false) (some : eqb s 0 ≡ false) where
   pub file-form : s ≡ rdBy w t (at process (w .me) (8 + 2 * y)) → isSeid (class file) (w .files) s ≡ true

@@ -35,17 +35,13 @@ use Rattle.calls.specs.Left.{said, ruleAt, Left}
 use Rattle.calls.proofs.Worlds.{spot, see, files-is, segments-is, home-is, first-by-kind}
 use Rattle.calls.proofs.Leaves.{left-refused, left-same}
 use Rattle.calls.proofs.Named.{Is}
-use Rattle.calls.proofs.Entries.{not-chosen}
+use Rattle.calls.proofs.Entries.{not-chosen, cond-some}
 use Rattle.calls.proofs.Given.{a-file, freed-is}
 use Rattle.calls.proofs.Holders.{made-is, entered-is, taken-is, one-fits}
 use Rattle.calls.proofs.Finds.{self-formed}
 use Rattle.calls.proofs.Room.{made-seid}
 
 -- ---- choices of numbers
-
-pub cond-some : (b : Bool) (m n : ℕ) → 0 < m → 0 < n → (cond b m n ≡ 0 → ⊥)
-cond-some true m n p q e = omega arith
-cond-some false m n p q e = omega arith
 
 -- a chain of choices that comes to a number that is not 0 comes to it whatever follows
 pub sooner : (b : Bool) (n x y : ℕ) → ((x ≡ 0 → ⊥) → x ≡ y) → (cond b n x ≡ 0 → ⊥) → cond b n x ≡ cond b n y

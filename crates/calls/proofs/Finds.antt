@@ -21,6 +21,7 @@ use Rattle.calls.specs.declared.World.{World}
 use Rattle.calls.specs.World.{rdBy, Known, Sound}
 use Rattle.calls.specs.Finds.{findPast, ownPast}
 use Rattle.calls.proofs.Worlds.{see, shape, home-is}
+use Rattle.calls.proofs.Entries.{not-chosen}
 
 -- ---- the refusals past the form are the rule's
 
@@ -40,11 +41,7 @@ module _ (h : List ℕ) (r : Addr → ℕ) (k : Kind) (s : ℕ) (xs : List Refus
   own-absent p f = rw f
 
 -- past the refusals: the cell, the presence
-not-refused : (b : Bool) {n x : ℕ} → 0 < n → cond b n x ≡ 0 → (b ≡ false) × (x ≡ 0)
-not-refused true l e = absurd (omega arith)
-not-refused false l e = (refl, e)
-
-absent-some : (k : Kind) → 0 < absent k
+pub absent-some : (k : Kind) → 0 < absent k
 absent-some process = omega arith
 absent-some segment = omega arith
 absent-some file = omega arith
@@ -57,8 +54,8 @@ pub record FoundPast (r : Addr → ℕ) (k : Kind) (s : ℕ) (forbidden : Bool) 
 pub found-past : (r : Addr → ℕ) (k : Kind) (s : ℕ) (forbidden : Bool) (rest : ℕ) → findPast r k s forbidden rest ≡ 0 → FoundPast r k s forbidden rest
 unfolding findPast
 found-past r k s b rest e =
-    let x = not-refused b (omega arith) e in
-    let y = not-refused (not (present r k s)) (absent-some k) (x .1) in
+    let x = not-chosen b 13 _ (omega arith) e in
+    let y = not-chosen (not (present r k s)) (absent k) rest (absent-some k) (x .1) in
     record { allowed = x .0; there = y .0; after = y .1 }
 
 -- ---- what the code reads: i is the slot of the seid s

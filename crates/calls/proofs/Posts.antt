@@ -23,6 +23,7 @@ use Rattle.calls.specs.Finds.{fourAt}
 use Rattle.calls.specs.Mail.{postPast}
 use Rattle.calls.proofs.Worlds.{see, spot, shape, home-is}
 use Rattle.calls.proofs.Leaves.{left-refused, left-done, left-same}
+use Rattle.calls.proofs.Entries.{cond-some}
 use Rattle.calls.proofs.Finds.{self-formed}
 
 -- a post's rule hangs on its seid alone
@@ -113,11 +114,9 @@ module _ {t : List ℕ} {w : World} (sound : Sound t w) (a : ℕ) (b : List ℕ)
   -- no process's form
   pub post-absent : {e : ℕ} {r : Answer} → isSeid (class process) (slots (configuration t) process) s ≡ false → e ≡ cond (not (eqb (length b) textBytes)) 5 2 → r ≡ said e 0 0
       → Left t (λ h q. post h q (w .me) a b) r t
-  post-absent {e} f ee re = left-refused t (λ h q. post h q (w .me) a b) (post-none (configuration t) (rd (configuration t) t) (w .me) a b (rw own at f) ee) (some (not (eqb (length b) textBytes)) ee) re
-    where
-      some : (x : Bool) → e ≡ cond x 5 2 → e ≡ 0 → ⊥
-      some true q z = omega arith
-      some false q z = omega arith
+  post-absent f ee re =
+      left-refused t (λ h q. post h q (w .me) a b) (post-none (configuration t) (rd (configuration t) t) (w .me) a b (rw own at f) ee)
+      (λ z. cond-some (not (eqb (length b) textBytes)) 5 2 (omega arith) (omega arith) (sym ee ∙ z)) re
 
 -- there is room
 pub room-told : (here : Bool) (y : ℕ) {n : ℕ} → here && ltb y messages ≡ true → y ≡ n → n < messages

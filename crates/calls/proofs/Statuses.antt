@@ -28,7 +28,8 @@ use Rattle.calls.specs.Left.{said, ruleAt, answerOf, bufferOf}
 use Rattle.calls.specs.Told.{toldAt}
 use Rattle.calls.proofs.Worlds.{see, shape}
 use Rattle.calls.proofs.Leaves.{answer-refused, answer-done, buffer-refused, buffer-done}
-use Rattle.calls.proofs.Entries.{not-chosen}
+use Rattle.calls.proofs.Entries.{not-chosen, cond-some}
+use Rattle.calls.proofs.Finds.{absent-some}
 use Rattle.calls.proofs.Queues.{sets-all}
 
 -- what a status call leaves: the answer and the buffer of a rule
@@ -41,24 +42,14 @@ all-told : (h : List ℕ) (r : Addr → ℕ) (k : Kind) (i : ℕ) (b : List ℕ)
 unfolding told toldAt
 all-told h r k i b l = sets-all b (told h r k i) (sym l)
 
-absent-some : (k : Kind) → absent k ≡ 0 → ⊥
-absent-some process e = omega arith
-absent-some segment e = omega arith
-absent-some file e = omega arith
-
 module _ {t : List ℕ} {w : World} (sound : Sound t w) (k : Kind) (s : ℕ) (b : List ℕ) where
   -- no seid of the kind
   pub status-absent : {e : ℕ} {r : Answer} → isSeid (class k) (slots (configuration t) k) s ≡ false → e ≡ cond (not (eqb (length b) statusBytes)) 5 (absent k) → r ≡ said e 0 0
       → Shown (ruleAt t (λ h q. statusOf h q (w .me) s b k)) b r b
   status-absent {e} f ee re =
-      let found : e ≡ firstRefusal (ruleAt t (λ h q. statusOf h q (w .me) s b k) .refusals) = rw f ee in (
-        re ∙ answer-refused (ruleAt t (λ h q. statusOf h q (w .me) s b k)) found (some (not (eqb (length b) statusBytes)) ee),
-        buffer-refused (ruleAt t (λ h q. statusOf h q (w .me) s b k)) found b (some (not (eqb (length b) statusBytes)) ee),
-      )
-    where
-      some : (x : Bool) → e ≡ cond x 5 (absent k) → e ≡ 0 → ⊥
-      some true q z = omega arith
-      some false q z = absent-some k (sym q ∙ z)
+      let found : e ≡ firstRefusal (ruleAt t (λ h q. statusOf h q (w .me) s b k) .refusals) = rw f ee in
+      let some : e ≡ 0 → ⊥ = λ z. cond-some (not (eqb (length b) statusBytes)) 5 (absent k) (omega arith) (absent-some k) (sym ee ∙ z) in
+      (re ∙ answer-refused (ruleAt t (λ h q. statusOf h q (w .me) s b k)) found some, buffer-refused (ruleAt t (λ h q. statusOf h q (w .me) s b k)) found b some)
 
   module _ (form : isSeid (class k) (slots (configuration t) k) s ≡ true) {e : ℕ} {flow here : Bool} (fe : flow ≡ flowsToCaller (configuration t) (w .me) k s)
       (he : here ≡ present (rd (configuration t) t) k s) (ee : e ≡ cond (not (eqb (length b) statusBytes)) 5 (cond (not flow) 13 (cond (not here) (absent k) 0))) where

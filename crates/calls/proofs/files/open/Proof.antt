@@ -1,6 +1,7 @@
 -- `files::open` meets its contract: the argument's seid in its form, or absent.
 use mathlib.Core.Bool.{not}
-use Rattle.calls.proofs.FilesLaws.{cond-some, open-self, open-absent}
+use Rattle.calls.proofs.FilesLaws.{open-self, open-absent}
+use Rattle.calls.proofs.Entries.{cond-some}
 use Rattle.calls.proofs.Named.{found-file, no-file}
 use Rattle.calls.proofs.Leaves.{left-refused, left-same}
 use Rattle.rules.specs.Call08.{openFile}

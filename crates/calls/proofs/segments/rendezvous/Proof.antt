@@ -19,7 +19,7 @@ use Rattle.calls.specs.Finds.{takenUpAt}
 use Rattle.calls.proofs.Worlds.{see, spot, segments-is}
 use Rattle.calls.proofs.Given.{a-segment}
 use Rattle.calls.proofs.Named.{Is, found-segment, no-segment}
-use Rattle.calls.proofs.FilesLaws.{cond-some}
+use Rattle.calls.proofs.Entries.{cond-some}
 use Rattle.calls.proofs.Holders.{one-fits, taken-is}
 use native.Mathlib.Omega.{arith}
 use borrow.Author.Needs.{needs}
