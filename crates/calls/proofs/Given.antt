@@ -25,8 +25,11 @@ zeros-is h t k i j (suc n) =
     zeros-is h (set t (offset h (at k i j)) 0) k i (suc j) n
     ∙ ap (λ (x : ℕ). sets (set t (offset h (at k i j)) 0) x (replicate n 0)) (omega arith)
 
--- the entry's second word follows its first
-next-word : (h : List ℕ) (k : Kind) (i j : ℕ) → offset h (at k i (suc j)) ≡ offset h (at k i j) + 1
+-- word j of a record follows its first, and an entry's second word its first
+pub along : (h : List ℕ) (k : Kind) (i j : ℕ) → offset h (at k i j) ≡ offset h (at k i 0) + j
+along h k i j = omega arith
+
+pub next-word : (h : List ℕ) (k : Kind) (i j : ℕ) → offset h (at k i (j + 1)) ≡ offset h (at k i j) + 1
 next-word h k i j = omega arith
 
 -- a record freed
@@ -34,20 +37,17 @@ pub freed-is : (h t : List ℕ) (k : Kind) (i : ℕ) → write h t (freed k i) �
 unfolding freedAt
 freed-is h t k i =
     zeros-is h (set t (offset h (at k i 0)) 0) k i 2 (recordWords k - 2)
-    ∙ rw (z, two)
+    ∙ rw (z, along h k i 2)
   where
     z : offset h (at k i 0) + 0 ≡ offset h (at k i 0)
     z = omega arith
-
-    two : offset h (at k i 2) ≡ offset h (at k i 0) + 2
-    two = omega arith
 
 -- the two kinds that entries hold
 pub data Thing : Kind → Type 0 where
   a-segment : Thing segment
   a-file : Thing file
 
-holders-at : {k : Kind} → Thing k → holders k ≡ opens
+pub holders-at : {k : Kind} → Thing k → holders k ≡ opens
 holders-at a-segment = refl
 holders-at a-file = refl
 
@@ -55,7 +55,7 @@ record-words : {k : Kind} → Thing k → recordWords k ≡ recordWords file
 record-words a-segment = refl
 record-words a-file = refl
 
-used-next : {k : Kind} (d : ℕ) → Thing k → usedAt k d ≡ suc (heldAt k d)
+pub used-next : {k : Kind} (d : ℕ) → Thing k → usedAt k d ≡ heldAt k d + 1
 used-next d a-segment = omega arith
 used-next d a-file = omega arith
 
@@ -69,12 +69,12 @@ less-is h t r {k} i th =
     go : (b : Bool) → write h t (cond b (freed k i) ((at k i opens ≔ r (at k i opens) - 1) ∷ []))
         ≡ cond b (freedAt t (offset h (at k i 0)) (recordWords file)) (set t (offset h (at k i 0) + opens) (r (at k i opens) - 1))
     go true = freed-is h t k i ∙ ap (freedAt t (offset h (at k i 0))) (record-words th)
-    go false = let seven : offset h (at k i opens) ≡ offset h (at k i 0) + opens = omega arith in ap (λ (x : ℕ). set t x (r (at k i opens) - 1)) seven
+    go false = ap (λ (x : ℕ). set t x (r (at k i opens) - 1)) (along h k i opens)
 
 -- the word that counts holders, as the code reads it
 count-at : (h t : List ℕ) (k : Kind) (i : ℕ) → rd h t (at k i opens) ≡ getD t (offset h (at k i 0) + opens) 0
 unfolding rd
-count-at h t k i = ap (λ (x : ℕ). getD t x 0) (omega arith)
+count-at h t k i = ap (λ (x : ℕ). getD t x 0) (along h k i opens)
 
 -- the object's side of an entry given up: t is the table before, u the table once the entry is cleared
 given-object : (h t u : List ℕ) {k : Kind} (i : ℕ) → Thing k → (b : Bool) → write h u (cond b (oneLess (rd h t) k i) [])

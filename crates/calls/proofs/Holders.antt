@@ -18,7 +18,7 @@ use Rattle.calls.specs.declared.World.{World}
 use Rattle.calls.specs.World.{offsetBy, Known, Sound}
 use Rattle.calls.specs.Finds.{fourAt, madeAt, takenUpAt}
 use Rattle.calls.proofs.Worlds.{spot, shape}
-use Rattle.calls.proofs.Given.{Thing, a-segment, a-file}
+use Rattle.calls.proofs.Given.{Thing, a-segment, a-file, along, next-word, holders-at, used-next}
 
 -- ---- how many holders an object has at most
 
@@ -41,10 +41,6 @@ module _ {t : List ℕ} {w : World} (sound : Sound t w) where
 
 -- ---- what is written
 
--- word j of a record follows its first
-along : (h : List ℕ) (k : Kind) (i j : ℕ) → offset h (at k i j) ≡ offset h (at k i 0) + j
-along h k i j = omega arith
-
 -- a new object's record
 pub made-is : (h t : List ℕ) (k : Kind) (i s u g b x y : ℕ) (ws : List Word)
     → write h t ((at k i live ≔ 1) ∷ (at k i serial ≔ s) ∷ (at k i owner ≔ u) ∷ (at k i group ≔ g) ∷ (at k i bits ≔ b) ∷ (at k i 5 ≔ x) ∷ (at k i 6 ≔ y) ∷ (at k i 7 ≔ 1) ∷ ws)
@@ -57,19 +53,9 @@ made-is h t k i s u g b x y ws =
     rw (along h k i 1, along h k i 2, along h k i 3, along h k i 4, five, six, seven)
 
 -- an entry filled, and one holder more
-used-next : {k : Kind} (d : ℕ) → Thing k → usedAt k d ≡ heldAt k d + 1
-used-next d a-segment = omega arith
-used-next d a-file = omega arith
-
-holders-at : {k : Kind} → Thing k → holders k ≡ opens
-holders-at a-segment = refl
-holders-at a-file = refl
-
 pub entered-is : (h t : List ℕ) {k : Kind} (p d s u : ℕ) (ws : List Word) → Thing k
     → write h t (entered k p d s u ++ ws) ≡ write h (set (set t (offset h (at process p (heldAt k d))) s) (offset h (at process p (heldAt k d)) + 1) u) ws
-entered-is h t {k} p d s u ws th =
-    let e : offset h (at process p (heldAt k d + 1)) ≡ offset h (at process p (heldAt k d)) + 1 = omega arith in
-    rw (used-next d th, e)
+entered-is h t {k} p d s u ws th = rw (used-next d th, next-word h process p (heldAt k d))
 
 pub taken-is : (h t : List ℕ) {k : Kind} (p d s u : ℕ) → Thing k
     → write h t (entered k p d s u ++ oneMore h (rd h t) p k s)

@@ -16,6 +16,7 @@ use Rattle.calls.specs.World.{rdBy, Known, Sound, firstBy}
 use Rattle.calls.specs.Finds.{fourAt}
 use Rattle.calls.specs.Seen.{seenSegment}
 use Rattle.calls.proofs.Worlds.{see, kind-word}
+use Rattle.calls.proofs.Given.{along}
 use Rattle.calls.proofs.Entries.{segment-form}
 use Rattle.calls.proofs.Room.{home-in}
 
@@ -42,11 +43,7 @@ used-word k p a {y} same read = read ∙ see k (at process p (41 + 2 * y)) ∙ r
 pub four-is : (h t : List ℕ) (k : Kind) (i a b c d : ℕ) (ws : List Word)
     → write h t ((at k i live ≔ a) ∷ (at k i serial ≔ b) ∷ (at k i owner ≔ c) ∷ (at k i group ≔ d) ∷ ws) ≡ write h (fourAt t (offset h (at k i 0)) a b c d) ws
 unfolding fourAt
-four-is h t k i a b c d ws =
-    let one : offset h (at k i 1) ≡ offset h (at k i 0) + 1 = omega arith in
-    let two : offset h (at k i 2) ≡ offset h (at k i 0) + 2 = omega arith in
-    let three : offset h (at k i 3) ≡ offset h (at k i 0) + 3 = omega arith in
-    rw (one, two, three)
+four-is h t k i a b c d ws = rw (along h k i 1, along h k i 2, along h k i 3)
 
 -- what a search for a free slot asks
 pub searching : {t : List ℕ} {w : World} → Sound t w → (k : Kind)
