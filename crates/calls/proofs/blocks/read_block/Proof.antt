@@ -1,7 +1,8 @@
 -- `blocks::read_block` meets its contract: the rule's refusals in two stages, and the block copied out.
 use Rattle.calls.proofs.BlocksLaws.{entry-past, use-past, stretch-in, read-sooner, read-later, read-buffer, read-refused, read-done}
 use Rattle.calls.proofs.Entries.{file-form}
-use Rattle.calls.proofs.Named.{found-file, no-file}
+use Rattle.ids.proofs.Parts.{file-not}
+use Rattle.calls.proofs.Named.{found-file}
 use Rattle.calls.proofs.Worlds.{shape, blocks-is}
 use Rattle.laws.proofs.Tests.{both-ways}
 use mathlib.Core.Bool.{true, false}
@@ -96,7 +97,7 @@ returns-3 : tie.Need-returns-3
 returns-3 c = read-done _ _ _ _ _ _ (read-later (c .before .before .before .before .before .before .before .before .before .before .before .before .before .before .before .before .before .before .before .before .before .before .before .before .before .before .pre .0 .known) (c .before .before .before .before .before .before .before .before .before .before .before .before .before .before .before .before .before .before .before .before .before .before .before .before .before .before .args .store .now) (c .before .before .before .before .before .before .before .before .before .before .before .before .before .before .before .before .before .before .before .before .before .before .before .before .before .before .args .a) (c .before .before .before .before .before .before .before .before .before .before .before .before .before .before .before .before .before .before .before .before .before .before .before .before .before .before .args .b) (c .before .before .before .before .before .before .before .before .before .before .before .before .before .before .before .before .before .before .before .before .before .before .before .before .before .before .args .buffer .now) (c .before .before .before .before .before .before .before .before .before .before .before .before .before .before .before .before .before .before .before .before .before .before .wide .ensures) (c .before .before .before .before .before .before .before .before .before .before .before .before .before .before .before .before .before .before .before .before .before .in-process .ensures) (c .before .before .before .before .before .before .before .before .before .before .before .before .before .before .before .before .before .before .before .before .bad-entry .ensures) (c .before .before .before .before .before .before .before .before .before .before .before .before .before .before .before .before .before .before .before .if1 .left) (found-file _ _ (sym (c .before .before .before .before .before .before .before .before .before .before .before .before .before .before .before .before .before .before .check .ensures) ∙ c .before .before .before .before .before .before .before .before .before .before .before .before .before .before .before .before .f .given .1)) (c .before .before .before .before .before .before .before .before .before .before .before .before .before .before .index .ensures) (c .before .before .before .before .before .before .before .before .before .before .before .before .before .in-process2 .ensures) (c .before .before .before .before .before .before .before .before .before .before .before .before .in-file .ensures) (c .before .before .before .before .before .before .before .before .before .before .before .reads .ensures) (c .before .before .before .before .before .before .before .before .before .before .first .ensures) (c .before .before .before .before .before .before .before .before .before .bad-use .ensures)) (c .before .before .before .before .before .before .before .before .if2 .left) (c .answered .ensures) (read-buffer (c .before .before .before .before .before .before .before .before .before .before .before .before .before .before .before .before .before .before .before .before .before .before .before .before .before .before .pre .0 .known) (c .before .before .before .before .before .before .before .before .before .before .before .before .before .before .before .before .before .before .before .before .before .before .before .before .before .before .args .store .now) (c .before .before .before .before .before .before .before .before .before .before .before .before .before .before .before .before .before .before .before .before .before .before .before .before .before .before .args .a) (c .before .before .before .before .before .before .before .before .before .before .before .before .before .before .before .before .before .before .before .before .before .before .before .before .before .before .args .b) (c .before .before .before .before .before .before .before .before .before .before .before .before .before .before .before .before .before .before .before .before .before .before .before .before .before .before .args .buffer .now) (c .before .before .before .before .before .before .before .before .before .before .before .before .before .before .before .before .before .before .before .before .before .before .wide .ensures) (c .before .before .before .before .before .before .before .before .before .before .before .before .before .before .before .before .before .before .before .before .before .in-process .ensures) (c .before .before .before .before .before .before .before .before .before .before .before .before .before .before .before .before .before .before .before .before .bad-entry .ensures) (c .before .before .before .before .before .before .before .before .before .before .before .before .before .before .before .before .before .before .before .if1 .left) (found-file _ _ (sym (c .before .before .before .before .before .before .before .before .before .before .before .before .before .before .before .before .before .before .check .ensures) ∙ c .before .before .before .before .before .before .before .before .before .before .before .before .before .before .before .before .f .given .1)) (c .before .before .before .before .before .before .before .before .before .before .before .before .before .before .index .ensures) (c .before .before .before .before .before .before .before .before .before .before .before .before .before .in-process2 .ensures) (c .before .before .before .before .before .before .before .before .before .before .before .before .in-file .ensures) (c .before .before .before .before .before .before .before .wide2 .ensures) (c .before .before .before .before .before .before .wide3 .ensures) (c .before .before .before .before .before .wide4 .ensures) (c .before .before .before .read-store .ensures))
 
 returns-4 : tie.Need-returns-4
-returns-4 c = both-ways _ (file-form (c .before .before .before .before .before .before .before .before .before .before .before .pre .0) _ _ (c .before .before .before .before .before .before .before .wide .ensures) (entry-past _ _ _ (c .before .before .before .before .before .bad-entry .ensures) (c .before .before .before .before .if1 .left) .entry) (entry-past _ _ _ (c .before .before .before .before .before .bad-entry .ensures) (c .before .before .before .before .if1 .left) .some) (c .before .before .before .before .before .before .in-process .ensures)) (no-file _ _ (sym (c .before .before .before .check .ensures) ∙ c .before .enum-told .given .1))
+returns-4 c = both-ways _ (file-form (c .before .before .before .before .before .before .before .before .before .before .before .pre .0) _ _ (c .before .before .before .before .before .before .before .wide .ensures) (entry-past _ _ _ (c .before .before .before .before .before .bad-entry .ensures) (c .before .before .before .before .if1 .left) .entry) (entry-past _ _ _ (c .before .before .before .before .before .bad-entry .ensures) (c .before .before .before .before .if1 .left) .some) (c .before .before .before .before .before .before .in-process .ensures)) (file-not _ _ (sym (c .before .before .before .check .ensures) ∙ c .before .enum-told .given .1))
 
 pub read-block-spec : {M : Type 1} → statement M
 read-block-spec =

@@ -1,7 +1,8 @@
 -- `blocks::write_block` meets its contract: the rule's refusals in two stages, the bytes of the file's stretch and the size.
 use Rattle.calls.proofs.BlocksLaws.{entry-past, use-past, stretch-in, size-in, write-sooner, write-later, write-words, write-bytes, write-refused, write-done}
 use Rattle.calls.proofs.Entries.{file-form}
-use Rattle.calls.proofs.Named.{found-file, no-file}
+use Rattle.ids.proofs.Parts.{file-not}
+use Rattle.calls.proofs.Named.{found-file}
 use Rattle.calls.proofs.Worlds.{shape, blocks-is}
 use Rattle.laws.proofs.Tests.{both-ways}
 use mathlib.Core.Bool.{true, false}
@@ -117,7 +118,7 @@ same-length-5 : tie.Need-same-length-5
 same-length-5 c = search needs
 
 returns-4 : tie.Need-returns-4
-returns-4 c = both-ways _ (file-form (c .before .before .before .before .before .before .before .before .before .before .before .before .pre .0) _ _ (c .before .before .before .before .before .before .before .before .wide .ensures) (entry-past _ _ _ (c .before .before .before .before .before .bad-entry .ensures) (c .before .before .before .before .if1 .left) .entry) (entry-past _ _ _ (c .before .before .before .before .before .bad-entry .ensures) (c .before .before .before .before .if1 .left) .some) (c .before .before .before .before .before .before .in-process .ensures)) (no-file _ _ (sym (c .before .before .before .check .ensures) ∙ c .before .enum-told .given .1))
+returns-4 c = both-ways _ (file-form (c .before .before .before .before .before .before .before .before .before .before .before .before .pre .0) _ _ (c .before .before .before .before .before .before .before .before .wide .ensures) (entry-past _ _ _ (c .before .before .before .before .before .bad-entry .ensures) (c .before .before .before .before .if1 .left) .entry) (entry-past _ _ _ (c .before .before .before .before .before .bad-entry .ensures) (c .before .before .before .before .if1 .left) .some) (c .before .before .before .before .before .before .in-process .ensures)) (file-not _ _ (sym (c .before .before .before .check .ensures) ∙ c .before .enum-told .given .1))
 
 pub write-block-spec : {M : Type 1} → statement M
 write-block-spec =

@@ -19,7 +19,8 @@ use Rattle.calls.specs.World.{rdBy, Known, Sound}
 use Rattle.calls.specs.Left.{ruleAt}
 use Rattle.calls.proofs.Worlds.{see, home-is}
 use Rattle.calls.proofs.Leaves.{left-refused, left-done, none-first}
-use Rattle.calls.proofs.Named.{found-file, no-file}
+use Rattle.ids.proofs.Parts.{file-not}
+use Rattle.calls.proofs.Named.{found-file}
 use Rattle.calls.proofs.Entries.{not-chosen, file-form}
 use Rattle.calls.proofs.files.close.Statement.{statement}
 use Rattle.calls.proofs.files.close.Tie as tie
@@ -107,7 +108,7 @@ returns-3 : tie.Need-returns-3
 returns-3 c = both-ways _
     (file-form (c .before .before .before .before .before .before .before .before .before .before .before .before .pre) _ _ (c .before .before .before .before .before .before .before .before .before .wide .ensures) ((past (c .before .before .before .before .before .before .before .before .in-process .result) (c .before .before .before .before .before .before .before .wide2 .ensures) (c .before .before .before .before .before .before .first .ensures) (c .before .before .before .before .before .first2 .ensures) (c .before .before .before .before .if1 .left)) .0)
     ((past (c .before .before .before .before .before .before .before .before .in-process .result) (c .before .before .before .before .before .before .before .wide2 .ensures) (c .before .before .before .before .before .before .first .ensures) (c .before .before .before .before .before .first2 .ensures) (c .before .before .before .before .if1 .left)) .1) (c .before .before .before .before .before .before .before .before .in-process .ensures))
-    (no-file _ _ (sym (c .before .before .before .check .ensures) ∙ c .before .enum-told .given .1))
+    (file-not _ _ (sym (c .before .before .before .check .ensures) ∙ c .before .enum-told .given .1))
 
 pub close-spec : {M : Type 1} → statement M
 close-spec =

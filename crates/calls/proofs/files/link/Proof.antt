@@ -1,6 +1,7 @@
 -- `files::link` meets its contract: the rule's refusals in order, and one link more, which fits a byte.
 use Rattle.calls.proofs.FilesLaws.{link-absent, link-number, link-words, links-few}
-use Rattle.calls.proofs.Named.{found-file, no-file}
+use Rattle.ids.proofs.Parts.{file-not}
+use Rattle.calls.proofs.Named.{found-file}
 use Rattle.calls.proofs.Leaves.{left-refused, left-done}
 use Rattle.rules.specs.Call10.{link}
 use mathlib.Core.Path.{sym, _∙_}
@@ -66,7 +67,7 @@ same-length-3 : tie.Need-same-length-3
 same-length-3 c = search needs
 
 returns-3 : tie.Need-returns-3
-returns-3 c = λ buffer. left-refused _ (λ h q. link h q _ _ buffer) (link-absent (c .before .before .before .before .before .before .before .pre .known) _ buffer (c .before .before .before .before .or-self .ensures) (no-file _ _ (sym (c .before .before .before .check .ensures) ∙ c .before .enum-told .given .1))) (λ z. omega arith) (c .refused2 .ensures)
+returns-3 c = λ buffer. left-refused _ (λ h q. link h q _ _ buffer) (link-absent (c .before .before .before .before .before .before .before .pre .known) _ buffer (c .before .before .before .before .or-self .ensures) (file-not _ _ (sym (c .before .before .before .check .ensures) ∙ c .before .enum-told .given .1))) (λ z. omega arith) (c .refused2 .ensures)
 
 pub link-spec : {M : Type 1} → statement M
 link-spec =

@@ -2,7 +2,8 @@
 use mathlib.Core.Bool.{not}
 use Rattle.calls.proofs.FilesLaws.{open-self, open-absent}
 use Rattle.calls.proofs.Entries.{cond-some}
-use Rattle.calls.proofs.Named.{found-file, no-file}
+use Rattle.ids.proofs.Parts.{file-not}
+use Rattle.calls.proofs.Named.{found-file}
 use Rattle.calls.proofs.Leaves.{left-refused, left-same}
 use Rattle.rules.specs.Call08.{openFile}
 use mathlib.Core.Path.{sym, _∙_}
@@ -45,7 +46,7 @@ same-length-2 : tie.Need-same-length-2
 same-length-2 c = search needs
 
 returns-2 : tie.Need-returns-2
-returns-2 c = λ buffer. left-refused _ (λ h q. openFile h q _ _ _ buffer) (open-absent (c .before .before .before .before .before .before .before .before .before .pre .0 .known) _ (c .before .before .before .before .before .before .before .before .before .args .b) buffer (c .before .before .before .before .before .before .or-self .ensures) (no-file _ _ (sym (c .before .before .before .before .before .check .ensures) ∙ c .before .before .before .enum-told .given .1)) (c .before .before .valid .ensures) (c .before .first .ensures)) (λ z. cond-some (not (c .before .before .valid .result)) 7 12 (omega arith) (omega arith) (sym (c .before .first .ensures) ∙ z)) (c .refused .ensures)
+returns-2 c = λ buffer. left-refused _ (λ h q. openFile h q _ _ _ buffer) (open-absent (c .before .before .before .before .before .before .before .before .before .pre .0 .known) _ (c .before .before .before .before .before .before .before .before .before .args .b) buffer (c .before .before .before .before .before .before .or-self .ensures) (file-not _ _ (sym (c .before .before .before .before .before .check .ensures) ∙ c .before .before .before .enum-told .given .1)) (c .before .before .valid .ensures) (c .before .first .ensures)) (λ z. cond-some (not (c .before .before .valid .result)) 7 12 (omega arith) (omega arith) (sym (c .before .first .ensures) ∙ z)) (c .refused .ensures)
 
 pub open-spec : {M : Type 1} → statement M
 open-spec =

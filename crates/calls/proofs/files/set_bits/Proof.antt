@@ -1,6 +1,7 @@
 -- `files::set_bits` meets its contract: the rule that the seid's class picks.
 use Rattle.calls.proofs.FilesLaws.{by-segment, by-file, segment-absent, file-absent}
-use Rattle.calls.proofs.Named.{found-file, no-file, found-segment, no-segment}
+use Rattle.ids.proofs.Parts.{file-not, segment-not}
+use Rattle.calls.proofs.Named.{found-file, found-segment}
 use Rattle.calls.proofs.Leaves.{left-same}
 use Rattle.calls.proofs.Worlds.{files-is, segments-is}
 use Rattle.rules.specs.Call12.{setBitsOf, setBits}
@@ -63,7 +64,7 @@ same-length-2 : tie.Need-same-length-2
 same-length-2 c = search needs
 
 returns-2 : tie.Need-returns-2
-returns-2 c = λ buffer. segment-absent (c .before .before .before .before .before .before .before .before .before .before .pre .known) _ (c .before .before .before .before .before .before .before .before .before .before .args .b) buffer (c .before .before .before .before .before .before .before .or-self .ensures) (c .before .before .before .before .before .before .class-of .ensures) (c .refused .ensures) (c .before .before .before .before .before .if1 .taken) (no-segment _ _ (sym (c .before .before .before .before .check .ensures) ∙ c .before .before .enum-told .given .1)) (c .before .first .ensures)
+returns-2 c = λ buffer. segment-absent (c .before .before .before .before .before .before .before .before .before .before .pre .known) _ (c .before .before .before .before .before .before .before .before .before .before .args .b) buffer (c .before .before .before .before .before .before .before .or-self .ensures) (c .before .before .before .before .before .before .class-of .ensures) (c .refused .ensures) (c .before .before .before .before .before .if1 .taken) (segment-not _ _ (sym (c .before .before .before .before .check .ensures) ∙ c .before .before .enum-told .given .1)) (c .before .first .ensures)
 
 same-length-3 : tie.Need-same-length-3
 same-length-3 c = search needs
@@ -75,7 +76,7 @@ same-length-4 : tie.Need-same-length-4
 same-length-4 c = search needs
 
 returns-4 : tie.Need-returns-4
-returns-4 c = λ buffer. file-absent (c .before .before .before .before .before .before .before .before .before .before .pre .known) _ (c .before .before .before .before .before .before .before .before .before .before .args .b) buffer (c .before .before .before .before .before .before .before .or-self .ensures) (c .before .before .before .before .before .before .class-of .ensures) (c .refused2 .ensures) (c .before .before .before .before .before .if1 .left) (no-file _ _ (sym (c .before .before .before .before .check2 .ensures) ∙ c .before .before .enum-told2 .given .1)) (c .before .first2 .ensures)
+returns-4 c = λ buffer. file-absent (c .before .before .before .before .before .before .before .before .before .before .pre .known) _ (c .before .before .before .before .before .before .before .before .before .before .args .b) buffer (c .before .before .before .before .before .before .before .or-self .ensures) (c .before .before .before .before .before .before .class-of .ensures) (c .refused2 .ensures) (c .before .before .before .before .before .if1 .left) (file-not _ _ (sym (c .before .before .before .before .check2 .ensures) ∙ c .before .before .enum-told2 .given .1)) (c .before .first2 .ensures)
 
 pub set-bits-spec : {M : Type 1} → statement M
 set-bits-spec =

@@ -1,6 +1,7 @@
 -- `files::unlink` meets its contract: the rule's refusals in order, and one link less.
 use Rattle.calls.proofs.FilesLaws.{unlink-absent, unlink-number, unlink-words}
-use Rattle.calls.proofs.Named.{found-file, no-file}
+use Rattle.ids.proofs.Parts.{file-not}
+use Rattle.calls.proofs.Named.{found-file}
 use Rattle.calls.proofs.Leaves.{left-refused, left-done}
 use Rattle.rules.specs.Call11.{unlink}
 use mathlib.Core.Path.{sym, _∙_}
@@ -63,7 +64,7 @@ same-length-3 : tie.Need-same-length-3
 same-length-3 c = search needs
 
 returns-3 : tie.Need-returns-3
-returns-3 c = λ buffer. left-refused _ (λ h q. unlink h q _ _ buffer) (unlink-absent (c .before .before .before .before .before .before .before .pre .known) _ buffer (c .before .before .before .before .or-self .ensures) (no-file _ _ (sym (c .before .before .before .check .ensures) ∙ c .before .enum-told .given .1))) (λ z. omega arith) (c .refused2 .ensures)
+returns-3 c = λ buffer. left-refused _ (λ h q. unlink h q _ _ buffer) (unlink-absent (c .before .before .before .before .before .before .before .pre .known) _ buffer (c .before .before .before .before .or-self .ensures) (file-not _ _ (sym (c .before .before .before .check .ensures) ∙ c .before .enum-told .given .1))) (λ z. omega arith) (c .refused2 .ensures)
 
 pub unlink-spec : {M : Type 1} → statement M
 unlink-spec =

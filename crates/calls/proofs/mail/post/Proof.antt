@@ -1,7 +1,8 @@
 -- `mail::post` meets its contract: seid 0 is the caller, and only a process's seid goes on.
 use mathlib.Core.Path.{sym, _∙_}
 use Rattle.calls.proofs.Worlds.{processes-is}
-use Rattle.calls.proofs.Named.{found-process, no-process}
+use Rattle.ids.proofs.Parts.{process-not}
+use Rattle.calls.proofs.Named.{found-process}
 use Rattle.calls.proofs.Posts.{post-same, post-absent}
 use native.Mathlib.Omega.{arith}
 use borrow.Author.Needs.{needs}
@@ -39,7 +40,7 @@ same-length-2 : tie.Need-same-length-2
 same-length-2 c = search needs
 
 returns-2 : tie.Need-returns-2
-returns-2 c = post-absent (c .before .before .before .before .before .before .before .before .before .pre .0) _ _ (c .before .before .before .before .before .or-self .ensures) (rw (← (processes-is (c .before .before .before .before .before .before .before .before .before .pre .0 .known))) (no-process _ _ (sym (c .before .before .before .before .check .ensures) ∙ c .before .before .enum-told .given .1))) (c .before .first .ensures) (c .refused .ensures)
+returns-2 c = post-absent (c .before .before .before .before .before .before .before .before .before .pre .0) _ _ (c .before .before .before .before .before .or-self .ensures) (rw (← (processes-is (c .before .before .before .before .before .before .before .before .before .pre .0 .known))) (process-not _ _ (sym (c .before .before .before .before .check .ensures) ∙ c .before .before .enum-told .given .1))) (c .before .first .ensures) (c .refused .ensures)
 
 pub post-spec : {M : Type 1} → statement M
 post-spec =

@@ -2,7 +2,8 @@
 use mathlib.Core.Path.{sym, _∙_}
 use Rattle.rules.specs.Layout.{file}
 use Rattle.calls.proofs.Worlds.{files-is}
-use Rattle.calls.proofs.Named.{found-file, no-file}
+use Rattle.ids.proofs.Parts.{file-not}
+use Rattle.calls.proofs.Named.{found-file}
 use Rattle.calls.proofs.ProcessesLaws.{file-word, drop-some, drop-none}
 use borrow.Author.Needs.{needs}
 use Rattle.calls.proofs.processes.drop_descriptor.Statement.{statement}
@@ -43,7 +44,7 @@ same-length-2 : tie.Need-same-length-2
 same-length-2 c = search needs
 
 returns-2 : tie.Need-returns-2
-returns-2 c = drop-none _ _ file _ _ (files-is (c .before .before .before .before .before .before .before .pre .0 .known)) (file-word (c .before .before .before .before .before .before .before .pre .0 .known) _ _ (c .before .before .before .before .wide .ensures) (c .before .before .before .in-process .ensures)) (c .before .before .before .before .before .before .before .pre .0 .formed) (no-file _ _ (sym (c .before .before .check .ensures) ∙ (c .enum-told .given .1)))
+returns-2 c = drop-none _ _ file _ _ (files-is (c .before .before .before .before .before .before .before .pre .0 .known)) (file-word (c .before .before .before .before .before .before .before .pre .0 .known) _ _ (c .before .before .before .before .wide .ensures) (c .before .before .before .in-process .ensures)) (c .before .before .before .before .before .before .before .pre .0 .formed) (file-not _ _ (sym (c .before .before .check .ensures) ∙ (c .enum-told .given .1)))
 
 pub drop-descriptor-spec : {M : Type 1} → statement M
 drop-descriptor-spec =

@@ -2,7 +2,8 @@
 use mathlib.Core.Path.{sym, _∙_}
 use Rattle.rules.specs.Layout.{segment}
 use Rattle.calls.proofs.Worlds.{segments-is}
-use Rattle.calls.proofs.Named.{found-segment, no-segment}
+use Rattle.ids.proofs.Parts.{segment-not}
+use Rattle.calls.proofs.Named.{found-segment}
 use Rattle.calls.proofs.ProcessesLaws.{segment-word, drop-some, drop-none}
 use borrow.Author.Needs.{needs}
 use Rattle.calls.proofs.processes.drop_designator.Statement.{statement}
@@ -43,7 +44,7 @@ same-length-2 : tie.Need-same-length-2
 same-length-2 c = search needs
 
 returns-2 : tie.Need-returns-2
-returns-2 c = drop-none _ _ segment _ _ (segments-is (c .before .before .before .before .before .before .before .pre .0 .known)) (segment-word (c .before .before .before .before .before .before .before .pre .0 .known) _ _ (c .before .before .before .before .wide .ensures) (c .before .before .before .in-process .ensures)) (c .before .before .before .before .before .before .before .pre .0 .formed) (no-segment _ _ (sym (c .before .before .check .ensures) ∙ (c .enum-told .given .1)))
+returns-2 c = drop-none _ _ segment _ _ (segments-is (c .before .before .before .before .before .before .before .pre .0 .known)) (segment-word (c .before .before .before .before .before .before .before .pre .0 .known) _ _ (c .before .before .before .before .wide .ensures) (c .before .before .before .in-process .ensures)) (c .before .before .before .before .before .before .before .pre .0 .formed) (segment-not _ _ (sym (c .before .before .check .ensures) ∙ (c .enum-told .given .1)))
 
 pub drop-designator-spec : {M : Type 1} → statement M
 drop-designator-spec =

@@ -19,7 +19,8 @@ use Rattle.calls.specs.World.{Sound}
 use Rattle.calls.specs.Finds.{ownPast}
 use Rattle.calls.specs.Holding.{Holding}
 use Rattle.calls.proofs.Worlds.{home-is, processes-is}
-use Rattle.calls.proofs.Named.{Is, found-process, no-process}
+use Rattle.ids.proofs.Parts.{process-not}
+use Rattle.calls.proofs.Named.{Is, found-process}
 use Rattle.calls.proofs.Finds.{own-past, own-absent, found-past}
 use Rattle.calls.proofs.ProcessesLaws.{then-segments, released-is}
 use native.Mathlib.Omega.{arith}
@@ -137,7 +138,7 @@ same-length-3 : tie.Need-same-length-3
 same-length-3 c = search needs
 
 returns-3 : tie.Need-returns-3
-returns-3 c = λ buffer. left-refused _ _ (absent-number (c .before .before .before .before .before .before .before .pre) _ (c .before .before .before .before .or-self .ensures) buffer (no-process _ _ (sym (c .before .before .before .check .ensures) ∙ (c .before .enum-told .given .1)))) (λ z. omega arith) (c .refused2 .ensures)
+returns-3 c = λ buffer. left-refused _ _ (absent-number (c .before .before .before .before .before .before .before .pre) _ (c .before .before .before .before .or-self .ensures) buffer (process-not _ _ (sym (c .before .before .before .check .ensures) ∙ (c .before .enum-told .given .1)))) (λ z. omega arith) (c .refused2 .ensures)
 
 pub release-process-spec : {M : Type 1} → statement M
 release-process-spec =

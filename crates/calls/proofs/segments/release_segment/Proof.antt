@@ -14,7 +14,8 @@ use Rattle.rules.specs.Call05.{releaseSegment}
 use Rattle.laws.proofs.Tests.{both-ways}
 use Rattle.calls.proofs.Worlds.{home-is}
 use Rattle.calls.proofs.Leaves.{left-refused, left-done}
-use Rattle.calls.proofs.Named.{found-segment, no-segment}
+use Rattle.ids.proofs.Parts.{segment-not}
+use Rattle.calls.proofs.Named.{found-segment}
 use Rattle.calls.proofs.Entries.{not-chosen, segment-form}
 use Rattle.calls.proofs.ProcessesLaws.{segment-word}
 use native.Mathlib.Omega.{arith}
@@ -105,7 +106,7 @@ same-length-3 c = search needs
 returns-3 : tie.Need-returns-3
 returns-3 c = both-ways _
     (segment-form (c .before .before .before .before .before .before .before .before .before .before .before .before .pre) _ _ (c .before .before .before .before .before .before .before .before .before .wide .ensures) ((past (c .before .before .before .before .before .before .before .before .in-process .result) (c .before .before .before .before .before .before .before .wide2 .ensures) (c .before .before .before .before .before .before .first .ensures) (c .before .before .before .before .before .first2 .ensures) (c .before .before .before .before .if1 .left)) .0) ((past (c .before .before .before .before .before .before .before .before .in-process .result) (c .before .before .before .before .before .before .before .wide2 .ensures) (c .before .before .before .before .before .before .first .ensures) (c .before .before .before .before .before .first2 .ensures) (c .before .before .before .before .if1 .left)) .1) (c .before .before .before .before .before .before .before .before .in-process .ensures))
-    (no-segment _ _ (sym (c .before .before .before .check .ensures) ∙ (c .before .enum-told .given .1)))
+    (segment-not _ _ (sym (c .before .before .before .check .ensures) ∙ (c .before .enum-told .given .1)))
 
 pub release-segment-spec : {M : Type 1} → statement M
 release-segment-spec =

@@ -18,7 +18,8 @@ use Rattle.calls.specs.World.{offsetBy, rdBy, Sound}
 use Rattle.calls.specs.Finds.{takenUpAt}
 use Rattle.calls.proofs.Worlds.{see, spot, segments-is}
 use Rattle.calls.proofs.Given.{a-segment}
-use Rattle.calls.proofs.Named.{Is, found-segment, no-segment}
+use Rattle.ids.proofs.Parts.{segment-not}
+use Rattle.calls.proofs.Named.{Is, found-segment}
 use Rattle.calls.proofs.Entries.{cond-some}
 use Rattle.calls.proofs.Holders.{one-fits, taken-is}
 use native.Mathlib.Omega.{arith}
@@ -195,7 +196,7 @@ same-length-3 : tie.Need-same-length-3
 same-length-3 c = search needs
 
 returns-3 : tie.Need-returns-3
-returns-3 c = λ buffer. left-refused _ _ (absent-number (c .before .before .before .before .before .before .before .before .before .pre .0) (c .before .before .before .before .before .before .before .before .before .args .a) (c .before .before .before .before .before .before .before .before .before .args .b) buffer (c .before .before .before .before .before .before .or-self .ensures) (c .before .before .before .before .before .valid-access .ensures) (no-segment _ _ (sym (c .before .before .before .before .check .ensures) ∙ (c .before .before .enum-told .given .1))) (c .before .first8 .ensures)) (refusing (c .before .before .before .before .before .before .before .before .before .args .b) (c .before .before .before .before .before .valid-access .result) (c .before .first8 .ensures)) (c .refused2 .ensures)
+returns-3 c = λ buffer. left-refused _ _ (absent-number (c .before .before .before .before .before .before .before .before .before .pre .0) (c .before .before .before .before .before .before .before .before .before .args .a) (c .before .before .before .before .before .before .before .before .before .args .b) buffer (c .before .before .before .before .before .before .or-self .ensures) (c .before .before .before .before .before .valid-access .ensures) (segment-not _ _ (sym (c .before .before .before .before .check .ensures) ∙ (c .before .before .enum-told .given .1))) (c .before .first8 .ensures)) (refusing (c .before .before .before .before .before .before .before .before .before .args .b) (c .before .before .before .before .before .valid-access .result) (c .before .first8 .ensures)) (c .refused2 .ensures)
 
 pub rendezvous-spec : {M : Type 1} → statement M
 rendezvous-spec =

@@ -3,7 +3,8 @@ use mathlib.Core.Path.{refl, sym, _∙_}
 use mathlib.Core.List.{[]}
 use Rattle.rules.specs.Layout.{file}
 use Rattle.calls.proofs.Worlds.{see, files-is}
-use Rattle.calls.proofs.Named.{found-file, no-file}
+use Rattle.ids.proofs.Parts.{file-not}
+use Rattle.calls.proofs.Named.{found-file}
 use Rattle.calls.proofs.Statuses.{status-absent, status-refused, status-done, in-cells}
 use native.Mathlib.Omega.{arith}
 use borrow.Author.Needs.{needs}
@@ -69,7 +70,7 @@ returns-2 c = status-done (c .before .before .before .before .before .before .be
     (c .before .before .before .before .before .before .before .before .before .before .before .before .before .index .ensures ∙ rw (found-file _ _ (sym (c .before .before .before .before .before .before .before .before .before .before .before .before .before .before .before .before .before .check .ensures) ∙ c .before .before .before .before .before .before .before .before .before .before .before .before .before .before .before .id .given .1) .same)) (c .before .before .before .before .before .file-cell .ensures) (c .before .before .before .before .before .before .before .before .in-file .ensures) (c .before .before .before .before .before .before .before .in-file2 .ensures) (c .before .before .before .before .before .before .in-file3 .ensures ∙ see (c .before .before .before .before .before .before .before .before .before .before .before .before .before .before .before .before .before .before .before .before .pre .0 .known) _) (c .before .before .before .tell .ensures)
 
 returns-3 : tie.Need-returns-3
-returns-3 c = status-absent (c .before .before .before .before .before .before .before .pre .0) file _ _ (rw (← (files-is (c .before .before .before .before .before .before .before .pre .0 .known))) (no-file _ _ (sym (c .before .before .before .before .check .ensures) ∙ c .before .before .enum-told .given .1))) (c .before .first .ensures) (c .refused2 .ensures)
+returns-3 c = status-absent (c .before .before .before .before .before .before .before .pre .0) file _ _ (rw (← (files-is (c .before .before .before .before .before .before .before .pre .0 .known))) (file-not _ _ (sym (c .before .before .before .before .check .ensures) ∙ c .before .before .enum-told .given .1))) (c .before .first .ensures) (c .refused2 .ensures)
 
 pub file-status-spec : {M : Type 1} → statement M
 file-status-spec =

@@ -3,7 +3,8 @@ use mathlib.Core.Path.{refl, sym, _∙_}
 use mathlib.Core.List.{[]}
 use Rattle.rules.specs.Layout.{process}
 use Rattle.calls.proofs.Worlds.{see, processes-is}
-use Rattle.calls.proofs.Named.{found-process, no-process}
+use Rattle.ids.proofs.Parts.{process-not}
+use Rattle.calls.proofs.Named.{found-process}
 use Rattle.calls.proofs.Statuses.{status-absent, status-refused, status-done, in-cells}
 use native.Mathlib.Omega.{arith}
 use borrow.Author.Needs.{needs}
@@ -66,7 +67,7 @@ returns-2 c = status-done (c .before .before .before .before .before .before .be
     (c .before .before .before .before .before .before .before .before .before .before .before .before .index .ensures ∙ rw (found-process _ _ (sym (c .before .before .before .before .before .before .before .before .before .before .before .before .before .before .before .before .check .ensures) ∙ c .before .before .before .before .before .before .before .before .before .before .before .before .before .before .id .given .1) .same)) (c .before .before .before .before .before .process-cell .ensures) (c .before .before .before .before .before .before .before .in-process .ensures) (c .before .before .before .before .before .before .in-process2 .ensures) refl (c .before .before .before .tell .ensures)
 
 returns-3 : tie.Need-returns-3
-returns-3 c = status-absent (c .before .before .before .before .before .before .before .pre .0) process _ _ (rw (← (processes-is (c .before .before .before .before .before .before .before .pre .0 .known))) (no-process _ _ (sym (c .before .before .before .before .check .ensures) ∙ c .before .before .enum-told .given .1))) (c .before .first .ensures) (c .refused2 .ensures)
+returns-3 c = status-absent (c .before .before .before .before .before .before .before .pre .0) process _ _ (rw (← (processes-is (c .before .before .before .before .before .before .before .pre .0 .known))) (process-not _ _ (sym (c .before .before .before .before .check .ensures) ∙ c .before .before .enum-told .given .1))) (c .before .first .ensures) (c .refused2 .ensures)
 
 pub process-status-spec : {M : Type 1} → statement M
 process-status-spec =
