@@ -31,7 +31,7 @@ use Rattle.calls.specs.Blocks.{entryPast, usePast, ReadLeft, WriteLeft}
 use Rattle.calls.proofs.Worlds.{spot, see, shape, files-is, blocks-is}
 use Rattle.calls.proofs.Leaves.{left-refused, left-done, store-refused, store-done, buffer-refused, buffer-done}
 use Rattle.calls.proofs.Named.{Is}
-use Rattle.calls.proofs.Entries.{not-chosen}
+use Rattle.calls.proofs.Entries.{not-chosen, file-word}
 use Rattle.calls.proofs.FilesLaws.{sooner, later, never}
 
 -- ---- a part that is lent: bytes stored in it are stored in the whole
@@ -118,7 +118,7 @@ use-past h r p s held number read write b rest l ee z =
 module _ {t : List ℕ} {w : World} (known : Known t w) (st : List ℕ) (a b : ℕ) (buf : List ℕ) {y s e : ℕ} (ye : y ≡ a) (se : s ≡ rdBy w t (at process (w .me) (8 + 2 * y)))
     (ee : e ≡ entryPast (length buf) a s) where
   held-is : s ≡ rd (configuration t) t (at process (w .me) (8 + 2 * a))
-  held-is = se ∙ see known (at process (w .me) (8 + 2 * y)) ∙ rw ye
+  held-is = file-word known (w .me) a ye se
 
   first-is : e ≡ entryPast (length buf) a (rd (configuration t) t (at process (w .me) (8 + 2 * a)))
   first-is = ee ∙ ap (entryPast (length buf) a) held-is

@@ -23,15 +23,24 @@ pub cond-some : (b : Bool) (m n : ℕ) → 0 < m → 0 < n → (cond b m n ≡ 0
 cond-some true m n p q e = omega arith
 cond-some false m n p q e = omega arith
 
+-- the word of an entry, as the code reads it; y is the entry's number
+module _ {t : List ℕ} {w : World} (known : Known t w) (q d : ℕ) {y s : ℕ} (same : y ≡ d) where
+  pub file-word : s ≡ rdBy w t (at process q (8 + 2 * y)) → s ≡ rd (configuration t) t (at process q (heldAt file d))
+  file-word e = e ∙ see known (at process q (8 + 2 * y)) ∙ rw same
+
+  pub segment-word : s ≡ rdBy w t (at process q (40 + 2 * y)) → s ≡ rd (configuration t) t (at process q (heldAt segment d))
+  segment-word e = e ∙ see known (at process q (40 + 2 * y)) ∙ rw same
+
+-- where it is filled, it has its kind's form
 module _ {t : List ℕ} {w : World} (sound : Sound t w) (a s : ℕ) {y : ℕ} (same : y ≡ a) (l : leb entries a ≡ false) (some : eqb s 0 ≡ false) where
   pub file-form : s ≡ rdBy w t (at process (w .me) (8 + 2 * y)) → isSeid (class file) (w .files) s ≡ true
   file-form e =
-      let r : s ≡ rd (configuration t) t (at process (w .me) (heldAt file a)) = e ∙ see (sound .known) _ ∙ rw same in
+      let r = file-word (sound .known) (w .me) a same e in
       let d = descriptor (configuration t) (rd (configuration t) t) (sound .records) (w .me) a (sound .caller) (leb-false entries a l) in
       rw (files-is (sound .known), r) (d .held (λ z. eqb-false s 0 some (r ∙ z)) .form)
 
   pub segment-form : s ≡ rdBy w t (at process (w .me) (40 + 2 * y)) → isSeid (class segment) (w .segments) s ≡ true
   segment-form e =
-      let r : s ≡ rd (configuration t) t (at process (w .me) (heldAt segment a)) = e ∙ see (sound .known) _ ∙ rw same in
+      let r = segment-word (sound .known) (w .me) a same e in
       let d = designator (configuration t) (rd (configuration t) t) (sound .records) (w .me) a (sound .caller) (leb-false entries a l) in
       rw (segments-is (sound .known), r) (d .held (λ z. eqb-false s 0 some (r ∙ z)) .form)

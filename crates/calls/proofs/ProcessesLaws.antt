@@ -175,14 +175,6 @@ module _ (h t : List ℕ) (k : Kind) (q d : ℕ) {n s : ℕ} (size : n ≡ slots
       (λ z. rw (← word, z))
       (λ z. both-ways (isSeid (class k) n s) (rw (size, word) (f (λ x. eqb-false s 0 z (word ∙ x)))) fails)
 
--- the word of an entry, as the code reads it; y is the entry's number
-module _ {t : List ℕ} {w : World} (known : Known t w) (q d : ℕ) {y s : ℕ} (same : y ≡ d) where
-  pub file-word : s ≡ rdBy w t (at process q (8 + 2 * y)) → s ≡ rd (configuration t) t (at process q (heldAt file d))
-  file-word e = e ∙ see known (at process q (8 + 2 * y)) ∙ rw same
-
-  pub segment-word : s ≡ rdBy w t (at process q (40 + 2 * y)) → s ≡ rd (configuration t) t (at process q (heldAt segment d))
-  segment-word e = e ∙ see known (at process q (40 + 2 * y)) ∙ rw same
-
 -- n of them given up
 module _ {t : List ℕ} {w : World} {k : Kind} (th : Thing k) (q : ℕ) (holding : Holding t w k q) where
   far : (n : ℕ) → n ≤ entries → SoFar (configuration t) th q (holding .here) (rd (configuration t) t) (holding .formed) n

@@ -21,7 +21,7 @@ use Rattle.calls.proofs.Worlds.{see, home-is}
 use Rattle.calls.proofs.Leaves.{left-refused, left-done, none-first}
 use Rattle.ids.proofs.Parts.{file-not}
 use Rattle.calls.proofs.Named.{found-file}
-use Rattle.calls.proofs.Entries.{not-chosen, file-form}
+use Rattle.calls.proofs.Entries.{not-chosen, file-word, file-form}
 use Rattle.calls.proofs.files.close.Statement.{statement}
 use Rattle.calls.proofs.files.close.Tie as tie
 
@@ -29,7 +29,7 @@ use Rattle.calls.proofs.files.close.Tie as tie
 number : {t : List ℕ} {w : World} → Known t w → (p a : ℕ) (buffer : List ℕ) {y z s x e : ℕ} → y ≡ a → s ≡ rdBy w t (at process p (8 + 2 * y)) → z ≡ a
     → x ≡ cond (eqb s 0) 10 0 → e ≡ cond (leb entries z) 10 x → e ≡ firstRefusal (ruleAt t (λ h q. close h q p a buffer) .refusals)
 unfolding close
-number k p a buffer {y} ya sr za xe ee = rw (ee, xe, sr, see k (at process p (8 + 2 * y)), ya, za)
+number k p a buffer ya sr za xe ee = rw (ee, xe, file-word k p a ya sr, za)
 
 -- past the refusals the entry is one of sixteen, and filled
 past : {a z x e : ℕ} (s : ℕ) → z ≡ a → x ≡ cond (eqb s 0) 10 0 → e ≡ cond (leb entries z) 10 x → e ≡ 0 → (leb entries a ≡ false) × (eqb s 0 ≡ false)
@@ -42,7 +42,7 @@ past {a} {z} {x} {e} s za xe ee z0 =
 words : {t : List ℕ} {w : World} → Known t w → (p a : ℕ) (buffer : List ℕ) {y s f : ℕ} → y ≡ a → s ≡ rdBy w t (at process p (8 + 2 * y)) → f ≡ s
     → write (configuration t) t (givenUp (configuration t) (rd (configuration t) t) file p a f) ≡ write (configuration t) t (ruleAt t (λ h q. close h q p a buffer) .effects .words)
 unfolding close
-words k p a buffer {y} ya sr fs = rw (fs, sr, see k (at process p (8 + 2 * y)), ya)
+words k p a buffer ya sr fs = rw (fs, file-word k p a ya sr)
 
 wide-requires : tie.Need-wide-requires
 wide-requires c κs = search needs

@@ -4,7 +4,8 @@ use Rattle.rules.specs.Layout.{file}
 use Rattle.calls.proofs.Worlds.{files-is}
 use Rattle.ids.proofs.Parts.{file-not}
 use Rattle.calls.proofs.Named.{found-file}
-use Rattle.calls.proofs.ProcessesLaws.{file-word, drop-some, drop-none}
+use Rattle.calls.proofs.Entries.{file-word}
+use Rattle.calls.proofs.ProcessesLaws.{drop-some, drop-none}
 use borrow.Author.Needs.{needs}
 use Rattle.calls.proofs.processes.drop_descriptor.Statement.{statement}
 use Rattle.calls.proofs.processes.drop_descriptor.Tie as tie

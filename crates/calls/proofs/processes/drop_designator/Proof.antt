@@ -4,7 +4,8 @@ use Rattle.rules.specs.Layout.{segment}
 use Rattle.calls.proofs.Worlds.{segments-is}
 use Rattle.ids.proofs.Parts.{segment-not}
 use Rattle.calls.proofs.Named.{found-segment}
-use Rattle.calls.proofs.ProcessesLaws.{segment-word, drop-some, drop-none}
+use Rattle.calls.proofs.Entries.{segment-word}
+use Rattle.calls.proofs.ProcessesLaws.{drop-some, drop-none}
 use borrow.Author.Needs.{needs}
 use Rattle.calls.proofs.processes.drop_designator.Statement.{statement}
 use Rattle.calls.proofs.processes.drop_designator.Tie as tie

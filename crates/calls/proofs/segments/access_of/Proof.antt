@@ -16,8 +16,7 @@ use Rattle.ids.specs.declared.SegmentIs.{SegmentIs}
 use Rattle.calls.specs.declared.segments.Segment.{Segment}
 use Rattle.calls.specs.Seen.{seenSegment}
 use Rattle.calls.proofs.Leaves.{left-refused, left-done}
-use Rattle.calls.proofs.Entries.{not-chosen}
-use Rattle.calls.proofs.ProcessesLaws.{segment-word}
+use Rattle.calls.proofs.Entries.{not-chosen, segment-word}
 use Rattle.calls.proofs.SegmentsLaws.{after, seen-held, used-word}
 use native.Mathlib.Omega.{arith}
 use borrow.Author.Needs.{needs}

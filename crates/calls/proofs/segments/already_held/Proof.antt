@@ -10,7 +10,7 @@ use Rattle.rules.specs.Layout.{process, segment, at, configuration, rd, entries
 use Rattle.rules.specs.Call04.{alreadyHeld}
 use Rattle.calls.specs.declared.World.{World}
 use Rattle.calls.specs.World.{Known, rdBy}
-use Rattle.calls.proofs.ProcessesLaws.{segment-word}
+use Rattle.calls.proofs.Entries.{segment-word}
 use borrow.Author.Needs.{needs}
 use native.Mathlib.Omega.{arith}
 use Rattle.calls.proofs.segments.already_held.Statement.{statement}

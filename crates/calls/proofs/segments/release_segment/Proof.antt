@@ -16,8 +16,7 @@ use Rattle.calls.proofs.Worlds.{home-is}
 use Rattle.calls.proofs.Leaves.{left-refused, left-done}
 use Rattle.ids.proofs.Parts.{segment-not}
 use Rattle.calls.proofs.Named.{found-segment}
-use Rattle.calls.proofs.Entries.{not-chosen, segment-form}
-use Rattle.calls.proofs.ProcessesLaws.{segment-word}
+use Rattle.calls.proofs.Entries.{not-chosen, segment-form, segment-word}
 use native.Mathlib.Omega.{arith}
 use borrow.Author.Needs.{needs}
 use Rattle.calls.proofs.segments.release_segment.Statement.{statement}

@@ -18,7 +18,7 @@ use Rattle.calls.specs.declared.segments.Segment.{Segment}
 use Rattle.calls.specs.Seen.{seenSegment}
 use Rattle.calls.proofs.Worlds.{spot}
 use Rattle.calls.proofs.Leaves.{left-refused, left-done}
-use Rattle.calls.proofs.ProcessesLaws.{segment-word}
+use Rattle.calls.proofs.Entries.{segment-word}
 use Rattle.calls.proofs.SegmentsLaws.{after, seen-held}
 use native.Mathlib.Omega.{arith}
 use borrow.Author.Needs.{needs}
