@@ -21,18 +21,17 @@ use Rattle.rules.specs.Find.{rightsAt}
 use Rattle.rules.specs.Call13.{block, readBlock}
 use Rattle.rules.specs.Call14.{blockWritten, writeBlock}
 use Rattle.laws.proofs.Tests.{passed}
-use Rattle.laws.proofs.Seids.{is-formed}
 use Rattle.laws.proofs.Shape.{file-record}
 use Rattle.calls.specs.declared.Answer.{Answer}
 use Rattle.calls.specs.declared.World.{World}
 use Rattle.calls.specs.World.{offsetBy, rdBy, Known, Sound}
 use Rattle.calls.specs.Left.{said, ruleAt}
 use Rattle.calls.specs.Blocks.{entryPast, usePast, ReadLeft, WriteLeft}
-use Rattle.calls.proofs.Worlds.{spot, see, shape, files-is, blocks-is}
+use Rattle.calls.proofs.Worlds.{spot, see, blocks-is}
 use Rattle.calls.proofs.Leaves.{left-refused, left-done, store-refused, store-done, buffer-refused, buffer-done}
 use Rattle.calls.proofs.Named.{Is}
 use Rattle.calls.proofs.Entries.{not-chosen, file-word}
-use Rattle.calls.proofs.FilesLaws.{sooner, later, never}
+use Rattle.calls.proofs.FilesLaws.{sooner, later, never, slot-in}
 
 -- ---- a part that is lent: bytes stored in it are stored in the whole
 
@@ -181,18 +180,15 @@ module _ {t : List ℕ} {w : World} (known : Known t w) (st : List ℕ) (a b : �
 -- ---- the file's stretch is within the store
 
 module _ {t : List ℕ} {w : World} (sound : Sound t w) (m : ℕ) (long : m ≡ storeBytes (configuration t)) {s f i : ℕ} (is : Is (w .files) (class file) s f) (ie : i ≡ indexOf f) where
-  slot-in : i < slots (configuration t) file
-  slot-in = omega (arith, is-formed (class file) (w .files) s (is .form) .index-in, files-is (sound .known), ie ∙ ap indexOf (is .same))
-
   pub stretch-in : {v x : ℕ} → x ≡ w .blocks → v ≡ i → v * (x * blockBytes) + x * blockBytes ≤ m
   stretch-in xe ve =
-      let l = mul-le-mul-right (blocks (configuration t) * blockBytes) slot-in in
+      let l = mul-le-mul-right (blocks (configuration t) * blockBytes) (slot-in (sound .known) is ie) in
       let d : suc i * (blocks (configuration t) * blockBytes) ≡ i * (blocks (configuration t) * blockBytes) + blocks (configuration t) * blockBytes = native.Mathlib.Nat.suc-mul i (blocks (configuration t) * blockBytes) in
       rw (xe, ve, blocks-is (sound .known)) (omega arith)
 
   pub size-in : {n : ℕ} → n ≡ rdBy w t (at file i size) → n ≤ blocks (configuration t)
   size-in ne =
-      let x = file-record (configuration t) (rd (configuration t) t) (sound .records) i slot-in in
+      let x = file-record (configuration t) (rd (configuration t) t) (sound .records) i (slot-in (sound .known) is ie) in
       let e = ne ∙ see (sound .known) (at file i size) in
       elim (ℕ-discrete (rd (configuration t) t (at file i live)) 1) [
         | yes y ↦ omega (arith, x .alive y .size-fits)

@@ -109,11 +109,14 @@ module _ {t : List ℕ} {w : World} (known : Known t w) (a : ℕ) (buffer : List
     unfolding unlink
     unlink-words = rw (slot, is .same, self)
 
+-- the slot of a file that a seid names
+pub slot-in : {t : List ℕ} {w : World} → Known t w → {s f i : ℕ} → Is (w .files) (class file) s f → i ≡ indexOf f → i < slots (configuration t) file
+slot-in {w = w} known {s} is slot = omega (arith, is-formed (class file) (w .files) s (is .form) .index-in, files-is known, slot ∙ ap indexOf (is .same))
+
 -- links stay in a byte
 pub links-few : {t : List ℕ} {w : World} → Sound t w → {s f i n : ℕ} → Is (w .files) (class file) s f → i ≡ indexOf f → n ≡ rdBy w t (at file i links) → n ≤ maxLinks
 links-few {t} {w} sound {s} {f} {i} {n} is slot count =
-    let l : i < slots (configuration t) file = omega (arith, is-formed (class file) (w .files) s (is .form) .index-in, files-is (sound .known), slot ∙ ap indexOf (is .same)) in
-    let x = file-record (configuration t) (rd (configuration t) t) (sound .records) i l in
+    let x = file-record (configuration t) (rd (configuration t) t) (sound .records) i (slot-in (sound .known) is slot) in
     let e = count ∙ see (sound .known) (at file i links) in
     elim (ℕ-discrete (rd (configuration t) t (at file i live)) 1) [
       | yes y ↦ omega (arith, x .alive y .links-fit)
