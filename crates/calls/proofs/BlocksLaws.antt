@@ -30,7 +30,7 @@ use Rattle.calls.specs.Blocks.{entryPast, usePast, ReadLeft, WriteLeft}
 use Rattle.calls.proofs.Worlds.{spot, see, blocks-is}
 use Rattle.calls.proofs.Leaves.{left-refused, left-done, store-refused, store-done, buffer-refused, buffer-done}
 use Rattle.calls.proofs.Named.{Is}
-use Rattle.calls.proofs.Entries.{not-chosen, file-word}
+use Rattle.calls.proofs.Entries.{not-chosen, entry-filled, file-word}
 use Rattle.calls.proofs.FilesLaws.{sooner, later, never, slot-in}
 
 -- ---- a part that is lent: bytes stored in it are stored in the whole
@@ -98,9 +98,8 @@ pub entry-past : (n a s : ℕ) {e : ℕ} → e ≡ entryPast n a s → e ≡ 0 �
 unfolding entryPast
 entry-past n a s ee z =
     let p = not-chosen (not (eqb n blockBytes)) 5 _ (omega arith) (sym ee ∙ z) in
-    let q = not-chosen (leb entries a) 10 _ (omega arith) (p .1) in
-    let r = not-chosen (eqb s 0) 10 0 (omega arith) (q .1) in
-    record { bytes = eqb-true n blockBytes (passed (eqb n blockBytes) (p .0)); entry = q .0; some = r .0 }
+    let q = entry-filled 10 10 0 (omega arith) (omega arith) {a = a} {z = a} s refl refl refl (p .1) in
+    record { bytes = eqb-true n blockBytes (passed (eqb n blockBytes) (p .0)); entry = q .0; some = q .1 }
 
 -- past the second the block is one of the file's stretch
 pub use-past : (h : List ℕ) (r : Addr → ℕ) (p s : ℕ) (held : Bool) (number : ℕ) (read write : Bool) (b rest : ℕ) {e : ℕ} → 0 < number

@@ -31,6 +31,13 @@ module _ {t : List ℕ} {w : World} (known : Known t w) (q d : ℕ) {y s : ℕ} 
   pub segment-word : s ≡ rdBy w t (at process q (40 + 2 * y)) → s ≡ rd (configuration t) t (at process q (heldAt segment d))
   segment-word e = e ∙ see known (at process q (40 + 2 * y)) ∙ rw same
 
+-- past the refusals of an entry out of range and of an empty one, it is one of the caller's and filled; z is its number as the code has it
+pub entry-filled : (m n rest : ℕ) → 0 < m → 0 < n → {a z x e : ℕ} (s : ℕ) → z ≡ a → x ≡ cond (eqb s 0) n rest → e ≡ cond (leb entries z) m x → e ≡ 0
+    → (leb entries a ≡ false) × (eqb s 0 ≡ false)
+entry-filled m n rest lm ln {z = z} {x} s za xe ee none =
+    let p = not-chosen (leb entries z) m x lm (sym ee ∙ none) in
+    (rw za at (p .0), not-chosen (eqb s 0) n rest ln (sym xe ∙ p .1) .0)
+
 -- where it is filled, it has its kind's form
 module _ {t : List ℕ} {w : World} (sound : Sound t w) (a s : ℕ) {y : ℕ} (same : y ≡ a) (l : leb entries a ≡ false) (some : eqb s 0 ≡ false) where
   pub file-form : s ≡ rdBy w t (at process (w .me) (8 + 2 * y)) → isSeid (class file) (w .files) s ≡ true

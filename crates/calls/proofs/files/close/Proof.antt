@@ -21,7 +21,7 @@ use Rattle.calls.proofs.Worlds.{see, home-is}
 use Rattle.calls.proofs.Leaves.{left-refused, left-done, none-first}
 use Rattle.ids.proofs.Parts.{file-not}
 use Rattle.calls.proofs.Named.{found-file}
-use Rattle.calls.proofs.Entries.{not-chosen, file-word, file-form}
+use Rattle.calls.proofs.Entries.{entry-filled, file-word, file-form}
 use Rattle.calls.proofs.files.close.Statement.{statement}
 use Rattle.calls.proofs.files.close.Tie as tie
 
@@ -30,13 +30,6 @@ number : {t : List ℕ} {w : World} → Known t w → (p a : ℕ) (buffer : List
     → x ≡ cond (eqb s 0) 10 0 → e ≡ cond (leb entries z) 10 x → e ≡ firstRefusal (ruleAt t (λ h q. close h q p a buffer) .refusals)
 unfolding close
 number k p a buffer ya sr za xe ee = rw (ee, xe, file-word k p a ya sr, za)
-
--- past the refusals the entry is one of sixteen, and filled
-past : {a z x e : ℕ} (s : ℕ) → z ≡ a → x ≡ cond (eqb s 0) 10 0 → e ≡ cond (leb entries z) 10 x → e ≡ 0 → (leb entries a ≡ false) × (eqb s 0 ≡ false)
-past {a} {z} {x} {e} s za xe ee z0 =
-    let p = not-chosen (leb entries z) 10 x (omega arith) (sym ee ∙ z0) in
-    let q = not-chosen (eqb s 0) 10 0 (omega arith) (sym xe ∙ p .1) in
-    (rw za at (p .0), q .0)
 
 -- the words written are the rule's; f is the identifier that the entry's word is
 words : {t : List ℕ} {w : World} → Known t w → (p a : ℕ) (buffer : List ℕ) {y s f : ℕ} → y ≡ a → s ≡ rdBy w t (at process p (8 + 2 * y)) → f ≡ s
@@ -106,8 +99,8 @@ same-length-3 c = search needs
 
 returns-3 : tie.Need-returns-3
 returns-3 c = both-ways _
-    (file-form (c .before .before .before .before .before .before .before .before .before .before .before .before .pre) _ _ (c .before .before .before .before .before .before .before .before .before .wide .ensures) ((past (c .before .before .before .before .before .before .before .before .in-process .result) (c .before .before .before .before .before .before .before .wide2 .ensures) (c .before .before .before .before .before .before .first .ensures) (c .before .before .before .before .before .first2 .ensures) (c .before .before .before .before .if1 .left)) .0)
-    ((past (c .before .before .before .before .before .before .before .before .in-process .result) (c .before .before .before .before .before .before .before .wide2 .ensures) (c .before .before .before .before .before .before .first .ensures) (c .before .before .before .before .before .first2 .ensures) (c .before .before .before .before .if1 .left)) .1) (c .before .before .before .before .before .before .before .before .in-process .ensures))
+    (file-form (c .before .before .before .before .before .before .before .before .before .before .before .before .pre) _ _ (c .before .before .before .before .before .before .before .before .before .wide .ensures) ((entry-filled 10 10 0 (omega arith) (omega arith) (c .before .before .before .before .before .before .before .before .in-process .result) (c .before .before .before .before .before .before .before .wide2 .ensures) (c .before .before .before .before .before .before .first .ensures) (c .before .before .before .before .before .first2 .ensures) (c .before .before .before .before .if1 .left)) .0)
+    ((entry-filled 10 10 0 (omega arith) (omega arith) (c .before .before .before .before .before .before .before .before .in-process .result) (c .before .before .before .before .before .before .before .wide2 .ensures) (c .before .before .before .before .before .before .first .ensures) (c .before .before .before .before .before .first2 .ensures) (c .before .before .before .before .if1 .left)) .1) (c .before .before .before .before .before .before .before .before .in-process .ensures))
     (file-not _ _ (sym (c .before .before .before .check .ensures) ∙ c .before .enum-told .given .1))
 
 pub close-spec : {M : Type 1} → statement M

@@ -16,7 +16,7 @@ use Rattle.ids.specs.declared.SegmentIs.{SegmentIs}
 use Rattle.calls.specs.declared.segments.Segment.{Segment}
 use Rattle.calls.specs.Seen.{seenSegment}
 use Rattle.calls.proofs.Leaves.{left-refused, left-done}
-use Rattle.calls.proofs.Entries.{not-chosen, segment-word}
+use Rattle.calls.proofs.Entries.{entry-filled, segment-word}
 use Rattle.calls.proofs.SegmentsLaws.{after, seen-held, used-word}
 use native.Mathlib.Omega.{arith}
 use borrow.Author.Needs.{needs}
@@ -41,9 +41,8 @@ module _ {t : List ℕ} {w : World} (sound : Sound t w) (a : ℕ) (buffer : List
     result : x ≡ ruleAt t (λ h q. accessOf h q (w .me) a buffer) .effects .first
     unfolding accessOf limited
     result =
-        let p = not-chosen (leb entries z) 8 x₂ (omega arith) (sym e₃ ∙ none) in
-        let q = not-chosen (eqb s 0) 9 x₁ (omega arith) (sym e₂ ∙ p .1) in
-        let f = seen-held sound a ya sr ie ge (rw za at (p .0)) (q .0) in
+        let p = entry-filled 8 9 x₁ (omega arith) (omega arith) s za e₂ e₃ none in
+        let f = seen-held sound a ya sr ie ge (p .0) (p .1) in
         rw (xe, are, mre, awe, mwe, f, ← segment-word (sound .known) (w .me) a ya sr, used-word (sound .known) (w .me) a va ur)
 
 wide-requires : tie.Need-wide-requires

@@ -16,7 +16,7 @@ use Rattle.calls.proofs.Worlds.{home-is}
 use Rattle.calls.proofs.Leaves.{left-refused, left-done}
 use Rattle.ids.proofs.Parts.{segment-not}
 use Rattle.calls.proofs.Named.{found-segment}
-use Rattle.calls.proofs.Entries.{not-chosen, segment-form, segment-word}
+use Rattle.calls.proofs.Entries.{entry-filled, segment-form, segment-word}
 use native.Mathlib.Omega.{arith}
 use borrow.Author.Needs.{needs}
 use Rattle.calls.proofs.segments.release_segment.Statement.{statement}
@@ -27,13 +27,6 @@ number : {t : List ℕ} {w : World} → Sound t w → (a : ℕ) (buffer : List �
     → x ≡ cond (eqb s 0) 9 0 → e ≡ cond (leb entries z) 8 x → e ≡ firstRefusal (ruleAt t (λ h q. releaseSegment h q (w .me) a buffer) .refusals)
 unfolding releaseSegment
 number sound a buffer ya sr za xe ee = rw (ee, xe, segment-word (sound .known) _ a ya sr, za)
-
--- past the refusals the entry is one of sixteen, and filled
-past : {a z x e : ℕ} (s : ℕ) → z ≡ a → x ≡ cond (eqb s 0) 9 0 → e ≡ cond (leb entries z) 8 x → e ≡ 0 → (leb entries a ≡ false) × (eqb s 0 ≡ false)
-past {a} {z} {x} {e} s za xe ee z0 =
-    let p = not-chosen (leb entries z) 8 x (omega arith) (sym ee ∙ z0) in
-    let q = not-chosen (eqb s 0) 9 0 (omega arith) (sym xe ∙ p .1) in
-    (rw za at (p .0), q .0)
 
 -- the words written are the rule's; g is the identifier that the entry's word is
 words : {t : List ℕ} {w : World} → Sound t w → (a : ℕ) (buffer : List ℕ) {y s g : ℕ} → y ≡ a → s ≡ rdBy w t (at process (w .me) (40 + 2 * y)) → g ≡ s
@@ -104,7 +97,7 @@ same-length-3 c = search needs
 
 returns-3 : tie.Need-returns-3
 returns-3 c = both-ways _
-    (segment-form (c .before .before .before .before .before .before .before .before .before .before .before .before .pre) _ _ (c .before .before .before .before .before .before .before .before .before .wide .ensures) ((past (c .before .before .before .before .before .before .before .before .in-process .result) (c .before .before .before .before .before .before .before .wide2 .ensures) (c .before .before .before .before .before .before .first .ensures) (c .before .before .before .before .before .first2 .ensures) (c .before .before .before .before .if1 .left)) .0) ((past (c .before .before .before .before .before .before .before .before .in-process .result) (c .before .before .before .before .before .before .before .wide2 .ensures) (c .before .before .before .before .before .before .first .ensures) (c .before .before .before .before .before .first2 .ensures) (c .before .before .before .before .if1 .left)) .1) (c .before .before .before .before .before .before .before .before .in-process .ensures))
+    (segment-form (c .before .before .before .before .before .before .before .before .before .before .before .before .pre) _ _ (c .before .before .before .before .before .before .before .before .before .wide .ensures) ((entry-filled 8 9 0 (omega arith) (omega arith) (c .before .before .before .before .before .before .before .before .in-process .result) (c .before .before .before .before .before .before .before .wide2 .ensures) (c .before .before .before .before .before .before .first .ensures) (c .before .before .before .before .before .first2 .ensures) (c .before .before .before .before .if1 .left)) .0) ((entry-filled 8 9 0 (omega arith) (omega arith) (c .before .before .before .before .before .before .before .before .in-process .result) (c .before .before .before .before .before .before .before .wide2 .ensures) (c .before .before .before .before .before .before .first .ensures) (c .before .before .before .before .before .first2 .ensures) (c .before .before .before .before .if1 .left)) .1) (c .before .before .before .before .before .before .before .before .in-process .ensures))
     (segment-not _ _ (sym (c .before .before .before .check .ensures) ∙ (c .before .enum-told .given .1)))
 
 pub release-segment-spec : {M : Type 1} → statement M
