@@ -11,7 +11,7 @@ use Rattle.rules.specs.Layout.{maxSerial, Kind, process, segment, file, configu
 use Rattle.rules.specs.Seid.{class, indexOf, serialOf, isSeid, formed, seidAt, orSelf, present}
 use Rattle.rules.specs.Rights.{rights}
 use Rattle.rules.specs.Rule.{Refusal, firstRefusal}
-use Rattle.rules.specs.Find.{absent, inOwnCell, flowsToCaller, find, own, rightsAt}
+use Rattle.rules.specs.Find.{absent, inOwnCell, flowsToCaller, own, rightsAt}
 use Rattle.laws.proofs.Seids.{Formed, is-formed, class-pos, class-some}
 use Rattle.laws.proofs.Shape.{process-record}
 use Rattle.levels.proofs.Cells.{matrix-any}
@@ -21,42 +21,16 @@ use Rattle.calls.specs.declared.World.{World}
 use Rattle.calls.specs.World.{rdBy, Known, Sound}
 use Rattle.calls.specs.Finds.{findPast, ownPast}
 use Rattle.calls.proofs.Worlds.{see, shape, home-is}
-use Rattle.calls.proofs.Entries.{not-chosen}
 
 -- ---- the refusals past the form are the rule's
 
 module _ (h : List ℕ) (r : Addr → ℕ) (k : Kind) (s : ℕ) (xs : List Refusal) where
-  pub find-past : (forbidden : Bool) → formed h k s ≡ true → findPast r k s forbidden (firstRefusal xs) ≡ firstRefusal (find h r k s forbidden ++ xs)
-  unfolding findPast
-  find-past b f = rw f
-
-  pub find-absent : (forbidden : Bool) → formed h k s ≡ false → absent k ≡ firstRefusal (find h r k s forbidden ++ xs)
-  find-absent b f = rw f
-
   pub own-past : (p : ℕ) → formed h k s ≡ true → ownPast h r p k s (firstRefusal xs) ≡ firstRefusal (own h r p k s ++ xs)
   unfolding ownPast findPast
   own-past p f = rw f
 
   pub own-absent : (p : ℕ) → formed h k s ≡ false → absent k ≡ firstRefusal (own h r p k s ++ xs)
   own-absent p f = rw f
-
--- past the refusals: the cell, the presence
-pub absent-some : (k : Kind) → 0 < absent k
-absent-some process = omega arith
-absent-some segment = omega arith
-absent-some file = omega arith
-
-pub record FoundPast (r : Addr → ℕ) (k : Kind) (s : ℕ) (forbidden : Bool) (rest : ℕ) : Type 0 where
-  pub allowed : forbidden ≡ false
-  pub there : not (present r k s) ≡ false
-  pub after : rest ≡ 0
-
-pub found-past : (r : Addr → ℕ) (k : Kind) (s : ℕ) (forbidden : Bool) (rest : ℕ) → findPast r k s forbidden rest ≡ 0 → FoundPast r k s forbidden rest
-unfolding findPast
-found-past r k s b rest e =
-    let x = not-chosen b 13 _ (omega arith) e in
-    let y = not-chosen (not (present r k s)) (absent k) rest (absent-some k) (x .1) in
-    record { allowed = x .0; there = y .0; after = y .1 }
 
 -- ---- what the code reads: i is the slot of the seid s
 

@@ -57,11 +57,3 @@ module _ (t : List ℕ) (f : List ℕ → (Addr → ℕ) → Rule) {e : ℕ} (fo
 -- two rules that are one on this table
 pub left-same : (t : List ℕ) (f g : List ℕ → (Addr → ℕ) → Rule) {r : Answer} {t′ : List ℕ} → ruleAt t f ≡ ruleAt t g → Left t f r t′ → Left t g r t′
 left-same t f g e l = record { answer = l .answer ∙ ap answerOf e; table = l .table ∙ ap (tableOf (configuration t) t) e }
-
--- where no refusal holds, each test of the list is false
-pub none-first : (x : Refusal) (xs : List Refusal) → firstRefusal (x ∷ xs) ≡ 0 → 0 < x .number → (x .test ≡ false) × (firstRefusal xs ≡ 0)
-none-first x xs e l = go (x .test) e
-  where
-    go : (b : Bool) → cond b (x .number) (firstRefusal xs) ≡ 0 → (b ≡ false) × (firstRefusal xs ≡ 0)
-    go true q = absurd (omega arith)
-    go false q = (refl, q)

@@ -29,7 +29,6 @@ use Rattle.calls.specs.Told.{toldAt}
 use Rattle.calls.proofs.Worlds.{see, shape}
 use Rattle.calls.proofs.Leaves.{answer-refused, answer-done, buffer-refused, buffer-done}
 use Rattle.calls.proofs.Entries.{not-chosen, cond-some}
-use Rattle.calls.proofs.Finds.{absent-some}
 use Rattle.calls.proofs.Queues.{sets-all}
 
 -- what a status call leaves: the answer and the buffer of a rule
@@ -41,6 +40,11 @@ all-told : (h : List ℕ) (r : Addr → ℕ) (k : Kind) (i : ℕ) (b : List ℕ)
     → toldAt h (class k) (cellOf h k i) (r (at k i owner)) (r (at k i group)) (bitsOf r k i) b ≡ told h r k i
 unfolding told toldAt
 all-told h r k i b l = sets-all b (told h r k i) (sym l)
+
+absent-some : (k : Kind) → 0 < absent k
+absent-some process = omega arith
+absent-some segment = omega arith
+absent-some file = omega arith
 
 module _ {t : List ℕ} {w : World} (sound : Sound t w) (k : Kind) (s : ℕ) (b : List ℕ) where
   -- no seid of the kind

@@ -18,7 +18,7 @@ use Rattle.calls.specs.declared.World.{World}
 use Rattle.calls.specs.World.{rdBy, Known, Sound}
 use Rattle.calls.specs.Left.{ruleAt}
 use Rattle.calls.proofs.Worlds.{see, home-is}
-use Rattle.calls.proofs.Leaves.{left-refused, left-done, none-first}
+use Rattle.calls.proofs.Leaves.{left-refused, left-done}
 use Rattle.ids.proofs.Parts.{file-not}
 use Rattle.calls.proofs.Named.{found-file}
 use Rattle.calls.proofs.Entries.{entry-filled, file-word, file-form}

@@ -16,12 +16,13 @@ use Rattle.laws.proofs.Tests.{passed}
 use Rattle.laws.proofs.Seids.{is-formed}
 use Rattle.laws.proofs.Shape.{descriptor, designator}
 use Rattle.calls.specs.World.{Sound}
-use Rattle.calls.specs.Finds.{ownPast}
+use Rattle.calls.specs.Finds.{findPast, ownPast}
 use Rattle.calls.specs.Holding.{Holding}
 use Rattle.calls.proofs.Worlds.{home-is, processes-is}
 use Rattle.ids.proofs.Parts.{process-not}
 use Rattle.calls.proofs.Named.{Is, found-process}
-use Rattle.calls.proofs.Finds.{own-past, own-absent, found-past}
+use Rattle.calls.proofs.Finds.{own-past, own-absent}
+use Rattle.calls.proofs.Entries.{not-chosen}
 use Rattle.calls.proofs.ProcessesLaws.{then-segments, released-is}
 use native.Mathlib.Omega.{arith}
 use borrow.Author.Needs.{needs}
@@ -47,10 +48,10 @@ module _ {t : List ℕ} {w : World} (sound : Sound t w) (a : ℕ) {s : ℕ} (se 
 
     -- where there is none, the process is of the caller's cell
     at-home : e ≡ 0 → w .home ≡ cellOf (configuration t) process (indexOf x)
-    unfolding ownPast
+    unfolding ownPast findPast
     at-home z =
-        let f = found-past (rd (configuration t) t) process x (not (inOwnCell (configuration t) (w .me) process x)) _ (sym ee ∙ z) in
-        home-is (sound .known) ∙ sym (eqb-true _ _ (passed (inOwnCell (configuration t) (w .me) process x) (f .allowed)))
+        let f = not-chosen (not (inOwnCell (configuration t) (w .me) process x)) 13 _ (omega arith) (sym ee ∙ z) in
+        home-is (sound .known) ∙ sym (eqb-true _ _ (passed (inOwnCell (configuration t) (w .me) process x) (f .0)))
 
     -- and its entries hold what they should
     module _ (z : e ≡ 0) {q : ℕ} (qe : q ≡ indexOf x) where
