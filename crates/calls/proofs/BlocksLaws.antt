@@ -7,13 +7,13 @@ use native.Mathlib.Omega.{arith}
 use native.Mathlib.Nat.{mul-le-mul-right}
 use native.Mathlib.Decide.{ℕ-discrete}
 use lib.Dec.{eqb, leb}
-use lib.ListN.{length, getD, set, take, drop, replicate, length-replicate, length-take, length-drop}
+use lib.ListN.{length, set, take, drop, replicate, length-replicate, length-take, length-drop}
 use lib.Seq.{take-set-le, take-set-lt, drop-set-lt, drop-set-add, sets}
 use borrow.Author.Tests.{eqb-true, leb-false}
 use borrow.Rule.Slice.PartMut.{midOf, putMid, put-same}
 use Rattle.rules.specs.Words.{part}
-use Rattle.rules.specs.Layout.{blockBytes, process, file, configuration, slots, blocks, stretch, storeBytes, Addr, at, rd, entries, live, size}
-use Rattle.rules.specs.Seid.{class, indexOf, isSeid, present}
+use Rattle.rules.specs.Layout.{blockBytes, process, file, configuration, blocks, storeBytes, Addr, at, rd, entries, live, size}
+use Rattle.rules.specs.Seid.{class, indexOf, present}
 use Rattle.rules.specs.Modes.{reads, writes}
 use Rattle.rules.specs.Rights.{lacks}
 use Rattle.rules.specs.Rule.{firstRefusal, write, store}

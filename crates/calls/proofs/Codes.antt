@@ -1,7 +1,7 @@
 -- Each code has its rule, and the whole call is the rule of its code once the table, the caller and the code are good.
 use mathlib.Core.Path.{_≡_, refl, sym, ap, _∙_}
-use mathlib.Core.Bool.{Bool, true, false, cond, not}
-use mathlib.Core.List.{List, [], _∷_}
+use mathlib.Core.Bool.{true, false}
+use mathlib.Core.List.{List, []}
 use Prim.Native.Nat.{ℕ}
 use lib.Dec.{eqb}
 use lib.ListN.{length}
@@ -9,7 +9,7 @@ use Rattle.rules.specs.Claim.{test}
 use Rattle.rules.specs.Layout.{Addr, process, segment, configuration, rd}
 use Rattle.rules.specs.Seid.{class, classOf, orSelf}
 use Rattle.rules.specs.WellFormed.{wellFormed}
-use Rattle.rules.specs.Rule.{Refusal, Rule, rule, firstRefusal, write, store}
+use Rattle.rules.specs.Rule.{Refusal, Rule, rule, firstRefusal, store}
 use Rattle.rules.specs.Call01.{spawn}
 use Rattle.rules.specs.Call02.{releaseProcess}
 use Rattle.rules.specs.Call03.{buildSegment}
@@ -28,9 +28,8 @@ use Rattle.rules.specs.Call15.{post}
 use Rattle.rules.specs.Call16.{receive}
 use Rattle.rules.specs.Call17.{status}
 use Rattle.rules.specs.Call18.{accessOf}
-use Rattle.rules.specs.Step as rules
-use Rattle.rules.specs.Step.{Outcome, ruleOf, badCaller, badCode, carriedOut, wholeRule, step}
-use Rattle.laws.proofs.Tests.{split, cond-true, cond-false}
+use Rattle.rules.specs.Step.{ruleOf, badCaller, badCode, carriedOut, wholeRule, step}
+use Rattle.laws.proofs.Tests.{split}
 use Rattle.calls.specs.declared.Answer.{Answer}
 use Rattle.calls.specs.Left.{said, ruleAt, answerOf, tableOf, storeOf, bufferOf, Left}
 use Rattle.calls.specs.Blocks.{ReadLeft, WriteLeft}

@@ -1,12 +1,12 @@
 -- Choices of two numbers, and the caller's entries: what a filled one holds has its kind's form.
-use mathlib.Core.Path.{_≡_, refl, sym, ap, _∙_}
+use mathlib.Core.Path.{_≡_, refl, sym, _∙_}
 use mathlib.Core.Bool.{Bool, true, false, cond}
 use mathlib.Core.List.{List}
 use Prim.Native.Nat.{ℕ, _+_, _*_, _<_}
 use native.Mathlib.Omega.{arith}
 use lib.Dec.{leb, eqb}
 use borrow.Author.Tests.{leb-false, eqb-false}
-use Rattle.rules.specs.Layout.{process, segment, file, at, configuration, rd, slots, entries, heldAt}
+use Rattle.rules.specs.Layout.{process, segment, file, at, configuration, rd, entries, heldAt}
 use Rattle.rules.specs.Seid.{class, isSeid}
 use Rattle.laws.proofs.Shape.{descriptor, designator}
 use Rattle.calls.specs.declared.World.{World}

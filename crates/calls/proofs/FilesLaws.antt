@@ -1,7 +1,7 @@
 -- What the calls on files find and write, in the rules' terms.
 use mathlib.Core.Path.{_≡_, refl, sym, ap, _∙_}
 use mathlib.Core.Bool.{Bool, true, false, cond, _&&_, _||_, not}
-use mathlib.Core.List.{List, [], _∷_, _++_}
+use mathlib.Core.List.{List, [], _++_}
 use Prim.Native.Nat.{ℕ, _+_, _*_, _-_, _≤_, _<_}
 use native.Mathlib.Omega.{arith}
 use native.Mathlib.Decide.{ℕ-discrete}
@@ -9,9 +9,9 @@ use lib.Dec.{eqb, leb, ltb}
 use lib.ListN.{getD, set}
 use borrow.Author.Tests.{eq-eqb, ne-eqb, eqb-true}
 use Rattle.rules.specs.Words.{someBelow}
-use Rattle.rules.specs.Layout.{maxBits, maxLinks, maxSerial, Kind, process, segment, file, configuration, slots, cellWord, cellSlots, cellSlotsWord, firstSlot, cellOf, Addr, at, offset, rd, entries, heldAt, usedAt, live, serial, owner, group, bits, links, opens}
+use Rattle.rules.specs.Layout.{maxBits, maxLinks, maxSerial, Kind, process, segment, file, configuration, slots, cellWord, cellSlots, firstSlot, cellOf, Addr, at, offset, rd, entries, live, serial, owner, group, bits, links, opens}
 use Rattle.rules.specs.Seid.{class, classOf, seid, indexOf, isSeid, orSelf, present}
-use Rattle.rules.specs.Modes.{validModes, reads, writes, clash}
+use Rattle.rules.specs.Modes.{validModes, reads, writes}
 use Rattle.rules.specs.Rights.{lacks}
 use Rattle.rules.specs.Rule.{firstRefusal, write}
 use Rattle.rules.specs.Find.{inOwnCell, flowsToCaller, rightsAt, freeSlot, freeEntry, entered}
@@ -20,7 +20,7 @@ use Rattle.rules.specs.Call08.{clashesAt, clashes, openFile}
 use Rattle.rules.specs.Call10.{link}
 use Rattle.rules.specs.Call11.{unlinked, unlink}
 use Rattle.rules.specs.Call12.{setBitsOf, setBits}
-use Rattle.laws.proofs.Tests.{cond-true, cond-false, split}
+use Rattle.laws.proofs.Tests.{cond-true, cond-false}
 use Rattle.laws.proofs.Below.{some-none, some-of}
 use Rattle.laws.proofs.Seids.{is-formed, class-some}
 use Rattle.laws.proofs.Shape.{file-record, descriptor}

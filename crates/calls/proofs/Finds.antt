@@ -1,18 +1,18 @@
 -- The tests of "find" and "own" as the code makes them: the form, the level, presence and the owner, over the kind.
-use mathlib.Core.Path.{_≡_, refl, sym, ap, _∙_}
+use mathlib.Core.Path.{_≡_, _∙_}
 use mathlib.Core.Bool.{Bool, true, false, cond, _&&_, not}
-use mathlib.Core.List.{List, [], _∷_, _++_}
+use mathlib.Core.List.{List, [], _++_}
 use Prim.Native.Nat.{ℕ, _≤_, _<_}
 use native.Mathlib.Omega.{arith}
-use lib.Dec.{eqb, ltb, leb}
+use lib.Dec.{eqb}
 use lib.ListN.{getD}
 use borrow.Author.Tests.{ne-eqb}
-use Rattle.rules.specs.Layout.{maxSerial, Kind, process, segment, file, configuration, cellOf, slots, flowMatrix, Addr, at, rd, live, serial, owner, group, bits}
+use Rattle.rules.specs.Layout.{maxSerial, Kind, process, configuration, cellOf, flowMatrix, Addr, at, rd, live, serial, owner, group, bits}
 use Rattle.rules.specs.Seid.{class, indexOf, serialOf, isSeid, formed, seidAt, orSelf, present}
 use Rattle.rules.specs.Rights.{rights}
 use Rattle.rules.specs.Rule.{Refusal, firstRefusal}
 use Rattle.rules.specs.Find.{absent, inOwnCell, flowsToCaller, own, rightsAt}
-use Rattle.laws.proofs.Seids.{Formed, is-formed, class-pos, class-some}
+use Rattle.laws.proofs.Seids.{is-formed, class-pos, class-some}
 use Rattle.laws.proofs.Shape.{process-record}
 use Rattle.levels.proofs.Cells.{matrix-any}
 use Rattle.ids.specs.Seid.{seidOf}

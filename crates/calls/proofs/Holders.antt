@@ -1,13 +1,13 @@
 -- Holders: one more always fits, and what is written for it; records made and entries filled.
-use mathlib.Core.Path.{_≡_, refl, sym, ap, _∙_}
+use mathlib.Core.Path.{_≡_, refl, _∙_}
 use mathlib.Core.Bool.{Bool, true, false, cond}
 use mathlib.Core.List.{List, [], _∷_, _++_}
-use Prim.Native.Nat.{ℕ, suc, _+_, _*_, _≤_, _<_}
+use Prim.Native.Nat.{ℕ, _+_, _≤_, _<_}
 use native.Mathlib.Omega.{arith}
 use native.Mathlib.Nat.{mul-le-mul-right}
 use lib.ListN.{getD, set}
-use Rattle.rules.specs.Words.{sumBelow, countBelow}
-use Rattle.rules.specs.Layout.{maxSlots, Kind, process, segment, file, recordWords, configuration, slots, Addr, at, offset, rd, entries, heldAt, usedAt, live, serial, owner, group, bits, opens, holders}
+use Rattle.rules.specs.Words.{countBelow}
+use Rattle.rules.specs.Layout.{maxSlots, Kind, process, segment, file, configuration, slots, Addr, at, offset, rd, entries, heldAt, live, serial, owner, group, bits, opens}
 use Rattle.rules.specs.Seid.{indexOf}
 use Rattle.rules.specs.Rule.{Word, _≔_, write}
 use Rattle.rules.specs.WellFormed.{ownEntry, ownEntries}
@@ -15,7 +15,7 @@ use Rattle.rules.specs.Find.{inOwnCell, entered, oneMore}
 use Rattle.laws.proofs.Below.{sum-le, count-le}
 use Rattle.laws.proofs.Shape.{references-counted, opens-counted}
 use Rattle.calls.specs.declared.World.{World}
-use Rattle.calls.specs.World.{offsetBy, Known, Sound}
+use Rattle.calls.specs.World.{offsetBy, Sound}
 use Rattle.calls.specs.Finds.{fourAt, madeAt, takenUpAt}
 use Rattle.calls.proofs.Worlds.{spot, shape}
 use Rattle.calls.proofs.Given.{Thing, a-segment, a-file, along, next-word, holders-at, used-next}

@@ -1,13 +1,10 @@
 -- The two ways a call ends: refused with the first number whose test holds, or done.
-use mathlib.Core.Path.{_≡_, refl, sym, ap, _∙_}
-use mathlib.Core.Bool.{Bool, true, false, cond}
-use mathlib.Core.List.{List, _∷_}
-use Prim.Native.Nat.{ℕ, _<_}
-use native.Mathlib.Omega.{arith}
-use lib.Dec.{eqb}
+use mathlib.Core.Path.{_≡_, ap, _∙_}
+use mathlib.Core.List.{List}
+use Prim.Native.Nat.{ℕ}
 use borrow.Author.Tests.{eq-eqb, ne-eqb}
-use Rattle.rules.specs.Layout.{Addr, configuration, rd}
-use Rattle.rules.specs.Rule.{Refusal, firstRefusal, Rule, write, store}
+use Rattle.rules.specs.Layout.{Addr, configuration}
+use Rattle.rules.specs.Rule.{firstRefusal, Rule, write, store}
 use Rattle.calls.specs.declared.Answer.{Answer}
 use Rattle.calls.specs.Left.{said, ruleAt, answerOf, tableOf, storeOf, bufferOf, Left}
 

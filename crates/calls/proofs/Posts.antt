@@ -1,16 +1,15 @@
 -- Posts: what refuses one, the message's words, and the two ends of the call.
 use mathlib.Core.Path.{_≡_, refl, sym, ap, _∙_}
 use mathlib.Core.Bool.{Bool, true, false, cond, _&&_, not}
-use mathlib.Core.List.{List, [], _∷_}
+use mathlib.Core.List.{List, []}
 use Prim.Native.Nat.{ℕ, _+_, _*_, _<_}
 use native.Mathlib.Omega.{arith}
 use lib.Dec.{ltb, leb, eqb}
 use lib.ListN.{length, getD, set}
 use Rattle.rules.specs.Words.{word4}
 use Rattle.rules.specs.Layout.{process, configuration, cellOf, flows, flowMatrix, slots, Addr, at, offset, rd, queue, messages, messagesAt, messageAt, messageWords}
-use Rattle.rules.specs.Seid.{class, indexOf, isSeid, present, seidAt, orSelf}
+use Rattle.rules.specs.Seid.{class, indexOf, isSeid, present, orSelf}
 use Rattle.rules.specs.Rule.{write, firstRefusal}
-use Rattle.rules.specs.Find.{inOwnCell}
 use Rattle.rules.specs.Call15.{textBytes, queued, post}
 use borrow.Author.Tests.{ltb-true}
 use Rattle.laws.proofs.Tests.{and-right}

@@ -2,7 +2,7 @@
 use mathlib.Core.Path.{_≡_, refl, sym, ap, _∙_}
 use mathlib.Core.Bool.{Bool, true, false, cond, _&&_, not}
 use mathlib.Core.List.{List, [], _∷_, _++_}
-use Prim.Native.Nat.{ℕ, zero, suc, _+_, _*_, _-_, _≤_, _<_}
+use Prim.Native.Nat.{ℕ, zero, suc, _+_, _-_, _≤_, _<_}
 use native.Mathlib.Omega.{arith}
 use native.Mathlib.Numerals.{add-one}
 use lib.Dec.{eqb}
@@ -17,9 +17,9 @@ use Rattle.laws.proofs.Tests.{split, both-ways}
 use Rattle.laws.proofs.Seids.{is-formed, class-some, class-pos}
 use Rattle.laws.proofs.Written.{AllOf, nil, also, all-append, all-if, all-map, Valids, over-append, write-append, over-same, over-miss, length-write, rd-write, conf-write}
 use Rattle.calls.specs.declared.World.{World}
-use Rattle.calls.specs.World.{offsetBy, rdBy, Known, freedAt}
+use Rattle.calls.specs.World.{offsetBy, Known, freedAt}
 use Rattle.calls.specs.Holding.{EntryFormed, HoldingAt, Holding}
-use Rattle.calls.proofs.Worlds.{see, spot}
+use Rattle.calls.proofs.Worlds.{spot}
 use Rattle.calls.proofs.Named.{Is}
 use Rattle.calls.proofs.Given.{Thing, a-segment, a-file, freed-is}
 

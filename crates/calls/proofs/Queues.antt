@@ -1,6 +1,6 @@
 -- Messages: a message shown as bytes, the queue moved up, in the rule's words.
 use mathlib.Core.Path.{_≡_, refl, sym, ap, _∙_}
-use mathlib.Core.Bool.{Bool, true, false, cond, not}
+use mathlib.Core.Bool.{cond, not}
 use mathlib.Core.List.{List, _++_, append-nil}
 use Prim.Native.Nat.{ℕ, zero, suc, _+_, _*_, _-_, _≤_, _<_}
 use native.Mathlib.Omega.{arith}
@@ -10,8 +10,8 @@ use borrow.Author.Tests.{eqb-true}
 use lib.ListN.{length, getD, set, length-set, replicate}
 use lib.Seq.{sets, length-sets, sets-eq, drop-length, getD-set-other}
 use Rattle.rules.specs.Words.{tabFrom, bytes4}
-use Rattle.rules.specs.Layout.{Kind, process, configuration, Addr, at, offset, rd, queue, messages, messageWords, messagesAt, messageAt}
-use Rattle.rules.specs.Rule.{Word, _≔_, write, firstRefusal}
+use Rattle.rules.specs.Layout.{process, configuration, at, offset, rd, queue, messages, messageWords, messagesAt, messageAt}
+use Rattle.rules.specs.Rule.{_≔_, write, firstRefusal}
 use Rattle.rules.specs.Find.{zeros}
 use Rattle.rules.specs.Call16.{movedUp, receive, messageBytes}
 use Rattle.laws.proofs.Tab.{tab-more}

@@ -1,15 +1,14 @@
 -- Room: the code's searches for a free slot and an empty entry are the rule's, over the kind, and so is a new object's seid.
 use mathlib.Core.Path.{_≡_, refl, sym, ap, _∙_}
-use mathlib.Core.Bool.{Bool, true, false, _&&_}
+use mathlib.Core.Bool.{Bool, false, _&&_}
 use mathlib.Core.List.{List}
-use Prim.Native.Nat.{ℕ, suc, _+_, _*_, _≤_, _<_}
+use Prim.Native.Nat.{ℕ, _+_, _*_, _≤_, _<_}
 use native.Mathlib.Omega.{arith}
-use native.Mathlib.Numerals.{add-one}
 use lib.Dec.{eqb, ltb, leb}
 use borrow.Author.Tests.{leb-false, ltb-true}
 use lib.ListN.{getD}
-use Rattle.rules.specs.Words.{sumBelow, lowest}
-use Rattle.rules.specs.Layout.{maxSlots, maxSerial, Kind, process, segment, file, headerWords, cellWords, recordWords, configuration, cells, slots, cellWord, cellSlots, cellSlotsWord, firstSlot, cellOf, Addr, at, offset, rd, heldAt, entries, live, serial}
+use Rattle.rules.specs.Words.{sumBelow}
+use Rattle.rules.specs.Layout.{maxSlots, maxSerial, Kind, process, segment, file, headerWords, cellWords, recordWords, configuration, cells, slots, cellWord, cellSlots, cellSlotsWord, firstSlot, cellOf, at, offset, rd, heldAt, live, serial}
 use Rattle.rules.specs.Seid.{class, seid}
 use Rattle.rules.specs.Find.{freeSlot, freeEntry}
 use Rattle.laws.proofs.Search.{lowest-same, lowest-hit}
@@ -22,7 +21,7 @@ use Rattle.ids.specs.Seid.{seidOf}
 use Rattle.ids.proofs.Parts.{seid-fits}
 use Rattle.calls.specs.declared.World.{World}
 use Rattle.calls.specs.World.{baseBy, offsetBy, rdBy, Known, Sound, firstBy, freeTest, freeAt, emptyTest, emptyAt}
-use Rattle.calls.proofs.Worlds.{spot, see, shape, cells-is, home-is, first-by-kind, kind-word}
+use Rattle.calls.proofs.Worlds.{spot, see, shape, cells-is, home-is, first-by-kind}
 use Rattle.calls.proofs.Given.{Thing, a-segment, a-file}
 
 -- ---- cells

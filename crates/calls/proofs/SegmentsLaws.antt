@@ -3,7 +3,6 @@ use mathlib.Core.Path.{_≡_, refl, _∙_}
 use mathlib.Core.Bool.{Bool, true, false, cond}
 use mathlib.Core.List.{List, _∷_}
 use Prim.Native.Nat.{ℕ, _+_, _*_, _≤_, _<_}
-use native.Mathlib.Omega.{arith}
 use lib.Dec.{leb, eqb}
 use Rattle.rules.specs.Layout.{maxSlots, cellWords, cellSlotsWord, Kind, process, segment, configuration, cells, at, offset, rd, live, serial, owner, group, entries, usedAt}
 use Rattle.rules.specs.Rule.{Word, _≔_, write}

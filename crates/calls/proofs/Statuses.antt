@@ -1,7 +1,7 @@
 -- Status: what refuses it, its sixteen bytes, and which kind's rule a seid's class asks for.
-use mathlib.Core.Path.{_≡_, refl, sym, ap, _∙_}
+use mathlib.Core.Path.{_≡_, sym, ap, _∙_}
 use mathlib.Core.Bool.{Bool, true, false, cond, not}
-use mathlib.Core.List.{List, [], _∷_, _++_}
+use mathlib.Core.List.{List, [], _∷_}
 use Prim.Native.Nat.{ℕ, _/_, _%_, _<_}
 use native.Mathlib.Omega.{arith}
 use lib.Dec.{eqb}
@@ -23,7 +23,7 @@ use Rattle.laws.proofs.Seids.{is-formed}
 use Rattle.laws.proofs.Shape.{in-run, shape-of}
 use Rattle.calls.specs.declared.World.{World}
 use Rattle.calls.specs.declared.Answer.{Answer}
-use Rattle.calls.specs.World.{rdBy, Known, Sound}
+use Rattle.calls.specs.World.{rdBy, Sound}
 use Rattle.calls.specs.Left.{said, ruleAt, answerOf, bufferOf}
 use Rattle.calls.specs.Told.{toldAt}
 use Rattle.calls.proofs.Worlds.{see, shape}

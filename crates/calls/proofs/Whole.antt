@@ -1,8 +1,8 @@
 -- The whole call: what its tests have shown, and its four ends.
-use mathlib.Core.Path.{_≡_, refl, sym, ap, _∙_}
+use mathlib.Core.Path.{_≡_, sym, ap, _∙_}
 use mathlib.Core.Bool.{Bool, true, false, _||_, not}
 use mathlib.Core.List.{List}
-use Prim.Native.Nat.{ℕ, _≤_, _<_}
+use Prim.Native.Nat.{ℕ, _≤_}
 use native.Mathlib.Omega.{arith}
 use lib.Dec.{ltb, leb, eqb}
 use lib.ListN.{length}
@@ -15,7 +15,7 @@ use Rattle.laws.proofs.Tests.{or-left, or-right}
 use Rattle.laws.proofs.Claims.{holds}
 use Rattle.calls.specs.declared.World.{World}
 use Rattle.calls.specs.declared.Answer.{Answer}
-use Rattle.calls.specs.World.{worldOf, rdBy, Known, Sound}
+use Rattle.calls.specs.World.{worldOf, rdBy, Sound}
 use Rattle.calls.specs.Left.{said}
 use Rattle.calls.specs.Did.{stateOf, callOf, Did, Through, ruleIn}
 use Rattle.calls.proofs.Worlds.{spot-world}

@@ -1,24 +1,22 @@
 -- A call's world is its table's configuration: places, readings and cells by the one are those of the other.
 use mathlib.Core.Path.{_≡_, refl, sym, ap, _∙_}
-use mathlib.Core.Bool.{Bool, true, false, cond, _&&_}
-use mathlib.Core.List.{List, [], _∷_}
+use mathlib.Core.Bool.{Bool, true, false, _&&_}
+use mathlib.Core.List.{List}
 use Prim.Native.Nat.{ℕ, suc, _+_, _*_, _≤_, _<_}
 use native.Mathlib.Omega.{arith}
 use native.Mathlib.Numerals.{add-one}
 use native.Mathlib.Decide.{ℕ-discrete}
-use lib.Dec.{ltb, leb, eqb}
-use lib.ListN.{length, getD, set}
+use lib.Dec.{ltb, eqb}
+use lib.ListN.{getD}
 use borrow.Author.Tests.{lt-ltb, le-ltb, eq-eqb, ne-eqb}
-use Rattle.rules.specs.Words.{sumBelow, lowest}
-use Rattle.rules.specs.Claim.{Holds}
-use Rattle.rules.specs.Layout.{maxSlots, maxCells, maxSerial, Kind, process, segment, file, headerWords, cellWords, recordWords, cells, slots, slotsWord, blocks, cellWord, cellSlots, cellSlotsWord, configuration, firstSlot, cellOf, Addr, at, base, offset, rd, live}
-use Rattle.rules.specs.WellFormed.{configured}
-use Rattle.laws.proofs.Below.{sum-more, sum-grows, term-le}
+use Rattle.rules.specs.Words.{sumBelow}
+use Rattle.rules.specs.Layout.{maxSlots, maxSerial, Kind, process, segment, file, headerWords, cellWords, recordWords, cells, slots, slotsWord, blocks, cellWord, cellSlotsWord, configuration, firstSlot, cellOf, Addr, at, base, offset, rd, live}
+use Rattle.laws.proofs.Below.{sum-grows}
 use Rattle.laws.proofs.Search.{lowest-is, lowest-none}
 use Rattle.laws.proofs.Places.{conf-cells, conf-slots, conf-blocks, conf-cell}
 use Rattle.laws.proofs.Shape.{Shape, shape-of}
 use Rattle.calls.specs.declared.World.{World}
-use Rattle.calls.specs.World.{worldOf, baseBy, offsetBy, rdBy, Known, Sound, firstBy, cellBy, freeTest, emptyTest}
+use Rattle.calls.specs.World.{worldOf, baseBy, offsetBy, rdBy, Known, firstBy, cellBy, freeTest, emptyTest}
 
 -- ---- places and readings
 

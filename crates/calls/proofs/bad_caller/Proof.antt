@@ -1,6 +1,5 @@
 -- `bad_caller` meets its contract.
 use Rattle.calls.proofs.Whole.{caller-told}
-use native.Mathlib.Omega.{arith}
 use borrow.Author.Needs.{needs}
 use Rattle.calls.proofs.bad_caller.Statement.{statement}
 use Rattle.calls.proofs.bad_caller.Tie as tie

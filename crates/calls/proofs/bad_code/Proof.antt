@@ -1,8 +1,6 @@
 -- `bad_code` meets its contract.
 use mathlib.Core.Path.{refl}
 use Rattle.rules.specs.Step.{badCode}
-use borrow.Author.Needs.{needs}
-use native.Mathlib.Omega.{arith}
 use Rattle.calls.proofs.bad_code.Statement.{statement}
 use Rattle.calls.proofs.bad_code.Tie as tie
 

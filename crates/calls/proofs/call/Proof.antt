@@ -1,7 +1,6 @@
 -- `call` meets its contract: table, caller, code, then the call's own rule.
 use Rattle.laws.proofs.Tests.{passed, failed}
 use Rattle.calls.proofs.Whole.{own, conf, store-long, sound, no-table, no-caller, no-code, all-done, good-code}
-use native.Mathlib.Omega.{arith}
 use borrow.Author.Needs.{needs}
 use Rattle.calls.proofs.call.Statement.{statement}
 use Rattle.calls.proofs.call.Tie as tie

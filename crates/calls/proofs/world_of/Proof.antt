@@ -3,7 +3,6 @@ use mathlib.Core.Path.{sym, _∙_}
 use Rattle.rules.specs.Layout.{process}
 use Rattle.laws.proofs.Shape.{shape-of}
 use Rattle.calls.proofs.Worlds.{header-cells, word-of-kind, own-world}
-use native.Mathlib.Omega.{arith}
 use borrow.Author.Needs.{needs}
 use Rattle.calls.proofs.world_of.Statement.{statement}
 use Rattle.calls.proofs.world_of.Tie as tie

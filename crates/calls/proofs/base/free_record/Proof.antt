@@ -1,6 +1,5 @@
 -- `base::free_record` meets its contract.
 use Rattle.calls.specs.World.{freedAt}
-use native.Mathlib.Omega.{arith}
 use borrow.Author.Needs.{needs}
 use Rattle.calls.proofs.base.free_record.Statement.{statement}
 use Rattle.calls.proofs.base.free_record.Tie as tie

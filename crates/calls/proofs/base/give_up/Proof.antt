@@ -1,6 +1,5 @@
 -- `base::give_up` meets its contract: the count is read before the entry is cleared.
 use Rattle.calls.specs.World.{givenUpAt}
-use native.Mathlib.Omega.{arith}
 use borrow.Author.Needs.{needs}
 use Rattle.calls.proofs.base.give_up.Statement.{statement}
 use Rattle.calls.proofs.base.give_up.Tie as tie

@@ -1,6 +1,5 @@
 -- `base::less` meets its contract: the test decides which of the two is written.
 use Rattle.calls.specs.World.{lessAt}
-use native.Mathlib.Omega.{arith}
 use borrow.Author.Needs.{needs}
 use Rattle.calls.proofs.base.less.Statement.{statement}
 use Rattle.calls.proofs.base.less.Tie as tie

@@ -1,6 +1,5 @@
 -- `blocks::bad_entry` meets its contract: the first refusals in order.
 use Rattle.calls.proofs.BlocksLaws.{entry-number}
-use native.Mathlib.Omega.{arith}
 use borrow.Author.Needs.{needs}
 use Rattle.calls.proofs.blocks.bad_entry.Statement.{statement}
 use Rattle.calls.proofs.blocks.bad_entry.Tie as tie

@@ -1,6 +1,5 @@
 -- `blocks::bad_use` meets its contract: the next refusals in order.
 use Rattle.calls.proofs.BlocksLaws.{use-number}
-use native.Mathlib.Omega.{arith}
 use borrow.Author.Needs.{needs}
 use Rattle.calls.proofs.blocks.bad_use.Statement.{statement}
 use Rattle.calls.proofs.blocks.bad_use.Tie as tie

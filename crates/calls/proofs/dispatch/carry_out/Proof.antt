@@ -1,6 +1,5 @@
 -- `dispatch::carry_out` meets its contract.
 use Rattle.calls.proofs.Codes.{plain-through}
-use native.Mathlib.Omega.{arith}
 use borrow.Author.Needs.{needs}
 use Rattle.calls.proofs.dispatch.carry_out.Statement.{statement}
 use Rattle.calls.proofs.dispatch.carry_out.Tie as tie

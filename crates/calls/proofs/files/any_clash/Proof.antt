@@ -1,7 +1,7 @@
 -- `files::any_clash` meets its contract. Both loops have passed no clashing open; the search is left by its label at the first.
 use Rattle.calls.proofs.Worlds.{shape}
 use mathlib.Core.Path.{_≡_, refl, sym, _∙_}
-use mathlib.Core.Bool.{true, false}
+use mathlib.Core.Bool.{false}
 use Prim.Native.Nat.{ℕ, _+_, _≤_, _<_, _-_}
 use native.Mathlib.Nat.{not-suc-le-zero, le-trans}
 use borrow.Author.Count.{below-more}

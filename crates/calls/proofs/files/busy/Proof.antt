@@ -1,5 +1,4 @@
 -- `files::busy` meets its contract: only a file of the own cell is searched for.
-use native.Mathlib.Omega.{arith}
 use borrow.Author.Needs.{needs}
 use Rattle.calls.proofs.files.busy.Statement.{statement}
 use Rattle.calls.proofs.files.busy.Tie as tie

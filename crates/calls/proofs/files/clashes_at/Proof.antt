@@ -2,7 +2,6 @@
 use Rattle.calls.proofs.FilesLaws.{clash-none, clash-held}
 use mathlib.Core.Path.{refl}
 use borrow.Author.Tests.{eq-eqb, ne-eqb}
-use native.Mathlib.Omega.{arith}
 use borrow.Author.Needs.{needs}
 use Rattle.calls.proofs.files.clashes_at.Statement.{statement}
 use Rattle.calls.proofs.files.clashes_at.Tie as tie

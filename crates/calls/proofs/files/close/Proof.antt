@@ -1,23 +1,21 @@
 -- `files::close` meets its contract: the rule's refusals in order, and the entry given up.
 use native.Mathlib.Omega.{arith}
 use borrow.Author.Needs.{needs}
-use mathlib.Core.Path.{_≡_, refl, sym, ap, _∙_}
-use mathlib.Core.Bool.{Bool, false, cond}
+use mathlib.Core.Path.{_≡_, sym, _∙_}
+use mathlib.Core.Bool.{cond}
 use mathlib.Core.List.{List}
-use Prim.Native.Nat.{ℕ, _+_, _*_, _<_}
+use Prim.Native.Nat.{ℕ, _+_, _*_}
 use native.Mathlib.Omega.{arith}
 use lib.Dec.{leb, eqb}
-use borrow.Author.Tests.{leb-false, eqb-false}
-use Rattle.rules.specs.Layout.{process, file, at, configuration, rd, entries, heldAt}
+use Rattle.rules.specs.Layout.{process, file, at, configuration, rd, entries}
 use Rattle.rules.specs.Rule.{firstRefusal, write}
 use Rattle.rules.specs.Find.{givenUp}
 use Rattle.rules.specs.Call09.{close}
 use Rattle.laws.proofs.Tests.{both-ways}
-use Rattle.laws.proofs.Shape.{descriptor}
 use Rattle.calls.specs.declared.World.{World}
-use Rattle.calls.specs.World.{rdBy, Known, Sound}
+use Rattle.calls.specs.World.{rdBy, Known}
 use Rattle.calls.specs.Left.{ruleAt}
-use Rattle.calls.proofs.Worlds.{see, home-is}
+use Rattle.calls.proofs.Worlds.{home-is}
 use Rattle.calls.proofs.Leaves.{left-refused, left-done}
 use Rattle.ids.proofs.Parts.{file-not}
 use Rattle.calls.proofs.Named.{found-file}

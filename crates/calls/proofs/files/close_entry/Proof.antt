@@ -1,7 +1,6 @@
 -- `files::close_entry` meets its contract: an entry given up, in the rule's words.
 use mathlib.Core.Path.{_∙_}
 use Rattle.calls.proofs.Given.{given-file}
-use native.Mathlib.Omega.{arith}
 use borrow.Author.Needs.{needs}
 use Rattle.calls.proofs.files.close_entry.Statement.{statement}
 use Rattle.calls.proofs.files.close_entry.Tie as tie

@@ -5,7 +5,6 @@ use Rattle.calls.proofs.Worlds.{shape}
 use Rattle.calls.proofs.Leaves.{left-refused, left-done}
 use Rattle.rules.specs.Call07.{create}
 use Rattle.rules.specs.Layout.{file}
-use mathlib.Core.Path.{_∙_}
 use native.Mathlib.Omega.{arith}
 use borrow.Author.Needs.{needs}
 use Rattle.calls.proofs.files.create.Statement.{statement}

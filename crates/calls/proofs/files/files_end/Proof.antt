@@ -2,8 +2,6 @@
 use Rattle.calls.proofs.Room.{home-in, end-told}
 use Rattle.calls.proofs.Worlds.{kind-word}
 use Rattle.rules.specs.Layout.{file}
-use borrow.Author.Needs.{needs}
-use native.Mathlib.Omega.{arith}
 use Rattle.calls.proofs.files.files_end.Statement.{statement}
 use Rattle.calls.proofs.files.files_end.Tie as tie
 

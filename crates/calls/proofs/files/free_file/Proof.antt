@@ -3,7 +3,6 @@ use Rattle.calls.proofs.Room.{home-in, slot-told}
 use Rattle.calls.proofs.Worlds.{kind-word}
 use Rattle.rules.specs.Layout.{file}
 use mathlib.Core.Path.{refl}
-use native.Mathlib.Omega.{arith}
 use borrow.Author.Needs.{needs}
 use Rattle.calls.proofs.files.free_file.Statement.{statement}
 use Rattle.calls.proofs.files.free_file.Tie as tie

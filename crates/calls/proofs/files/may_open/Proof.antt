@@ -1,6 +1,5 @@
 -- `files::may_open` meets its contract: the first refusals in order.
 use Rattle.calls.proofs.FilesLaws.{open-number}
-use native.Mathlib.Omega.{arith}
 use borrow.Author.Needs.{needs}
 use Rattle.calls.proofs.files.may_open.Statement.{statement}
 use Rattle.calls.proofs.files.may_open.Tie as tie

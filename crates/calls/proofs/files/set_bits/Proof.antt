@@ -3,11 +3,9 @@ use Rattle.calls.proofs.FilesLaws.{by-segment, by-file, segment-absent,
 use Rattle.ids.proofs.Parts.{file-not, segment-not}
 use Rattle.calls.proofs.Named.{found-file, found-segment}
 use Rattle.calls.proofs.Leaves.{left-same}
-use Rattle.calls.proofs.Worlds.{files-is, segments-is}
 use Rattle.rules.specs.Call12.{setBitsOf, setBits}
 use Rattle.rules.specs.Layout.{segment, file}
-use mathlib.Core.Path.{refl, sym, _∙_}
-use native.Mathlib.Omega.{arith}
+use mathlib.Core.Path.{sym, _∙_}
 use borrow.Author.Needs.{needs}
 use Rattle.calls.proofs.files.set_bits.Statement.{statement}
 use Rattle.calls.proofs.files.set_bits.Tie as tie

@@ -5,7 +5,6 @@ use Rattle.calls.proofs.Worlds.{files-is}
 use Rattle.rules.specs.Call12.{setBitsOf}
 use Rattle.rules.specs.Layout.{file}
 use mathlib.Core.Path.{_∙_}
-use native.Mathlib.Omega.{arith}
 use borrow.Author.Needs.{needs}
 use Rattle.calls.proofs.files.set_file_bits.Statement.{statement}
 use Rattle.calls.proofs.files.set_file_bits.Tie as tie

@@ -1,6 +1,5 @@
 -- `mail::deliver` meets its contract: the message's words, in the rule's order.
 use Rattle.calls.proofs.Posts.{deliver-words}
-use native.Mathlib.Omega.{arith}
 use borrow.Author.Needs.{needs}
 use Rattle.calls.proofs.mail.deliver.Statement.{statement}
 use Rattle.calls.proofs.mail.deliver.Tie as tie

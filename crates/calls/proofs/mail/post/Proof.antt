@@ -4,7 +4,6 @@ use Rattle.calls.proofs.Worlds.{processes-is}
 use Rattle.ids.proofs.Parts.{process-not}
 use Rattle.calls.proofs.Named.{found-process}
 use Rattle.calls.proofs.Posts.{post-same, post-absent}
-use native.Mathlib.Omega.{arith}
 use borrow.Author.Needs.{needs}
 use Rattle.calls.proofs.mail.post.Statement.{statement}
 use Rattle.calls.proofs.mail.post.Tie as tie

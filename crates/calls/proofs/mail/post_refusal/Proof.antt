@@ -1,6 +1,5 @@
 -- `mail::post_refusal` meets its contract.
 use Rattle.calls.proofs.Posts.{post-told}
-use native.Mathlib.Omega.{arith}
 use borrow.Author.Needs.{needs}
 use Rattle.calls.proofs.mail.post_refusal.Statement.{statement}
 use Rattle.calls.proofs.mail.post_refusal.Tie as tie

@@ -1,7 +1,6 @@
 -- `mail::process_present` meets its contract.
 use Rattle.rules.specs.Layout.{process}
 use Rattle.calls.proofs.Finds.{present-told}
-use native.Mathlib.Omega.{arith}
 use borrow.Author.Needs.{needs}
 use Rattle.calls.proofs.mail.process_present.Statement.{statement}
 use Rattle.calls.proofs.mail.process_present.Tie as tie

@@ -1,6 +1,6 @@
 -- `mail::show` meets its contract: so many words are shown as turns were made.
 use Prim.Native.Nat.{_-_, _≤_}
-use mathlib.Core.Path.{_≡_, refl, ap, sym, _∙_}
+use mathlib.Core.Path.{_≡_, refl, ap, _∙_}
 use lib.ListN.{length}
 use Rattle.rules.specs.Layout.{messageWords}
 use Rattle.calls.specs.Mail.{shownAt}

@@ -1,6 +1,5 @@
 -- `mail::word_at` meets its contract.
 use Rattle.rules.specs.Words.{word4}
-use native.Mathlib.Omega.{arith}
 use borrow.Author.Needs.{needs}
 use Rattle.calls.proofs.mail.word_at.Statement.{statement}
 use Rattle.calls.proofs.mail.word_at.Tie as tie

@@ -1,8 +1,6 @@
 -- `objects::class_of` meets its contract.
 use Rattle.rules.specs.Seid.{classOf}
 use mathlib.Core.Path.{refl}
-use borrow.Author.Needs.{needs}
-use native.Mathlib.Omega.{arith}
 use Rattle.calls.proofs.objects.class_of.Statement.{statement}
 use Rattle.calls.proofs.objects.class_of.Tie as tie
 

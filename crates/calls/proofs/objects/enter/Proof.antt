@@ -1,5 +1,4 @@
 -- `objects::enter` meets its contract.
-use native.Mathlib.Omega.{arith}
 use borrow.Author.Needs.{needs}
 use Rattle.calls.proofs.objects.enter.Statement.{statement}
 use Rattle.calls.proofs.objects.enter.Tie as tie

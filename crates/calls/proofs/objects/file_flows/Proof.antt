@@ -1,7 +1,6 @@
 -- `objects::file_flows` meets its contract.
 use Rattle.calls.proofs.Finds.{flows-told}
 use Rattle.rules.specs.Layout.{file}
-use native.Mathlib.Omega.{arith}
 use borrow.Author.Needs.{needs}
 use Rattle.calls.proofs.objects.file_flows.Statement.{statement}
 use Rattle.calls.proofs.objects.file_flows.Tie as tie

@@ -1,7 +1,6 @@
 -- `objects::file_present` meets its contract.
 use Rattle.calls.proofs.Finds.{present-told}
 use Rattle.rules.specs.Layout.{file}
-use native.Mathlib.Omega.{arith}
 use borrow.Author.Needs.{needs}
 use Rattle.calls.proofs.objects.file_present.Statement.{statement}
 use Rattle.calls.proofs.objects.file_present.Tie as tie

@@ -1,7 +1,6 @@
 -- `objects::file_rights` meets its contract.
 use Rattle.calls.proofs.Finds.{rights-told}
 use Rattle.rules.specs.Layout.{file}
-use native.Mathlib.Omega.{arith}
 use borrow.Author.Needs.{needs}
 use Rattle.calls.proofs.objects.file_rights.Statement.{statement}
 use Rattle.calls.proofs.objects.file_rights.Tie as tie

@@ -1,7 +1,7 @@
 -- `objects::first_slot` meets its contract: the sum of the runs passed.
 use Prim.Native.Nat.{_+_}
 use Prim.Native.Nat.{_≤_, _-_}
-use mathlib.Core.Path.{_≡_, refl}
+use mathlib.Core.Path.{_≡_}
 use Rattle.rules.specs.Layout.{configuration}
 use Rattle.calls.specs.World.{firstBy}
 use Rattle.calls.proofs.Room.{first-none, first-more, first-fits}

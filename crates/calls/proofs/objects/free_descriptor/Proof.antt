@@ -2,7 +2,6 @@
 use Rattle.calls.proofs.Room.{empty-is}
 use Rattle.calls.proofs.Given.{a-file}
 use mathlib.Core.Path.{_∙_}
-use native.Mathlib.Omega.{arith}
 use borrow.Author.Needs.{needs}
 use Rattle.calls.proofs.objects.free_descriptor.Statement.{statement}
 use Rattle.calls.proofs.objects.free_descriptor.Tie as tie

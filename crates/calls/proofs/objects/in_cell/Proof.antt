@@ -1,6 +1,5 @@
 -- `objects::in_cell` meets its contract.
 use Rattle.calls.proofs.Room.{cell-word}
-use native.Mathlib.Omega.{arith}
 use borrow.Author.Needs.{needs}
 use Rattle.calls.proofs.objects.in_cell.Statement.{statement}
 use Rattle.calls.proofs.objects.in_cell.Tie as tie

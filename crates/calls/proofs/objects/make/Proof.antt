@@ -1,6 +1,5 @@
 -- `objects::make` meets its contract.
 use Rattle.calls.specs.Finds.{madeAt}
-use native.Mathlib.Omega.{arith}
 use borrow.Author.Needs.{needs}
 use Rattle.calls.proofs.objects.make.Statement.{statement}
 use Rattle.calls.proofs.objects.make.Tie as tie

@@ -1,6 +1,5 @@
 -- `objects::my_place` meets its contract.
 use Rattle.calls.specs.World.{offsetBy}
-use native.Mathlib.Omega.{arith}
 use borrow.Author.Needs.{needs}
 use Rattle.calls.proofs.objects.my_place.Statement.{statement}
 use Rattle.calls.proofs.objects.my_place.Tie as tie

@@ -1,7 +1,6 @@
 -- `objects::own_file` meets its contract: the refusals of "own" past the form, in their order.
 use Rattle.calls.proofs.Finds.{own-number}
 use Rattle.rules.specs.Layout.{file}
-use native.Mathlib.Omega.{arith}
 use borrow.Author.Needs.{needs}
 use Rattle.calls.proofs.objects.own_file.Statement.{statement}
 use Rattle.calls.proofs.objects.own_file.Tie as tie

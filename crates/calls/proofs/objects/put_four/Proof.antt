@@ -1,6 +1,5 @@
 -- `objects::put_four` meets its contract.
 use Rattle.calls.specs.Finds.{fourAt}
-use native.Mathlib.Omega.{arith}
 use borrow.Author.Needs.{needs}
 use Rattle.calls.proofs.objects.put_four.Statement.{statement}
 use Rattle.calls.proofs.objects.put_four.Tie as tie

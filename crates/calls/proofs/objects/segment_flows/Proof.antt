@@ -1,7 +1,6 @@
 -- `objects::segment_flows` meets its contract.
 use Rattle.calls.proofs.Finds.{flows-told}
 use Rattle.rules.specs.Layout.{segment}
-use native.Mathlib.Omega.{arith}
 use borrow.Author.Needs.{needs}
 use Rattle.calls.proofs.objects.segment_flows.Statement.{statement}
 use Rattle.calls.proofs.objects.segment_flows.Tie as tie

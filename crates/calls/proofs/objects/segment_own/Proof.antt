@@ -1,7 +1,6 @@
 -- `objects::segment_own` meets its contract.
 use Rattle.calls.proofs.Finds.{own-told}
 use Rattle.rules.specs.Layout.{segment}
-use native.Mathlib.Omega.{arith}
 use borrow.Author.Needs.{needs}
 use Rattle.calls.proofs.objects.segment_own.Statement.{statement}
 use Rattle.calls.proofs.objects.segment_own.Tie as tie

@@ -1,7 +1,6 @@
 -- `objects::segment_rights` meets its contract.
 use Rattle.calls.proofs.Finds.{rights-told}
 use Rattle.rules.specs.Layout.{segment}
-use native.Mathlib.Omega.{arith}
 use borrow.Author.Needs.{needs}
 use Rattle.calls.proofs.objects.segment_rights.Statement.{statement}
 use Rattle.calls.proofs.objects.segment_rights.Tie as tie

@@ -1,6 +1,5 @@
 -- `objects::take_up` meets its contract: the count is read before the entry is filled.
 use Rattle.calls.specs.Finds.{takenUpAt}
-use native.Mathlib.Omega.{arith}
 use borrow.Author.Needs.{needs}
 use Rattle.calls.proofs.objects.take_up.Statement.{statement}
 use Rattle.calls.proofs.objects.take_up.Tie as tie

@@ -8,7 +8,7 @@ use Rattle.calls.specs.declared.World.{World}
 use Rattle.calls.specs.Left.{ruleAt}
 use Rattle.calls.proofs.Leaves.{left-refused, left-done}
 use borrow.Author.Tests.{eqb-true}
-use Rattle.rules.specs.Layout.{process, segment, file, configuration, slots, cellOf, rd, entries}
+use Rattle.rules.specs.Layout.{process, segment, file, configuration, slots, cellOf, rd}
 use Rattle.rules.specs.Seid.{class, indexOf, isSeid, orSelf}
 use Rattle.rules.specs.Find.{inOwnCell}
 use Rattle.rules.specs.Call02.{released, releaseProcess}

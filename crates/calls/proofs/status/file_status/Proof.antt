@@ -1,5 +1,5 @@
 -- `status::file_status` meets its contract.
-use mathlib.Core.Path.{refl, sym, _∙_}
+use mathlib.Core.Path.{sym, _∙_}
 use mathlib.Core.List.{[]}
 use Rattle.rules.specs.Layout.{file}
 use Rattle.calls.proofs.Worlds.{see, files-is}

@@ -1,7 +1,6 @@
 -- `status::process_flows` meets its contract.
 use Rattle.rules.specs.Layout.{process}
 use Rattle.calls.proofs.Finds.{flows-told}
-use native.Mathlib.Omega.{arith}
 use borrow.Author.Needs.{needs}
 use Rattle.calls.proofs.status.process_flows.Statement.{statement}
 use Rattle.calls.proofs.status.process_flows.Tie as tie

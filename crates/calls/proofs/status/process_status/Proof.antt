@@ -2,7 +2,7 @@
 use mathlib.Core.Path.{refl, sym, _∙_}
 use mathlib.Core.List.{[]}
 use Rattle.rules.specs.Layout.{process}
-use Rattle.calls.proofs.Worlds.{see, processes-is}
+use Rattle.calls.proofs.Worlds.{processes-is}
 use Rattle.ids.proofs.Parts.{process-not}
 use Rattle.calls.proofs.Named.{found-process}
 use Rattle.calls.proofs.Statuses.{status-absent, status-refused, status-done, in-cells}

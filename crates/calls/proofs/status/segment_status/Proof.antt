@@ -1,5 +1,5 @@
 -- `status::segment_status` meets its contract.
-use mathlib.Core.Path.{refl, sym, _∙_}
+use mathlib.Core.Path.{sym, _∙_}
 use mathlib.Core.List.{[]}
 use Rattle.rules.specs.Layout.{segment}
 use Rattle.calls.proofs.Worlds.{see, segments-is}

@@ -1,6 +1,5 @@
 -- `status::status` meets its contract: a seid's class says which kind's rule is asked.
 use Rattle.calls.proofs.Statuses.{of-process, of-segment, of-file}
-use native.Mathlib.Omega.{arith}
 use borrow.Author.Needs.{needs}
 use Rattle.calls.proofs.status.status.Statement.{statement}
 use Rattle.calls.proofs.status.status.Tie as tie

@@ -1,5 +1,4 @@
 -- `status::status_refusal` meets its contract.
-use native.Mathlib.Omega.{arith}
 use borrow.Author.Needs.{needs}
 use Rattle.calls.proofs.status.status_refusal.Statement.{statement}
 use Rattle.calls.proofs.status.status_refusal.Tie as tie
