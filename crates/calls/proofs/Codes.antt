@@ -36,78 +36,9 @@ use Rattle.calls.specs.Blocks.{ReadLeft, WriteLeft}
 use Rattle.calls.specs.Did.{stateOf, callOf, ruleAnswer, Did, Through, ruleIn, Plain}
 use Rattle.calls.proofs.Leaves.{left-same}
 
-module _ (h : List ℕ) (q : Addr → ℕ) (s : List ℕ) (p code a b c : ℕ) (buffer : List ℕ) where
-  pub rule-1 : code ≡ 1 → ruleOf h q s (callOf p code a b c buffer) ≡ spawn h q p a b buffer
-  unfolding ruleOf
-  rule-1 e = rw e
-
-  pub rule-2 : code ≡ 2 → ruleOf h q s (callOf p code a b c buffer) ≡ releaseProcess h q p a buffer
-  unfolding ruleOf
-  rule-2 e = rw e
-
-  pub rule-3 : code ≡ 3 → ruleOf h q s (callOf p code a b c buffer) ≡ buildSegment h q p a b c buffer
-  unfolding ruleOf
-  rule-3 e = rw e
-
-  pub rule-4 : code ≡ 4 → ruleOf h q s (callOf p code a b c buffer) ≡ rendezvous h q p a b buffer
-  unfolding ruleOf
-  rule-4 e = rw e
-
-  pub rule-5 : code ≡ 5 → ruleOf h q s (callOf p code a b c buffer) ≡ releaseSegment h q p a buffer
-  unfolding ruleOf
-  rule-5 e = rw e
-
-  pub rule-6 : code ≡ 6 → ruleOf h q s (callOf p code a b c buffer) ≡ setAccess h q p a b buffer
-  unfolding ruleOf
-  rule-6 e = rw e
-
-  pub rule-7 : code ≡ 7 → ruleOf h q s (callOf p code a b c buffer) ≡ create h q p a b buffer
-  unfolding ruleOf
-  rule-7 e = rw e
-
-  pub rule-8 : code ≡ 8 → ruleOf h q s (callOf p code a b c buffer) ≡ openFile h q p a b buffer
-  unfolding ruleOf
-  rule-8 e = rw e
-
-  pub rule-9 : code ≡ 9 → ruleOf h q s (callOf p code a b c buffer) ≡ close h q p a buffer
-  unfolding ruleOf
-  rule-9 e = rw e
-
-  pub rule-10 : code ≡ 10 → ruleOf h q s (callOf p code a b c buffer) ≡ link h q p a buffer
-  unfolding ruleOf
-  rule-10 e = rw e
-
-  pub rule-11 : code ≡ 11 → ruleOf h q s (callOf p code a b c buffer) ≡ unlink h q p a buffer
-  unfolding ruleOf
-  rule-11 e = rw e
-
-  pub rule-12 : code ≡ 12 → ruleOf h q s (callOf p code a b c buffer) ≡ setBits h q p a b buffer
-  unfolding ruleOf
-  rule-12 e = rw e
-
-  pub rule-13 : code ≡ 13 → ruleOf h q s (callOf p code a b c buffer) ≡ readBlock h q s p a b buffer
-  unfolding ruleOf
-  rule-13 e = rw e
-
-  pub rule-14 : code ≡ 14 → ruleOf h q s (callOf p code a b c buffer) ≡ writeBlock h q p a b buffer
-  unfolding ruleOf
-  rule-14 e = rw e
-
-  pub rule-15 : code ≡ 15 → ruleOf h q s (callOf p code a b c buffer) ≡ post h q p a buffer
-  unfolding ruleOf
-  rule-15 e = rw e
-
-  pub rule-16 : code ≡ 16 → ruleOf h q s (callOf p code a b c buffer) ≡ receive h q p buffer
-  unfolding ruleOf
-  rule-16 e = rw e
-
-  pub rule-17 : code ≡ 17 → ruleOf h q s (callOf p code a b c buffer) ≡ status h q p a buffer
-  unfolding ruleOf
-  rule-17 e = rw e
-
-  pub rule-18 : code ≡ 18 → ruleOf h q s (callOf p code a b c buffer) ≡ accessOf h q p a buffer
-  unfolding ruleOf
-  rule-18 e = rw e
+-- the rule of a code that is n
+coded : (t s : List ℕ) (p a b c : ℕ) (buffer : List ℕ) {code n : ℕ} → code ≡ n → ruleIn t s p code a b c buffer ≡ ruleIn t s p n a b c buffer
+coded t s p a b c buffer e = ap (λ (n : ℕ). ruleIn t s p n a b c buffer) e
 
 -- a rule that writes words alone
 plain-by : (t : List ℕ) (p code a b c : ℕ) {r : Answer} {t′ : List ℕ} (s buffer : List ℕ) (f : List ℕ → (Addr → ℕ) → Rule)
@@ -130,69 +61,69 @@ bits-buffer h q p a b buffer = split _ (eqb (classOf (orSelf q p a)) (class segm
 
 module _ (t : List ℕ) (p code a b c : ℕ) {r : Answer} {t′ : List ℕ} where
   pub plain-1 : code ≡ 1 → ((buffer : List ℕ) → Left t (λ h q. spawn h q p a b buffer) r t′) → (s buffer : List ℕ) → Plain t p code a b c r t′ s buffer
-  unfolding spawn
+  unfolding ruleOf spawn
   plain-1 e l s buffer =
-      plain-by t p code a b c s buffer (λ h q. spawn h q p a b buffer) (rule-1 (configuration t) (rd (configuration t) t) s p code a b c buffer e) refl refl (l buffer)
+      plain-by t p code a b c s buffer (λ h q. spawn h q p a b buffer) (coded t s p a b c buffer e) refl refl (l buffer)
 
   pub plain-2 : code ≡ 2 → ((buffer : List ℕ) → Left t (λ h q. releaseProcess h q p a buffer) r t′) → (s buffer : List ℕ) → Plain t p code a b c r t′ s buffer
-  unfolding releaseProcess
+  unfolding ruleOf releaseProcess
   plain-2 e l s buffer =
-      plain-by t p code a b c s buffer (λ h q. releaseProcess h q p a buffer) (rule-2 (configuration t) (rd (configuration t) t) s p code a b c buffer e) refl refl (l buffer)
+      plain-by t p code a b c s buffer (λ h q. releaseProcess h q p a buffer) (coded t s p a b c buffer e) refl refl (l buffer)
 
   pub plain-3 : code ≡ 3 → ((buffer : List ℕ) → Left t (λ h q. buildSegment h q p a b c buffer) r t′) → (s buffer : List ℕ) → Plain t p code a b c r t′ s buffer
-  unfolding buildSegment
+  unfolding ruleOf buildSegment
   plain-3 e l s buffer =
-      plain-by t p code a b c s buffer (λ h q. buildSegment h q p a b c buffer) (rule-3 (configuration t) (rd (configuration t) t) s p code a b c buffer e) refl refl (l buffer)
+      plain-by t p code a b c s buffer (λ h q. buildSegment h q p a b c buffer) (coded t s p a b c buffer e) refl refl (l buffer)
 
   pub plain-4 : code ≡ 4 → ((buffer : List ℕ) → Left t (λ h q. rendezvous h q p a b buffer) r t′) → (s buffer : List ℕ) → Plain t p code a b c r t′ s buffer
-  unfolding rendezvous
+  unfolding ruleOf rendezvous
   plain-4 e l s buffer =
-      plain-by t p code a b c s buffer (λ h q. rendezvous h q p a b buffer) (rule-4 (configuration t) (rd (configuration t) t) s p code a b c buffer e) refl refl (l buffer)
+      plain-by t p code a b c s buffer (λ h q. rendezvous h q p a b buffer) (coded t s p a b c buffer e) refl refl (l buffer)
 
   pub plain-5 : code ≡ 5 → ((buffer : List ℕ) → Left t (λ h q. releaseSegment h q p a buffer) r t′) → (s buffer : List ℕ) → Plain t p code a b c r t′ s buffer
-  unfolding releaseSegment
+  unfolding ruleOf releaseSegment
   plain-5 e l s buffer =
-      plain-by t p code a b c s buffer (λ h q. releaseSegment h q p a buffer) (rule-5 (configuration t) (rd (configuration t) t) s p code a b c buffer e) refl refl (l buffer)
+      plain-by t p code a b c s buffer (λ h q. releaseSegment h q p a buffer) (coded t s p a b c buffer e) refl refl (l buffer)
 
   pub plain-6 : code ≡ 6 → ((buffer : List ℕ) → Left t (λ h q. setAccess h q p a b buffer) r t′) → (s buffer : List ℕ) → Plain t p code a b c r t′ s buffer
-  unfolding setAccess
+  unfolding ruleOf setAccess
   plain-6 e l s buffer =
-      plain-by t p code a b c s buffer (λ h q. setAccess h q p a b buffer) (rule-6 (configuration t) (rd (configuration t) t) s p code a b c buffer e) refl refl (l buffer)
+      plain-by t p code a b c s buffer (λ h q. setAccess h q p a b buffer) (coded t s p a b c buffer e) refl refl (l buffer)
 
   pub plain-7 : code ≡ 7 → ((buffer : List ℕ) → Left t (λ h q. create h q p a b buffer) r t′) → (s buffer : List ℕ) → Plain t p code a b c r t′ s buffer
-  unfolding create
+  unfolding ruleOf create
   plain-7 e l s buffer =
-      plain-by t p code a b c s buffer (λ h q. create h q p a b buffer) (rule-7 (configuration t) (rd (configuration t) t) s p code a b c buffer e) refl refl (l buffer)
+      plain-by t p code a b c s buffer (λ h q. create h q p a b buffer) (coded t s p a b c buffer e) refl refl (l buffer)
 
   pub plain-8 : code ≡ 8 → ((buffer : List ℕ) → Left t (λ h q. openFile h q p a b buffer) r t′) → (s buffer : List ℕ) → Plain t p code a b c r t′ s buffer
-  unfolding openFile
+  unfolding ruleOf openFile
   plain-8 e l s buffer =
-      plain-by t p code a b c s buffer (λ h q. openFile h q p a b buffer) (rule-8 (configuration t) (rd (configuration t) t) s p code a b c buffer e) refl refl (l buffer)
+      plain-by t p code a b c s buffer (λ h q. openFile h q p a b buffer) (coded t s p a b c buffer e) refl refl (l buffer)
 
   pub plain-9 : code ≡ 9 → ((buffer : List ℕ) → Left t (λ h q. close h q p a buffer) r t′) → (s buffer : List ℕ) → Plain t p code a b c r t′ s buffer
-  unfolding close
+  unfolding ruleOf close
   plain-9 e l s buffer =
-      plain-by t p code a b c s buffer (λ h q. close h q p a buffer) (rule-9 (configuration t) (rd (configuration t) t) s p code a b c buffer e) refl refl (l buffer)
+      plain-by t p code a b c s buffer (λ h q. close h q p a buffer) (coded t s p a b c buffer e) refl refl (l buffer)
 
   pub plain-10 : code ≡ 10 → ((buffer : List ℕ) → Left t (λ h q. link h q p a buffer) r t′) → (s buffer : List ℕ) → Plain t p code a b c r t′ s buffer
-  unfolding link
+  unfolding ruleOf link
   plain-10 e l s buffer =
-      plain-by t p code a b c s buffer (λ h q. link h q p a buffer) (rule-10 (configuration t) (rd (configuration t) t) s p code a b c buffer e) refl refl (l buffer)
+      plain-by t p code a b c s buffer (λ h q. link h q p a buffer) (coded t s p a b c buffer e) refl refl (l buffer)
 
   pub plain-11 : code ≡ 11 → ((buffer : List ℕ) → Left t (λ h q. unlink h q p a buffer) r t′) → (s buffer : List ℕ) → Plain t p code a b c r t′ s buffer
-  unfolding unlink
+  unfolding ruleOf unlink
   plain-11 e l s buffer =
-      plain-by t p code a b c s buffer (λ h q. unlink h q p a buffer) (rule-11 (configuration t) (rd (configuration t) t) s p code a b c buffer e) refl refl (l buffer)
+      plain-by t p code a b c s buffer (λ h q. unlink h q p a buffer) (coded t s p a b c buffer e) refl refl (l buffer)
 
   pub plain-12 : code ≡ 12 → ((buffer : List ℕ) → Left t (λ h q. setBits h q p a b buffer) r t′) → (s buffer : List ℕ) → Plain t p code a b c r t′ s buffer
-  unfolding setBits
+  unfolding ruleOf setBits
   plain-12 e l s buffer =
-      plain-by t p code a b c s buffer (λ h q. setBits h q p a b buffer) (rule-12 (configuration t) (rd (configuration t) t) s p code a b c buffer e) (bits-bytes (configuration t) (rd (configuration t) t) p a b buffer) (bits-buffer (configuration t) (rd (configuration t) t) p a b buffer) (l buffer)
+      plain-by t p code a b c s buffer (λ h q. setBits h q p a b buffer) (coded t s p a b c buffer e) (bits-bytes (configuration t) (rd (configuration t) t) p a b buffer) (bits-buffer (configuration t) (rd (configuration t) t) p a b buffer) (l buffer)
 
   pub plain-18 : code ≡ 18 → ((buffer : List ℕ) → Left t (λ h q. accessOf h q p a buffer) r t′) → (s buffer : List ℕ) → Plain t p code a b c r t′ s buffer
-  unfolding accessOf
+  unfolding ruleOf accessOf
   plain-18 e l s buffer =
-      plain-by t p code a b c s buffer (λ h q. accessOf h q p a buffer) (rule-18 (configuration t) (rd (configuration t) t) s p code a b c buffer e) refl refl (l buffer)
+      plain-by t p code a b c s buffer (λ h q. accessOf h q p a buffer) (coded t s p a b c buffer e) refl refl (l buffer)
 
 -- ---- from a plain call to the whole
 
@@ -272,32 +203,35 @@ module _ (t s : List ℕ) (p code a b c : ℕ) (buffer : List ℕ) {r : Answer} 
   }
 
   pub through-13 : {b′ : List ℕ} → code ≡ 13 → ReadLeft t s p a b buffer r b′ → Through t s buffer (ruleIn t s p code a b c buffer) r t s b′
+  unfolding ruleOf
   through-13 e x =
       let k = readBlock (configuration t) (rd (configuration t) t) s p a b buffer in
-      through-by k (rule-13 (configuration t) (rd (configuration t) t) s p code a b c buffer e) (x .left .answer) (x .left .table) (x .store) (x .buffer)
+      through-by k (coded t s p a b c buffer e) (x .left .answer) (x .left .table) (x .store) (x .buffer)
 
   pub through-14 : {t′ s′ : List ℕ} → code ≡ 14 → WriteLeft t s p a b buffer r t′ s′ → Through t s buffer (ruleIn t s p code a b c buffer) r t′ s′ buffer
+  unfolding ruleOf
   through-14 e x =
       let k = writeBlock (configuration t) (rd (configuration t) t) p a b buffer in
-      through-by k (rule-14 (configuration t) (rd (configuration t) t) s p code a b c buffer e) (x .left .answer) (x .left .table) (x .store) (x .buffer)
+      through-by k (coded t s p a b c buffer e) (x .left .answer) (x .left .table) (x .store) (x .buffer)
 
   pub through-15 : {t′ : List ℕ} → code ≡ 15 → Left t (λ h q. post h q p a buffer) r t′ → Through t s buffer (ruleIn t s p code a b c buffer) r t′ s buffer
-  unfolding post
+  unfolding ruleOf post
   through-15 e x =
       let k = post (configuration t) (rd (configuration t) t) p a buffer in
-      through-by k (rule-15 (configuration t) (rd (configuration t) t) s p code a b c buffer e) (x .answer) (x .table) (store-plain (configuration t) s k refl)
+      through-by k (coded t s p a b c buffer e) (x .answer) (x .table) (store-plain (configuration t) s k refl)
       (buffer-plain buffer k refl)
 
   pub through-16 : {t′ b′ : List ℕ} → code ≡ 16 → Left t (λ h q. receive h q p buffer) r t′ × (b′ ≡ bufferOf buffer (ruleAt t (λ h q. receive h q p buffer)))
       → Through t s buffer (ruleIn t s p code a b c buffer) r t′ s b′
-  unfolding receive
+  unfolding ruleOf receive
   through-16 e x =
       let k = receive (configuration t) (rd (configuration t) t) p buffer in
-      through-by k (rule-16 (configuration t) (rd (configuration t) t) s p code a b c buffer e) (x .0 .answer) (x .0 .table) (store-plain (configuration t) s k refl) (x .1)
+      through-by k (coded t s p a b c buffer e) (x .0 .answer) (x .0 .table) (store-plain (configuration t) s k refl) (x .1)
 
   pub through-17 : {b′ : List ℕ} → code ≡ 17 → (r ≡ answerOf (ruleAt t (λ h q. status h q p a buffer))) × (b′ ≡ bufferOf buffer (ruleAt t (λ h q. status h q p a buffer)))
       → Through t s buffer (ruleIn t s p code a b c buffer) r t s b′
+  unfolding ruleOf
   through-17 e x =
       let k = status (configuration t) (rd (configuration t) t) p a buffer in
-      through-by k (rule-17 (configuration t) (rd (configuration t) t) s p code a b c buffer e) (x .0) (table-plain (configuration t) t k (told-words (configuration t) (rd (configuration t) t) p a buffer))
+      through-by k (coded t s p a b c buffer e) (x .0) (table-plain (configuration t) t k (told-words (configuration t) (rd (configuration t) t) p a buffer))
       (store-plain (configuration t) s k (told-bytes (configuration t) (rd (configuration t) t) p a buffer)) (x .1)
