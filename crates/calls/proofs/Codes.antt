@@ -51,13 +51,9 @@ plain-by t p code a b c s buffer f e x y l = record {
 }
 
 -- call 12's rule is one of two, by the seid's class
-bits-bytes : (h : List ℕ) (q : Addr → ℕ) (p a b : ℕ) (buffer : List ℕ) → setBits h q p a b buffer .effects .bytes ≡ []
+bits-plain : (h : List ℕ) (q : Addr → ℕ) (p a b : ℕ) (buffer : List ℕ) → (setBits h q p a b buffer .effects .bytes ≡ []) × (setBits h q p a b buffer .effects .buffer ≡ buffer)
 unfolding setBits
-bits-bytes h q p a b buffer = split _ (eqb (classOf (orSelf q p a)) (class segment)) (λ e. rw e) (λ e. rw e)
-
-bits-buffer : (h : List ℕ) (q : Addr → ℕ) (p a b : ℕ) (buffer : List ℕ) → setBits h q p a b buffer .effects .buffer ≡ buffer
-unfolding setBits
-bits-buffer h q p a b buffer = split _ (eqb (classOf (orSelf q p a)) (class segment)) (λ e. rw e) (λ e. rw e)
+bits-plain h q p a b buffer = split _ (eqb (classOf (orSelf q p a)) (class segment)) (λ e. rw e (refl, refl)) (λ e. rw e (refl, refl))
 
 module _ (t : List ℕ) (p code a b c : ℕ) {r : Answer} {t′ : List ℕ} where
   pub plain-1 : code ≡ 1 → ((buffer : List ℕ) → Left t (λ h q. spawn h q p a b buffer) r t′) → (s buffer : List ℕ) → Plain t p code a b c r t′ s buffer
@@ -118,7 +114,7 @@ module _ (t : List ℕ) (p code a b c : ℕ) {r : Answer} {t′ : List ℕ} wher
   pub plain-12 : code ≡ 12 → ((buffer : List ℕ) → Left t (λ h q. setBits h q p a b buffer) r t′) → (s buffer : List ℕ) → Plain t p code a b c r t′ s buffer
   unfolding ruleOf setBits
   plain-12 e l s buffer =
-      plain-by t p code a b c s buffer (λ h q. setBits h q p a b buffer) (coded t s p a b c buffer e) (bits-bytes (configuration t) (rd (configuration t) t) p a b buffer) (bits-buffer (configuration t) (rd (configuration t) t) p a b buffer) (l buffer)
+      plain-by t p code a b c s buffer (λ h q. setBits h q p a b buffer) (coded t s p a b c buffer e) (bits-plain (configuration t) (rd (configuration t) t) p a b buffer .0) (bits-plain (configuration t) (rd (configuration t) t) p a b buffer .1) (l buffer)
 
   pub plain-18 : code ≡ 18 → ((buffer : List ℕ) → Left t (λ h q. accessOf h q p a buffer) r t′) → (s buffer : List ℕ) → Plain t p code a b c r t′ s buffer
   unfolding ruleOf accessOf
@@ -136,15 +132,10 @@ unfolding tableOf
 table-plain h t k e = split _ (eqb (firstRefusal (k .refusals)) 0) (λ q. rw (q, e)) (λ q. rw q)
 
 -- call 17's rule is one of three, none of which writes
-told-words : (h : List ℕ) (q : Addr → ℕ) (p a : ℕ) (buffer : List ℕ) → status h q p a buffer .effects .words ≡ []
+told-plain : (h : List ℕ) (q : Addr → ℕ) (p a : ℕ) (buffer : List ℕ) → (status h q p a buffer .effects .words ≡ []) × (status h q p a buffer .effects .bytes ≡ [])
 unfolding status
-told-words h q p a buffer = split _ (eqb (classOf (orSelf q p a)) (class process)) (λ e. rw e)
-    (λ e. rw e (split _ (eqb (classOf (orSelf q p a)) (class segment)) (λ f. rw f) (λ f. rw f)))
-
-told-bytes : (h : List ℕ) (q : Addr → ℕ) (p a : ℕ) (buffer : List ℕ) → status h q p a buffer .effects .bytes ≡ []
-unfolding status
-told-bytes h q p a buffer = split _ (eqb (classOf (orSelf q p a)) (class process)) (λ e. rw e)
-    (λ e. rw e (split _ (eqb (classOf (orSelf q p a)) (class segment)) (λ f. rw f) (λ f. rw f)))
+told-plain h q p a buffer = split _ (eqb (classOf (orSelf q p a)) (class process)) (λ e. rw e (refl, refl))
+    (λ e. rw e (split _ (eqb (classOf (orSelf q p a)) (class segment)) (λ f. rw f (refl, refl)) (λ f. rw f (refl, refl))))
 
 buffer-plain : (b : List ℕ) (k : Rule) → k .effects .buffer ≡ b → b ≡ bufferOf b k
 unfolding bufferOf
@@ -233,5 +224,5 @@ module _ (t s : List ℕ) (p code a b c : ℕ) (buffer : List ℕ) {r : Answer} 
   unfolding ruleOf
   through-17 e x =
       let k = status (configuration t) (rd (configuration t) t) p a buffer in
-      through-by k (coded t s p a b c buffer e) (x .0) (table-plain (configuration t) t k (told-words (configuration t) (rd (configuration t) t) p a buffer))
-      (store-plain (configuration t) s k (told-bytes (configuration t) (rd (configuration t) t) p a buffer)) (x .1)
+      through-by k (coded t s p a b c buffer e) (x .0) (table-plain (configuration t) t k (told-plain (configuration t) (rd (configuration t) t) p a buffer .0))
+      (store-plain (configuration t) s k (told-plain (configuration t) (rd (configuration t) t) p a buffer .1)) (x .1)
