@@ -24,12 +24,12 @@ zeros-is h t k i j (suc n) =
     zeros-is h (set t (offset h (at k i j)) 0) k i (suc j) n
     ∙ ap (λ (x : ℕ). sets (set t (offset h (at k i j)) 0) x (replicate n 0)) (omega arith)
 
--- word j of a record follows its first, and an entry's second word its first
+-- the words of a record follow each other: n after word j, and so j after its first
+pub beyond : (h : List ℕ) (k : Kind) (i j n : ℕ) → offset h (at k i (j + n)) ≡ offset h (at k i j) + n
+beyond h k i j n = omega arith
+
 pub along : (h : List ℕ) (k : Kind) (i j : ℕ) → offset h (at k i j) ≡ offset h (at k i 0) + j
 along h k i j = omega arith
-
-pub next-word : (h : List ℕ) (k : Kind) (i j : ℕ) → offset h (at k i (j + 1)) ≡ offset h (at k i j) + 1
-next-word h k i j = omega arith
 
 -- a record freed
 pub freed-is : (h t : List ℕ) (k : Kind) (i : ℕ) → write h t (freed k i) ≡ freedAt t (offset h (at k i 0)) (recordWords k)
@@ -86,7 +86,7 @@ pub given-is : (h t : List ℕ) {k : Kind} (p d s : ℕ) → Thing k → write h
     ≡ givenUpAt t (offset h (at process p (heldAt k d))) (offset h (at k (indexOf s) 0)) (inOwnCell h p k s) (kept (rd h t) k (indexOf s))
 unfolding givenUp givenUpAt
 given-is h t {k} p d s th =
-    rw (used-next d th, ← next-word h process p (heldAt k d))
+    rw (used-next d th, ← beyond h process p (heldAt k d) 1)
     (given-object h t _ (indexOf s) th (inOwnCell h p k s))
 
 -- what the code has found of the entry and its object: the slot i, its cell, whether a link keeps it, and the two places

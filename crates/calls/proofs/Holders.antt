@@ -18,7 +18,7 @@ use Rattle.calls.specs.declared.World.{World}
 use Rattle.calls.specs.World.{offsetBy, Sound}
 use Rattle.calls.specs.Finds.{fourAt, madeAt, takenUpAt}
 use Rattle.calls.proofs.Worlds.{spot, shape}
-use Rattle.calls.proofs.Given.{Thing, a-segment, a-file, along, next-word, holders-at, used-next}
+use Rattle.calls.proofs.Given.{Thing, a-segment, a-file, along, beyond, holders-at, used-next}
 
 -- ---- how many holders an object has at most
 
@@ -55,7 +55,7 @@ made-is h t k i s u g b x y ws =
 -- an entry filled, and one holder more
 pub entered-is : (h t : List ℕ) {k : Kind} (p d s u : ℕ) (ws : List Word) → Thing k
     → write h t (entered k p d s u ++ ws) ≡ write h (set (set t (offset h (at process p (heldAt k d))) s) (offset h (at process p (heldAt k d)) + 1) u) ws
-entered-is h t {k} p d s u ws th = rw (used-next d th, next-word h process p (heldAt k d))
+entered-is h t {k} p d s u ws th = rw (used-next d th, beyond h process p (heldAt k d) 1)
 
 pub taken-is : (h t : List ℕ) {k : Kind} (p d s u : ℕ) → Thing k
     → write h t (entered k p d s u ++ oneMore h (rd h t) p k s)

@@ -24,7 +24,7 @@ use Rattle.calls.proofs.Leaves.{left-refused, left-done, buffer-refused
 use Rattle.calls.specs.Mail.{shownAt, movedAt}
 use Rattle.calls.proofs.Worlds.{see, spot}
 use Rattle.laws.proofs.Tests.{passed}
-use Rattle.calls.proofs.Given.{zeros-is}
+use Rattle.calls.proofs.Given.{beyond, zeros-is}
 use Rattle.calls.proofs.Entries.{not-chosen}
 
 -- ---- a message shown
@@ -89,10 +89,7 @@ moved-is h t u p zero e = refl
 moved-is h t u p (suc n) e =
     ap (write h u) (tab-more messagesAt n (λ k. at process p k ≔ rd h t (at process p (k + messageWords))))
     ∙ write-append h u (tabFrom messagesAt n (λ k. at process p k ≔ rd h t (at process p (k + messageWords)))) _
-    ∙ rw (moved-is h t u p n (λ j l. e j (omega arith)), e n (omega arith), place)
-  where
-    place : offset h (at process p (messagesAt + n)) ≡ offset h (at process p messagesAt) + n
-    place = omega arith
+    ∙ rw (moved-is h t u p n (λ j l. e j (omega arith)), e n (omega arith), beyond h process p messagesAt n)
 
 -- a message word is not the queue's length
 kept-word : (h t : List ℕ) (p j v : ℕ) → rd h t (at process p (messagesAt + j + messageWords))

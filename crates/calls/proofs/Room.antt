@@ -22,7 +22,7 @@ use Rattle.ids.proofs.Parts.{seid-fits}
 use Rattle.calls.specs.declared.World.{World}
 use Rattle.calls.specs.World.{baseBy, offsetBy, rdBy, Known, Sound, firstBy, freeTest, freeAt, emptyTest, emptyAt}
 use Rattle.calls.proofs.Worlds.{spot, see, shape, cells-is, home-is, first-by-kind}
-use Rattle.calls.proofs.Given.{Thing, a-segment, a-file}
+use Rattle.calls.proofs.Given.{Thing, a-segment, a-file, beyond}
 
 -- ---- cells
 
@@ -83,8 +83,8 @@ module _ {t : List ℕ} {w : World} (known : Known t w) where
 
   pub empty-is : {k : Kind} (p : ℕ) → Thing k → emptyAt t (offsetBy w (at process p (heldAt k 0))) ≡ freeEntry (rd (configuration t) t) k p
   unfolding emptyAt freeEntry emptyTest rd
-  empty-is p a-segment = lowest-same _ _ _ _ (λ j a b. let e : offset (configuration t) (at process p 40) + 2 * j ≡ offset (configuration t) (at process p (40 + 2 * j)) = omega arith in rw (spot known (at process p 40), e))
-  empty-is p a-file = lowest-same _ _ _ _ (λ j a b. let e : offset (configuration t) (at process p 8) + 2 * j ≡ offset (configuration t) (at process p (8 + 2 * j)) = omega arith in rw (spot known (at process p 8), e))
+  empty-is p a-segment = lowest-same _ _ _ _ (λ j a b. rw (spot known (at process p 40), ← beyond (configuration t) process p 40 (2 * j)))
+  empty-is p a-file = lowest-same _ _ _ _ (λ j a b. rw (spot known (at process p 8), ← beyond (configuration t) process p 8 (2 * j)))
 
 -- ---- what is found
 
