@@ -1,51 +1,26 @@
 -- Room: the code's searches for a free slot and an empty entry are the rule's, over the kind, and so is a new object's seid.
-use mathlib.Core.Path.{_≡_, refl, sym, ap, _∙_}
+use mathlib.Core.Path.{_≡_, ap, _∙_}
 use mathlib.Core.Bool.{Bool, false, _&&_}
 use mathlib.Core.List.{List}
 use Prim.Native.Nat.{ℕ, _+_, _*_, _≤_, _<_}
 use native.Mathlib.Omega.{arith}
 use lib.Dec.{eqb, ltb, leb}
 use borrow.Author.Tests.{leb-false, ltb-true}
-use lib.ListN.{getD}
-use Rattle.rules.specs.Words.{sumBelow}
-use Rattle.rules.specs.Layout.{maxSlots, maxSerial, Kind, process, segment, file, headerWords, cellWords, recordWords, configuration, cells, slots, cellWord, cellSlots, cellSlotsWord, firstSlot, cellOf, at, offset, rd, heldAt, live, serial}
+use Rattle.rules.specs.Layout.{maxSlots, maxSerial, Kind, process, segment, file, recordWords, configuration, cells, slots, cellWord, cellSlots, cellSlotsWord, firstSlot, cellOf, at, rd, heldAt, live, serial}
 use Rattle.rules.specs.Seid.{class, seid}
 use Rattle.rules.specs.Find.{freeSlot, freeEntry}
 use Rattle.laws.proofs.Search.{lowest-same, lowest-hit}
 use Rattle.laws.proofs.Tests.{and-right}
 use Rattle.laws.proofs.Cells.{run-end}
-use Rattle.laws.proofs.Below.{sum-more, sum-grows}
-use Rattle.laws.proofs.Places.{conf-cells, conf-cell}
 use Rattle.laws.proofs.Shape.{in-run}
 use Rattle.ids.specs.Seid.{seidOf}
 use Rattle.ids.proofs.Parts.{seid-fits}
 use Rattle.calls.specs.declared.World.{World}
 use Rattle.calls.specs.World.{baseBy, offsetBy, rdBy, Known, Sound, firstBy, freeTest, freeAt, emptyTest, emptyAt}
-use Rattle.calls.proofs.Worlds.{spot, see, shape, cells-is, home-is, first-by-kind}
+use Rattle.calls.proofs.Worlds.{spot, see, shape, cells-is, home-is, first-by-kind, first-bound}
 use Rattle.calls.proofs.Given.{Thing, a-segment, a-file, beyond}
 
 -- ---- cells
-
-module _ {t : List ℕ} {w : World} (known : Known t w) where
-  -- word k of cell c, read at the number y of the cell
-  pub cell-word : {c k x y : ℕ} → c < w .cells → k < cellWords → y ≡ c → x ≡ getD t (headerWords + cellWords * y + k) 0 → x ≡ cellWord (configuration t) c k
-  unfolding cellWord
-  cell-word {c} {k} l m ye xe =
-      let n : c < cells t = omega (arith, cells-is known, conf-cells t) in
-      (rw ye at xe) ∙ sym (conf-cell t c k n m)
-
--- the runs passed, and one more
-pub first-more : (h : List ℕ) (k c : ℕ) → firstBy h k c + cellWord h c k ≡ firstBy h k (c + 1)
-unfolding firstBy
-first-more h k c = sym (sum-more c (λ c. cellWord h c k))
-
-pub first-bound : (h : List ℕ) (k c n : ℕ) → c ≤ n → firstBy h k c ≤ firstBy h k n
-unfolding firstBy
-first-bound h k c n l = sum-grows (λ c. cellWord h c k) c n l
-
-pub first-none : (h : List ℕ) (k : ℕ) → 0 ≡ firstBy h k 0
-unfolding firstBy sumBelow
-first-none h k = refl
 
 -- so many slots as the table has at most are in the runs up to a cell
 pub first-fits : {t : List ℕ} {w : World} → Known t w → (k c : ℕ) → c ≤ w .cells → firstBy (configuration t) k (cells (configuration t)) ≤ maxSlots → firstBy (configuration t) k c ≤ maxSlots

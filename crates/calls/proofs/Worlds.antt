@@ -2,16 +2,15 @@
 use mathlib.Core.Path.{_≡_, refl, sym, ap, _∙_}
 use mathlib.Core.Bool.{Bool, true, false, _&&_}
 use mathlib.Core.List.{List}
-use Prim.Native.Nat.{ℕ, suc, _+_, _*_, _≤_, _<_}
+use Prim.Native.Nat.{ℕ, _+_, _*_, _≤_, _<_}
 use native.Mathlib.Omega.{arith}
-use native.Mathlib.Numerals.{add-one}
 use native.Mathlib.Decide.{ℕ-discrete}
 use lib.Dec.{ltb, eqb}
 use lib.ListN.{getD}
 use borrow.Author.Tests.{lt-ltb, le-ltb, eq-eqb, ne-eqb}
 use Rattle.rules.specs.Words.{sumBelow}
 use Rattle.rules.specs.Layout.{maxSlots, maxSerial, Kind, process, segment, file, headerWords, cellWords, recordWords, cells, slots, slotsWord, blocks, cellWord, cellSlotsWord, configuration, firstSlot, cellOf, Addr, at, base, offset, rd, live}
-use Rattle.laws.proofs.Below.{sum-grows}
+use Rattle.laws.proofs.Below.{sum-more, sum-grows}
 use Rattle.laws.proofs.Search.{lowest-is, lowest-none}
 use Rattle.laws.proofs.Places.{conf-cells, conf-slots, conf-blocks, conf-cell}
 use Rattle.laws.proofs.Shape.{Shape, shape-of}
@@ -65,6 +64,26 @@ pub first-by-kind : (h : List ℕ) (k : Kind) (c : ℕ) → firstBy h (cellSlots
 unfolding firstBy firstSlot
 first-by-kind h k c = refl
 
+-- word k of cell c, read at the number y of the cell
+pub cell-word : (t : List ℕ) {c k x y : ℕ} → c < cells (configuration t) → k < cellWords → y ≡ c → x ≡ getD t (headerWords + cellWords * y + k) 0 → x ≡ cellWord (configuration t) c k
+unfolding cellWord
+cell-word t {c} {k} l m ye xe =
+    let n : c < cells t = omega (arith, conf-cells t) in
+    (rw ye at xe) ∙ sym (conf-cell t c k n m)
+
+-- the runs passed: none, one more, and no fewer
+pub first-none : (h : List ℕ) (k : ℕ) → 0 ≡ firstBy h k 0
+unfolding firstBy sumBelow
+first-none h k = refl
+
+pub first-more : (h : List ℕ) (k c : ℕ) → firstBy h k c + cellWord h c k ≡ firstBy h k (c + 1)
+unfolding firstBy
+first-more h k c = sym (sum-more c (λ c. cellWord h c k))
+
+pub first-bound : (h : List ℕ) (k c n : ℕ) → c ≤ n → firstBy h k c ≤ firstBy h k n
+unfolding firstBy
+first-bound h k c n l = sum-grows (λ c. cellWord h c k) c n l
+
 -- what the search for a slot's cell has passed: c cells, whose runs end at `end`, none past slot i
 pub record Passed (t : List ℕ) (k i n end c : ℕ) : Type 0 where
   pub count : n ≡ cells (configuration t)
@@ -73,8 +92,7 @@ pub record Passed (t : List ℕ) (k i n end c : ℕ) : Type 0 where
   pub none : (j : ℕ) → 0 ≤ j → j < c → ltb i (firstBy (configuration t) k j + cellWord (configuration t) j k) ≡ false
 
 pub passed-none : (t : List ℕ) (k i n : ℕ) → n ≡ cells (configuration t) → Passed t k i n 0 0
-unfolding firstBy sumBelow
-passed-none t k i n e = record { count = e; upto = omega arith; sum = refl; none = λ j a b. absurd (omega arith) }
+passed-none t k i n e = record { count = e; upto = omega arith; sum = first-none (configuration t) k; none = λ j a b. absurd (omega arith) }
 
 module _ {t : List ℕ} {k i n end c : ℕ} (kl : k < cellWords) (p : Passed t k i n end c) where
   pub at-end : n ≤ c → c ≡ cellBy (configuration t) k i
@@ -86,20 +104,17 @@ module _ {t : List ℕ} {k i n end c : ℕ} (kl : k < cellWords) (p : Passed t k
 
   -- the next cell: x is its word, read at the number y of the cell
   module _ (l : c < n) {x y : ℕ} (yc : y ≡ c) (e : x ≡ getD t (headerWords + cellWords * y + k) 0) where
-    word-is : cellWord (configuration t) c k ≡ x
-    unfolding cellWord
-    word-is = let m : c < cells t = omega (arith, p .count, conf-cells t) in conf-cell t c k m kl ∙ sym (rw yc at e)
+    word-is : x ≡ cellWord (configuration t) c k
+    word-is = cell-word t (omega (arith, p .count)) kl yc e
 
     end-is : end + x ≡ firstBy (configuration t) k c + cellWord (configuration t) c k
     end-is = omega (arith, p .sum, word-is)
 
-    next-sum : end + x ≡ firstBy (configuration t) k (suc c)
-    unfolding firstBy sumBelow
-    next-sum = omega (arith, p .sum, word-is)
+    next-sum : end + x ≡ firstBy (configuration t) k (c + 1)
+    next-sum = end-is ∙ first-more (configuration t) k c
 
     pub sum-small : firstBy (configuration t) k (cells (configuration t)) ≤ maxSlots → end + x ≤ maxSlots
-    unfolding firstBy
-    sum-small b = omega (arith, next-sum, sum-grows (λ c. cellWord (configuration t) c k) (suc c) (cells (configuration t)) (omega (arith, p .count)))
+    sum-small b = omega (arith, next-sum, first-bound (configuration t) k (c + 1) (cells (configuration t)) (omega (arith, p .count)))
 
     pub found : i < end + x → c ≡ cellBy (configuration t) k i
     unfolding cellBy
@@ -111,7 +126,7 @@ module _ {t : List ℕ} {k i n end c : ℕ} (kl : k < cellWords) (p : Passed t k
     further q = record {
       count = p .count;
       upto = omega arith;
-      sum = next-sum ∙ ap (λ (x : ℕ). firstBy (configuration t) k x) (sym (add-one c));
+      sum = next-sum;
       none = λ j a b. elim (ℕ-discrete j c) [
         | yes e ↦ rw e (le-ltb i _ (rw end-is at q))
         | no ne ↦ p .none j a (omega arith)

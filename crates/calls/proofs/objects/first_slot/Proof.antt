@@ -4,7 +4,8 @@ use Prim.Native.Nat.{_≤_, _-_}
 use mathlib.Core.Path.{_≡_}
 use Rattle.rules.specs.Layout.{configuration}
 use Rattle.calls.specs.World.{firstBy}
-use Rattle.calls.proofs.Room.{first-none, first-more, first-fits}
+use Rattle.calls.proofs.Worlds.{first-none, first-more}
+use Rattle.calls.proofs.Room.{first-fits}
 use borrow.Author.Needs.{needs}
 use native.Mathlib.Omega.{arith}
 use Rattle.calls.proofs.objects.first_slot.Statement.{statement}

@@ -1,5 +1,6 @@
 -- `objects::free_slot` meets its contract: the search in the run of the caller's cell.
-use Rattle.calls.proofs.Room.{first-more, first-fits}
+use Rattle.calls.proofs.Worlds.{first-more}
+use Rattle.calls.proofs.Room.{first-fits}
 use Rattle.rules.specs.Layout.{configuration}
 use Prim.Native.Nat.{_+_}
 use native.Mathlib.Omega.{arith}

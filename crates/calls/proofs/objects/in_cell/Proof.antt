@@ -1,5 +1,6 @@
 -- `objects::in_cell` meets its contract.
-use Rattle.calls.proofs.Room.{cell-word}
+use Rattle.calls.proofs.Worlds.{cells-is, cell-word}
+use native.Mathlib.Omega.{arith}
 use borrow.Author.Needs.{needs}
 use Rattle.calls.proofs.objects.in_cell.Statement.{statement}
 use Rattle.calls.proofs.objects.in_cell.Tie as tie
@@ -20,7 +21,7 @@ word-requires : tie.Need-word-requires
 word-requires c κs = search needs
 
 returns : tie.Need-returns
-returns c = cell-word (c .before .before .before .pre .0) (c .before .before .before .pre .1) (c .before .before .before .pre .2) (c .before .wide .ensures) (c .word .ensures)
+returns c = cell-word _ (omega (arith, c .before .before .before .pre .1, cells-is (c .before .before .before .pre .0))) (c .before .before .before .pre .2) (c .before .wide .ensures) (c .word .ensures)
 
 pub in-cell-spec : {M : Type 1} → statement M
 in-cell-spec =
