@@ -8,7 +8,7 @@ use Rattle.calls.specs.declared.World.{World}
 use Rattle.calls.specs.Left.{ruleAt}
 use Rattle.calls.proofs.Leaves.{left-refused, left-done}
 use borrow.Author.Tests.{eqb-true}
-use Rattle.rules.specs.Layout.{process, segment, file, configuration, slots, cellOf, rd}
+use Rattle.rules.specs.Layout.{Kind, process, segment, file, configuration, slots, cellOf, rd, entries}
 use Rattle.rules.specs.Seid.{class, indexOf, isSeid, orSelf}
 use Rattle.rules.specs.Find.{inOwnCell}
 use Rattle.rules.specs.Call02.{released, releaseProcess}
@@ -17,7 +17,7 @@ use Rattle.laws.proofs.Seids.{is-formed}
 use Rattle.laws.proofs.Shape.{descriptor, designator}
 use Rattle.calls.specs.World.{Sound}
 use Rattle.calls.specs.Finds.{findPast, ownPast}
-use Rattle.calls.specs.Holding.{Holding}
+use Rattle.calls.specs.Holding.{EntryFormed, Holding}
 use Rattle.calls.proofs.Worlds.{home-is, processes-is}
 use Rattle.ids.proofs.Parts.{process-not}
 use Rattle.calls.proofs.Named.{Is, found-process}
@@ -58,23 +58,14 @@ module _ {t : List ℕ} {w : World} (sound : Sound t w) (a : ℕ) {s : ℕ} (se 
       here : q < slots (configuration t) process
       here = rw (qe, i .same) (is-formed (class process) (slots (configuration t) process) s formed .index-in)
 
+      holding : (k : Kind) → ((d : ℕ) → d < entries → EntryFormed (configuration t) (rd (configuration t) t) k q d) → Holding t w k q
+      holding k formed = record { known = sound .known; words = sound .words; here = here; homed = rw qe (at-home z); formed = formed }
+
       files : Holding t w file q
-      files = record {
-        known = sound .known;
-        words = sound .words;
-        here = here;
-        homed = rw qe (at-home z);
-        formed = λ d l n. descriptor (configuration t) (rd (configuration t) t) (sound .records) q d here l .held n .form;
-      }
+      files = holding file (λ d l n. descriptor (configuration t) (rd (configuration t) t) (sound .records) q d here l .held n .form)
 
       segments : Holding t w segment q
-      segments = record {
-        known = sound .known;
-        words = sound .words;
-        here = here;
-        homed = rw qe (at-home z);
-        formed = λ d l n. designator (configuration t) (rd (configuration t) t) (sound .records) q d here l .held n .form;
-      }
+      segments = holding segment (λ d l n. designator (configuration t) (rd (configuration t) t) (sound .records) q d here l .held n .form)
 
       words : (buffer : List ℕ) {u : List ℕ} → u ≡ write (configuration t) t (released (configuration t) (rd (configuration t) t) q)
           → u ≡ write (configuration t) t (ruleAt t (λ h r. releaseProcess h r (w .me) a buffer) .effects .words)
