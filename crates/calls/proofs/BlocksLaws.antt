@@ -44,7 +44,7 @@ module _ {A : Type 0} (a k : ℕ) where
       let before : a ≤ a + i = omega arith in
       rw (take-set-le a l (a + i) v before, drop-set-add a l i v, drop-set-lt k (drop a l) i v h)
 
-  pub mid-sets : (vs l : List A) (i : ℕ) → i + length vs ≤ k → putMid a k l (sets (midOf a k l) i vs) ≡ sets l (a + i) vs
+  mid-sets : (vs l : List A) (i : ℕ) → i + length vs ≤ k → putMid a k l (sets (midOf a k l) i vs) ≡ sets l (a + i) vs
   mid-sets [] l i h = put-same a k l
   mid-sets (v ∷ vs) l i h =
       let here : i < k = omega arith in

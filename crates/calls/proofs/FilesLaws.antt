@@ -149,7 +149,7 @@ module _ (h : List ℕ) (r : Addr → ℕ) (p s b : ℕ) (buffer : List ℕ) (k 
   unfolding ownPast findPast
   bits-number form xe ee = rw (ee, xe, form)
 
-  pub bits-absent : {e : ℕ} → isSeid (class k) (slots h k) s ≡ false → e ≡ cond (ltb maxBits b) 4 (Rattle.rules.specs.Find.absent k)
+  bits-absent : {e : ℕ} → isSeid (class k) (slots h k) s ≡ false → e ≡ cond (ltb maxBits b) 4 (Rattle.rules.specs.Find.absent k)
       → e ≡ firstRefusal (setBitsOf h r p s b buffer k .refusals)
   bits-absent form ee = rw (ee, form)
 

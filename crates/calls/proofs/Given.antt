@@ -59,7 +59,7 @@ used-next d a-segment = omega arith
 used-next d a-file = omega arith
 
 -- one holder less; r is what the table held at the start
-pub less-is : (h t : List ℕ) (r : Addr → ℕ) {k : Kind} (i : ℕ) → Thing k
+less-is : (h t : List ℕ) (r : Addr → ℕ) {k : Kind} (i : ℕ) → Thing k
     → write h t (oneLess r k i) ≡ lessAt t (offset h (at k i 0)) (r (at k i opens)) (kept r k i)
 unfolding oneLess lessAt
 less-is h t r {k} i th =
@@ -82,7 +82,7 @@ given-object h t u {k} i th true = less-is h u (rd h t) i th ∙ ap (λ (x : ℕ
 given-object h t u i th false = refl
 
 -- an entry given up
-pub given-is : (h t : List ℕ) {k : Kind} (p d s : ℕ) → Thing k → write h t (givenUp h (rd h t) k p d s)
+given-is : (h t : List ℕ) {k : Kind} (p d s : ℕ) → Thing k → write h t (givenUp h (rd h t) k p d s)
     ≡ givenUpAt t (offset h (at process p (heldAt k d))) (offset h (at k (indexOf s) 0)) (inOwnCell h p k s) (kept (rd h t) k (indexOf s))
 unfolding givenUp givenUpAt
 given-is h t {k} p d s th =

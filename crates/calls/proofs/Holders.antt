@@ -28,7 +28,7 @@ own-few h r k i l =
     omega (arith, sum-le (slots h process) (λ p. countBelow entries (ownEntry h r k i p)) entries (λ p m. count-le entries (ownEntry h r k i p)), mul-le-mul-right entries l)
 
 module _ {t : List ℕ} {w : World} (sound : Sound t w) where
-  pub few-holders : {k : Kind} (i : ℕ) → Thing k → i < slots (configuration t) k → rd (configuration t) t (at k i opens) ≤ 1024
+  few-holders : {k : Kind} (i : ℕ) → Thing k → i < slots (configuration t) k → rd (configuration t) t (at k i opens) ≤ 1024
   few-holders i a-segment l = omega (arith, references-counted (configuration t) (rd (configuration t) t) (sound .records) i l, own-few (configuration t) (rd (configuration t) t) segment i (shape (sound .known) .few process))
   few-holders i a-file l = omega (arith, opens-counted (configuration t) (rd (configuration t) t) (sound .records) i l, own-few (configuration t) (rd (configuration t) t) file i (shape (sound .known) .few process))
 

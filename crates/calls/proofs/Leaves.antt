@@ -18,11 +18,11 @@ module _ (k : Rule) {e : ℕ} (found : e ≡ firstRefusal (k .refusals)) where
   unfolding answerOf
   answer-done z = rw (← found, eq-eqb e 0 z)
 
-  pub table-refused : (h t : List ℕ) → (e ≡ 0 → ⊥) → t ≡ tableOf h t k
+  table-refused : (h t : List ℕ) → (e ≡ 0 → ⊥) → t ≡ tableOf h t k
   unfolding tableOf
   table-refused h t n = rw (← found, ne-eqb e 0 n)
 
-  pub table-done : (h t : List ℕ) → e ≡ 0 → write h t (k .effects .words) ≡ tableOf h t k
+  table-done : (h t : List ℕ) → e ≡ 0 → write h t (k .effects .words) ≡ tableOf h t k
   unfolding tableOf
   table-done h t z = rw (← found, eq-eqb e 0 z)
 

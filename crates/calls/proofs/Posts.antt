@@ -65,7 +65,7 @@ module _ {t : List ℕ} {w : World} (sound : Sound t w) (s : ℕ) (b : List ℕ)
   self : orSelf (rd (configuration t) t) (w .me) s ≡ s
   self = self-formed (rd (configuration t) t) (w .me) process (slots (configuration t) process) s form
 
-  pub post-number : {e : ℕ} → e ≡ postPast (configuration t) (rd (configuration t) t) (w .me) s (length b)
+  post-number : {e : ℕ} → e ≡ postPast (configuration t) (rd (configuration t) t) (w .me) s (length b)
       → e ≡ firstRefusal (ruleAt t (λ h q. post h q (w .me) s b) .refusals)
   unfolding post postPast
   post-number ee = rw (self, form) ee

@@ -29,7 +29,7 @@ Agree h r q = (a : Addr) → Valid h a → r a ≡ q a
 
 -- ---- where an entry lies, and where its object's words lie
 
-pub held-in : {k : Kind} → Thing k → (d : ℕ) → d < entries → heldAt k d < recordWords process
+held-in : {k : Kind} → Thing k → (d : ℕ) → d < entries → heldAt k d < recordWords process
 held-in a-segment d l = omega arith
 held-in a-file d l = omega arith
 
@@ -128,7 +128,7 @@ module _ (h : List ℕ) {k : Kind} (th : Thing k) (q : ℕ) (ql : q < slots h pr
   next-formed : (n : ℕ) → n < entries → SoFar n → EntryFormed h (over r (droppedTo h r k q n)) k q n
   next-formed n l s = rw (next n s) (holds n l)
 
-  pub so-far : (n : ℕ) → n ≤ entries → SoFar n
+  so-far : (n : ℕ) → n ≤ entries → SoFar n
   unfolding droppedTo over
   so-far zero l = record { valid = nil; beside = λ j f. refl }
   so-far (suc n) l =
@@ -143,7 +143,7 @@ module _ (h : List ℕ) {k : Kind} (th : Thing k) (q : ℕ) (ql : q < slots h pr
       }
 
   -- another reading that agrees with r gives up the same words
-  pub all-same : (r′ : Addr → ℕ) → Agree h r r′ → (n : ℕ) → n ≤ entries → droppedTo h r k q n ≡ droppedTo h r′ k q n
+  all-same : (r′ : Addr → ℕ) → Agree h r r′ → (n : ℕ) → n ≤ entries → droppedTo h r k q n ≡ droppedTo h r′ k q n
   unfolding droppedTo
   all-same r′ agree zero l = refl
   all-same r′ agree (suc n) l =
@@ -155,7 +155,7 @@ module _ (h : List ℕ) {k : Kind} (th : Thing k) (q : ℕ) (ql : q < slots h pr
 -- ---- the table while the entries are given up: t is the table at the start, u once n of them are
 
 -- a known table stays known while words of records are written
-pub known-write : {t : List ℕ} {w : World} → Known t w → (ws : List Word) → Known (write (configuration t) t ws) w
+known-write : {t : List ℕ} {w : World} → Known t w → (ws : List Word) → Known (write (configuration t) t ws) w
 known-write {t} known ws =
     let c = conf-write (configuration t) t ws refl in
     record { conf = rw c (known .conf); world = rw c (known .world) }

@@ -45,7 +45,7 @@ sets-all l xs e =
     ∙ (let z : 0 + length xs ≡ length l = omega arith in rw (z, drop-length l) (append-nil xs))
 
 -- four words in sixteen bytes
-pub shown-four : (t : List ℕ) (from : ℕ) (b : List ℕ) → length b ≡ messageBytes → shownAt t from b messageWords
+shown-four : (t : List ℕ) (from : ℕ) (b : List ℕ) → length b ≡ messageBytes → shownAt t from b messageWords
     ≡ bytes4 (getD t (from + 0) 0) ++ (bytes4 (getD t (from + 1) 0) ++ (bytes4 (getD t (from + 2) 0) ++ bytes4 (getD t (from + 3) 0)))
 unfolding shownAt
 shown-four t from b e =
@@ -103,13 +103,13 @@ kept-word h t p j v =
 -- ---- receive, in the numbers that the code has found
 
 module _ {t : List ℕ} {w : World} (known : Known t w) (p : ℕ) (b : List ℕ) where
-  pub receive-number : {n x e : ℕ} → n ≡ rdBy w t (at process p queue) → x ≡ cond (eqb n 0) 29 0 → e ≡ cond (not (eqb (length b) messageBytes)) 5 x
+  receive-number : {n x e : ℕ} → n ≡ rdBy w t (at process p queue) → x ≡ cond (eqb n 0) 29 0 → e ≡ cond (not (eqb (length b) messageBytes)) 5 x
       → e ≡ firstRefusal (ruleAt t (λ h q. receive h q p b) .refusals)
   unfolding receive
   receive-number nr xe ee = rw (ee, xe, nr, see known (at process p queue))
 
   -- the words: the count, the queue moved up, the last place cleared
-  pub receive-words : {n m from : ℕ} {u v z : List ℕ} → n ≡ rdBy w t (at process p queue) → m ≡ n - 1 → from ≡ offsetBy w (at process p messagesAt)
+  receive-words : {n m from : ℕ} {u v z : List ℕ} → n ≡ rdBy w t (at process p queue) → m ≡ n - 1 → from ≡ offsetBy w (at process p messagesAt)
       → u ≡ set t (offsetBy w (at process p queue)) m → v ≡ movedAt u from 28 → z ≡ sets v (from + 28) (replicate messageWords 0)
       → z ≡ write (configuration t) t (ruleAt t (λ h q. receive h q p b) .effects .words)
   unfolding receive movedUp
@@ -131,7 +131,7 @@ module _ {t : List ℕ} {w : World} (known : Known t w) (p : ℕ) (b : List ℕ)
       )
 
   -- the buffer: sender and text
-  pub receive-buffer : {from : ℕ} → length b ≡ messageBytes → from ≡ offsetBy w (at process p messagesAt)
+  receive-buffer : {from : ℕ} → length b ≡ messageBytes → from ≡ offsetBy w (at process p messagesAt)
       → shownAt t from b messageWords ≡ ruleAt t (λ h q. receive h q p b) .effects .buffer
   unfolding receive rd
   receive-buffer {from} l e =
@@ -140,7 +140,7 @@ module _ {t : List ℕ} {w : World} (known : Known t w) (p : ℕ) (b : List ℕ)
       shown-four t from b l ∙ rw (at-word 0, at-word 1, at-word 2, at-word 3)
 
   -- past the refusals the buffer has sixteen bytes
-  pub receive-long : {e : ℕ} (x : ℕ) → e ≡ cond (not (eqb (length b) messageBytes)) 5 x → e ≡ 0 → length b ≡ messageBytes
+  receive-long : {e : ℕ} (x : ℕ) → e ≡ cond (not (eqb (length b) messageBytes)) 5 x → e ≡ 0 → length b ≡ messageBytes
   receive-long x ee z =
       eqb-true (length b) messageBytes (passed (eqb (length b) messageBytes) (not-chosen (not (eqb (length b) messageBytes)) 5 x (omega arith) (sym ee ∙ z) .0))
 

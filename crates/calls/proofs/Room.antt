@@ -33,7 +33,7 @@ home-in {t} {w} s = rw (home-is (s .known), cells-is (s .known)) (in-run (config
 -- ---- a free slot
 
 module _ {t : List ℕ} {w : World} (known : Known t w) where
-  pub free-is : (k : Kind) (c : ℕ) → freeAt t (baseBy w k) (recordWords k) (cellSlots (configuration t) k c) (firstBy (configuration t) (cellSlotsWord k) c) ≡ freeSlot (configuration t) (rd (configuration t) t) k c
+  free-is : (k : Kind) (c : ℕ) → freeAt t (baseBy w k) (recordWords k) (cellSlots (configuration t) k c) (firstBy (configuration t) (cellSlotsWord k) c) ≡ freeSlot (configuration t) (rd (configuration t) t) k c
   unfolding freeAt freeSlot freeTest rd offsetBy
   free-is k c =
       rw (first-by-kind (configuration t) k c)
