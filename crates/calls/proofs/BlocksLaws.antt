@@ -5,14 +5,13 @@ use mathlib.Core.List.{List, [], _∷_}
 use Prim.Native.Nat.{ℕ, suc, _+_, _*_, _-_, _≤_, _<_, max}
 use native.Mathlib.Omega.{arith}
 use native.Mathlib.Nat.{mul-le-mul-right}
-use native.Mathlib.Decide.{ℕ-discrete}
 use lib.Dec.{eqb, leb}
 use lib.ListN.{length, set, take, drop, replicate, length-replicate, length-take, length-drop}
 use lib.Seq.{take-set-le, take-set-lt, drop-set-lt, drop-set-add, sets}
 use borrow.Author.Tests.{eqb-true, leb-false}
 use borrow.Rule.Slice.PartMut.{midOf, putMid, put-same}
 use Rattle.rules.specs.Words.{part}
-use Rattle.rules.specs.Layout.{blockBytes, process, file, configuration, blocks, storeBytes, Addr, at, rd, entries, live, size}
+use Rattle.rules.specs.Layout.{blockBytes, process, file, configuration, blocks, storeBytes, Addr, at, rd, entries, size}
 use Rattle.rules.specs.Seid.{class, indexOf, present}
 use Rattle.rules.specs.Modes.{reads, writes}
 use Rattle.rules.specs.Rights.{lacks}
@@ -21,7 +20,6 @@ use Rattle.rules.specs.Find.{rightsAt}
 use Rattle.rules.specs.Call13.{block, readBlock}
 use Rattle.rules.specs.Call14.{blockWritten, writeBlock}
 use Rattle.laws.proofs.Tests.{passed}
-use Rattle.laws.proofs.Shape.{file-record}
 use Rattle.calls.specs.declared.Answer.{Answer}
 use Rattle.calls.specs.declared.World.{World}
 use Rattle.calls.specs.World.{offsetBy, rdBy, Known, Sound}
@@ -31,7 +29,7 @@ use Rattle.calls.proofs.Worlds.{spot, see, blocks-is}
 use Rattle.calls.proofs.Leaves.{left-refused, left-done, store-refused, store-done, buffer-refused, buffer-done}
 use Rattle.calls.proofs.Named.{Is}
 use Rattle.calls.proofs.Entries.{not-chosen, entry-filled, file-word}
-use Rattle.calls.proofs.FilesLaws.{sooner, later, never, slot-in}
+use Rattle.calls.proofs.FilesLaws.{sooner, later, never, slot-in, file-fits}
 
 -- ---- a part that is lent: bytes stored in it are stored in the whole
 
@@ -186,13 +184,7 @@ module _ {t : List ℕ} {w : World} (sound : Sound t w) (m : ℕ) (long : m ≡ 
       rw (xe, ve, blocks-is (sound .known)) (omega arith)
 
   pub size-in : {n : ℕ} → n ≡ rdBy w t (at file i size) → n ≤ blocks (configuration t)
-  size-in ne =
-      let x = file-record (configuration t) (rd (configuration t) t) (sound .records) i (slot-in (sound .known) is ie) in
-      let e = ne ∙ see (sound .known) (at file i size) in
-      elim (ℕ-discrete (rd (configuration t) t (at file i live)) 1) [
-        | yes y ↦ omega (arith, x .alive y .size-fits)
-        | no z ↦ omega (arith, x .free (omega (arith, x .flag)) size (omega arith) (omega arith))
-      ]
+  size-in ne = omega (arith, ne, see (sound .known) (at file i size), file-fits sound is ie .1)
 
 -- ---- what the calls leave
 

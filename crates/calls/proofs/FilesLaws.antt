@@ -9,7 +9,7 @@ use lib.Dec.{eqb, leb, ltb}
 use lib.ListN.{getD, set}
 use borrow.Author.Tests.{eq-eqb, ne-eqb, eqb-true}
 use Rattle.rules.specs.Words.{someBelow}
-use Rattle.rules.specs.Layout.{maxBits, maxLinks, maxSerial, Kind, process, segment, file, configuration, slots, cellWord, cellSlots, firstSlot, cellOf, Addr, at, offset, rd, entries, live, serial, owner, group, bits, links, opens}
+use Rattle.rules.specs.Layout.{maxBits, maxLinks, maxSerial, Kind, process, segment, file, configuration, slots, blocks, cellWord, cellSlots, firstSlot, cellOf, Addr, at, offset, rd, entries, live, serial, owner, group, bits, links, size, opens}
 use Rattle.rules.specs.Seid.{class, classOf, seid, indexOf, isSeid, orSelf, present}
 use Rattle.rules.specs.Modes.{validModes, reads, writes}
 use Rattle.rules.specs.Rights.{lacks}
@@ -113,15 +113,18 @@ module _ {t : List ℕ} {w : World} (known : Known t w) (a : ℕ) (buffer : List
 pub slot-in : {t : List ℕ} {w : World} → Known t w → {s f i : ℕ} → Is (w .files) (class file) s f → i ≡ indexOf f → i < slots (configuration t) file
 slot-in {w = w} known {s} is slot = omega (arith, is-formed (class file) (w .files) s (is .form) .index-in, files-is known, slot ∙ ap indexOf (is .same))
 
--- links stay in a byte
-pub links-few : {t : List ℕ} {w : World} → Sound t w → {s f i n : ℕ} → Is (w .files) (class file) s f → i ≡ indexOf f → n ≡ rdBy w t (at file i links) → n ≤ maxLinks
-links-few {t} {w} sound {s} {f} {i} {n} is slot count =
+-- its links stay in a byte and its size in its stretch, also where the record is free
+pub file-fits : {t : List ℕ} {w : World} → Sound t w → {s f i : ℕ} → Is (w .files) (class file) s f → i ≡ indexOf f
+    → (rd (configuration t) t (at file i links) ≤ maxLinks) × (rd (configuration t) t (at file i size) ≤ blocks (configuration t))
+file-fits {t} sound {i = i} is slot =
     let x = file-record (configuration t) (rd (configuration t) t) (sound .records) i (slot-in (sound .known) is slot) in
-    let e = count ∙ see (sound .known) (at file i links) in
     elim (ℕ-discrete (rd (configuration t) t (at file i live)) 1) [
-      | yes y ↦ omega (arith, x .alive y .links-fit)
-      | no z ↦ omega (arith, x .free (omega (arith, x .flag)) links (omega arith) (omega arith))
+      | yes y ↦ (x .alive y .links-fit, x .alive y .size-fits)
+      | no z ↦ let free = x .free (omega (arith, x .flag)) in (omega (arith, free links (omega arith) (omega arith)), omega (arith, free size (omega arith) (omega arith)))
     ]
+
+pub links-few : {t : List ℕ} {w : World} → Sound t w → {s f i n : ℕ} → Is (w .files) (class file) s f → i ≡ indexOf f → n ≡ rdBy w t (at file i links) → n ≤ maxLinks
+links-few sound {i = i} is slot count = omega (arith, count, see (sound .known) (at file i links), file-fits sound is slot .0)
 
 -- ---- one link less
 
