@@ -18,7 +18,7 @@ pub not-chosen : (b : Bool) (n x : ℕ) → 0 < n → cond b n x ≡ 0 → (b �
 not-chosen true n x l e = absurd (omega arith)
 not-chosen false n x l e = (refl, e)
 
--- and one of two that are not 0
+-- a choice of two numbers that are not 0 is not 0
 pub cond-some : (b : Bool) (m n : ℕ) → 0 < m → 0 < n → (cond b m n ≡ 0 → ⊥)
 cond-some true m n p q e = omega arith
 cond-some false m n p q e = omega arith
