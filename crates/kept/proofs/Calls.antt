@@ -51,25 +51,25 @@ module _ (h : List ℕ) (r : Addr → ℕ) (st : List ℕ) (k : Call) where
   keeps me =
       let p = k .caller in
       by-code h r st k (KeptBy h r) (record {
-        call-1 = K01.keeps h r p me (k .a) (k .b) (k .buffer);
-        call-2 = K02.keeps h r p me (k .a) (k .buffer);
-        call-3 = K03.keeps h r p me (k .a) (k .b) (k .c) (k .buffer);
-        call-4 = K04.keeps h r p me (k .a) (k .b) (k .buffer);
-        call-5 = K05.keeps h r p me (k .a) (k .buffer);
-        call-6 = K06.keeps h r p me (k .a) (k .b) (k .buffer);
-        call-7 = K07.keeps h r p me (k .a) (k .b) (k .buffer);
-        call-8 = K08.keeps h r p me (k .a) (k .b) (k .buffer);
-        call-9 = K09.keeps h r p me (k .a) (k .buffer);
-        call-10 = K10.keeps h r p me (k .a) (k .buffer);
-        call-11 = K11.keeps h r p me (k .a) (k .buffer);
-        call-12 = by-bits h r st k (KeptBy h r) (K12.keeps h r p me (k .b) (k .buffer));
-        call-13 = λ e. keeps-none h r (me .fine);
-        call-14 = K14.keeps h r p me (k .a) (k .b) (k .buffer);
-        call-15 = K15.keeps h r p me (k .a) (k .buffer);
-        call-16 = K16.keeps h r p me (k .buffer);
-        call-17 = by-status h r st k (KeptBy h r) (λ s j e. keeps-none h r (me .fine));
-        call-18 = λ e. keeps-none h r (me .fine);
-        other = λ e. keeps-none h r (me .fine);
+        call-1 = λ e. K01.keeps h r p me (k .a) (k .b) (k .buffer);
+        call-2 = λ e. K02.keeps h r p me (k .a) (k .buffer);
+        call-3 = λ e. K03.keeps h r p me (k .a) (k .b) (k .c) (k .buffer);
+        call-4 = λ e. K04.keeps h r p me (k .a) (k .b) (k .buffer);
+        call-5 = λ e. K05.keeps h r p me (k .a) (k .buffer);
+        call-6 = λ e. K06.keeps h r p me (k .a) (k .b) (k .buffer);
+        call-7 = λ e. K07.keeps h r p me (k .a) (k .b) (k .buffer);
+        call-8 = λ e. K08.keeps h r p me (k .a) (k .b) (k .buffer);
+        call-9 = λ e. K09.keeps h r p me (k .a) (k .buffer);
+        call-10 = λ e. K10.keeps h r p me (k .a) (k .buffer);
+        call-11 = λ e. K11.keeps h r p me (k .a) (k .buffer);
+        call-12 = λ e. by-bits h r st k (KeptBy h r) (K12.keeps h r p me (k .b) (k .buffer));
+        call-13 = λ e x. keeps-none h r (me .fine);
+        call-14 = λ e. K14.keeps h r p me (k .a) (k .b) (k .buffer);
+        call-15 = λ e. K15.keeps h r p me (k .a) (k .buffer);
+        call-16 = λ e. K16.keeps h r p me (k .buffer);
+        call-17 = λ e. by-status h r st k (KeptBy h r) (λ s j x. keeps-none h r (me .fine));
+        call-18 = λ e x. keeps-none h r (me .fine);
+        other = λ x. keeps-none h r (me .fine);
       })
 
   -- no refusal of any call has that number
@@ -78,24 +78,24 @@ module _ (h : List ℕ) (r : Addr → ℕ) (st : List ℕ) (k : Call) where
   numbers =
       let P : Rule → Type 0 = λ x. without XbTab (x .refusals) ≡ true in
       by-code h r st k P (record {
-        call-1 = refl;
-        call-2 = refl;
-        call-3 = refl;
-        call-4 = refl;
-        call-5 = refl;
-        call-6 = refl;
-        call-7 = refl;
-        call-8 = refl;
-        call-9 = refl;
-        call-10 = refl;
-        call-11 = refl;
-        call-12 = by-bits h r st k P bits-numbers;
-        call-13 = refl;
-        call-14 = refl;
-        call-15 = refl;
-        call-16 = refl;
-        call-17 = by-status h r st k P status-numbers;
-        call-18 = refl;
+        call-1 = λ e. refl;
+        call-2 = λ e. refl;
+        call-3 = λ e. refl;
+        call-4 = λ e. refl;
+        call-5 = λ e. refl;
+        call-6 = λ e. refl;
+        call-7 = λ e. refl;
+        call-8 = λ e. refl;
+        call-9 = λ e. refl;
+        call-10 = λ e. refl;
+        call-11 = λ e. refl;
+        call-12 = λ e. by-bits h r st k P bits-numbers;
+        call-13 = λ e. refl;
+        call-14 = λ e. refl;
+        call-15 = λ e. refl;
+        call-16 = λ e. refl;
+        call-17 = λ e. by-status h r st k P status-numbers;
+        call-18 = λ e. refl;
         other = refl;
       })
     where

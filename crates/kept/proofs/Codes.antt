@@ -1,8 +1,10 @@
--- A property of each call's rule is one of the rule of any code.
+-- A property of each call's rule is one of the rule of any code; each code's part knows that the call has it.
+use mathlib.Core.Path.{_≡_}
 use mathlib.Core.Bool.{cond}
 use mathlib.Core.List.{List, []}
 use Prim.Native.Nat.{ℕ}
 use lib.Dec.{eqb}
+use borrow.Author.Tests.{eqb-true}
 use Rattle.rules.specs.Layout.{Kind, process, segment, file, Addr}
 use Rattle.rules.specs.Seid.{orSelf, classOf, class}
 use Rattle.rules.specs.Rule.{Rule, rule, effect}
@@ -29,24 +31,24 @@ use Rattle.laws.proofs.Tests.{cond-both}
 use Rattle.kept.proofs.Fine.{Object}
 
 pub record Each (h : List ℕ) (r : Addr → ℕ) (st : List ℕ) (k : Call) (P : Rule → Type 0) : Type 0 where
-  pub call-1 : P (spawn h r (k .caller) (k .a) (k .b) (k .buffer))
-  pub call-2 : P (releaseProcess h r (k .caller) (k .a) (k .buffer))
-  pub call-3 : P (buildSegment h r (k .caller) (k .a) (k .b) (k .c) (k .buffer))
-  pub call-4 : P (rendezvous h r (k .caller) (k .a) (k .b) (k .buffer))
-  pub call-5 : P (releaseSegment h r (k .caller) (k .a) (k .buffer))
-  pub call-6 : P (setAccess h r (k .caller) (k .a) (k .b) (k .buffer))
-  pub call-7 : P (create h r (k .caller) (k .a) (k .b) (k .buffer))
-  pub call-8 : P (openFile h r (k .caller) (k .a) (k .b) (k .buffer))
-  pub call-9 : P (close h r (k .caller) (k .a) (k .buffer))
-  pub call-10 : P (link h r (k .caller) (k .a) (k .buffer))
-  pub call-11 : P (unlink h r (k .caller) (k .a) (k .buffer))
-  pub call-12 : P (setBits h r (k .caller) (k .a) (k .b) (k .buffer))
-  pub call-13 : P (readBlock h r st (k .caller) (k .a) (k .b) (k .buffer))
-  pub call-14 : P (writeBlock h r (k .caller) (k .a) (k .b) (k .buffer))
-  pub call-15 : P (post h r (k .caller) (k .a) (k .buffer))
-  pub call-16 : P (receive h r (k .caller) (k .buffer))
-  pub call-17 : P (status h r (k .caller) (k .a) (k .buffer))
-  pub call-18 : P (accessOf h r (k .caller) (k .a) (k .buffer))
+  pub call-1 : k .code ≡ 1 → P (spawn h r (k .caller) (k .a) (k .b) (k .buffer))
+  pub call-2 : k .code ≡ 2 → P (releaseProcess h r (k .caller) (k .a) (k .buffer))
+  pub call-3 : k .code ≡ 3 → P (buildSegment h r (k .caller) (k .a) (k .b) (k .c) (k .buffer))
+  pub call-4 : k .code ≡ 4 → P (rendezvous h r (k .caller) (k .a) (k .b) (k .buffer))
+  pub call-5 : k .code ≡ 5 → P (releaseSegment h r (k .caller) (k .a) (k .buffer))
+  pub call-6 : k .code ≡ 6 → P (setAccess h r (k .caller) (k .a) (k .b) (k .buffer))
+  pub call-7 : k .code ≡ 7 → P (create h r (k .caller) (k .a) (k .b) (k .buffer))
+  pub call-8 : k .code ≡ 8 → P (openFile h r (k .caller) (k .a) (k .b) (k .buffer))
+  pub call-9 : k .code ≡ 9 → P (close h r (k .caller) (k .a) (k .buffer))
+  pub call-10 : k .code ≡ 10 → P (link h r (k .caller) (k .a) (k .buffer))
+  pub call-11 : k .code ≡ 11 → P (unlink h r (k .caller) (k .a) (k .buffer))
+  pub call-12 : k .code ≡ 12 → P (setBits h r (k .caller) (k .a) (k .b) (k .buffer))
+  pub call-13 : k .code ≡ 13 → P (readBlock h r st (k .caller) (k .a) (k .b) (k .buffer))
+  pub call-14 : k .code ≡ 14 → P (writeBlock h r (k .caller) (k .a) (k .b) (k .buffer))
+  pub call-15 : k .code ≡ 15 → P (post h r (k .caller) (k .a) (k .buffer))
+  pub call-16 : k .code ≡ 16 → P (receive h r (k .caller) (k .buffer))
+  pub call-17 : k .code ≡ 17 → P (status h r (k .caller) (k .a) (k .buffer))
+  pub call-18 : k .code ≡ 18 → P (accessOf h r (k .caller) (k .a) (k .buffer))
   -- a code that is no call's
   pub other : P (rule [] (effect 0 0 (k .buffer) [] []))
 
@@ -58,8 +60,8 @@ module _ (h : List ℕ) (r : Addr → ℕ) (st : List ℕ) (k : Call) (P : Rule 
       (or 9 (x .call-9) (or 10 (x .call-10) (or 11 (x .call-11) (or 12 (x .call-12) (or 13 (x .call-13) (or 14 (x .call-14) (or 15 (x .call-15) (or 16 (x .call-16)
       (or 17 (x .call-17) (or 18 (x .call-18) (x .other))))))))))))))))))
     where
-      or : {x y : Rule} (n : ℕ) → P x → P y → P (cond (eqb (k .code) n) x y)
-      or {x} {y} n p q = cond-both P (eqb (k .code) n) x y (λ e. p) (λ e. q)
+      or : {x y : Rule} (n : ℕ) → (k .code ≡ n → P x) → P y → P (cond (eqb (k .code) n) x y)
+      or {x} {y} n p q = cond-both P (eqb (k .code) n) x y (λ e. p (eqb-true (k .code) n e)) (λ e. q)
 
   -- two calls go by the seid's class
   pub by-bits : ((s : ℕ) (j : Kind) → Object j → P (setBitsOf h r (k .caller) s (k .b) (k .buffer) j)) → P (setBits h r (k .caller) (k .a) (k .b) (k .buffer))

@@ -1,5 +1,4 @@
 -- What the rules promise, statement by statement.
-pub mod Coded
 pub mod Refusals
 pub mod After
 pub mod Stale

@@ -38,8 +38,7 @@ use Rattle.kept.proofs.Records.{InRecord, word-in, apart-word, tab-in, tab-past
 use Rattle.kept.proofs.Made.{placed, no-process, object-words}
 use Rattle.kept.proofs.Keeps.{Caller}
 use Rattle.kept.proofs.Found.{free-slot, free-entry}
-use Rattle.kept.proofs.Codes.{by-bits, by-status}
-use Rattle.promises.proofs.Coded.{coded}
+use Rattle.kept.proofs.Codes.{by-code, by-bits, by-status}
 
 -- ---- writes that leave process p as it is, but for its entries
 
@@ -238,7 +237,7 @@ module _ (h : List ℕ) (r : Addr → ℕ) (st : List ℕ) (k : Call) (p : ℕ) 
   unfolding releaseProcess buildSegment rendezvous releaseSegment setAccess create openFile close link unlink readBlock writeBlock receive accessOf
   later x y =
       let P : Rule → Type 0 = λ z. Clear (z .refusals) → Later r (over r (z .effects .words)) p in
-      coded h r st k P (record {
+      by-code h r st k P (record {
         call-1 = λ e ok. later-spared r p (by-spawn ok);
         call-2 = λ e ok. later-spared r p (of-released p h r (indexOf given) (x e));
         call-3 = λ e ok. later-spared r p (all-append _ (by-made segment tt (freeSlot h r segment (cellOf h process caller))) (of-entry p segment tt caller (freeEntry r segment caller) _ _ (free-entry r segment caller (ok .1 .1 .0) .in-record)));

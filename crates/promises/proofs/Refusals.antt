@@ -37,7 +37,6 @@ use Rattle.laws.proofs.Claims.{tested}
 use Rattle.kept.proofs.Fine.{Object}
 use Rattle.kept.proofs.Refusals.{Clear, numbered, clear}
 use Rattle.kept.proofs.Codes.{by-code, by-bits, by-status}
-use Rattle.promises.proofs.Coded.{coded}
 
 -- the refusals of a call in their order, those of all calls first; and what it does where none of them holds
 abbrev pub refusals : State → Call → List Refusal
@@ -115,24 +114,24 @@ module _ (s : State) (k : Call) where
   all-numbered =
       let P : Rule → Type 0 = λ x. numbered (x .refusals) ≡ true in
       by-code conf reading (s .store) k P (record {
-        call-1 = refl;
-        call-2 = refl;
-        call-3 = refl;
-        call-4 = refl;
-        call-5 = refl;
-        call-6 = refl;
-        call-7 = refl;
-        call-8 = refl;
-        call-9 = refl;
-        call-10 = refl;
-        call-11 = refl;
-        call-12 = by-bits conf reading (s .store) k P for-bits;
-        call-13 = refl;
-        call-14 = refl;
-        call-15 = refl;
-        call-16 = refl;
-        call-17 = by-status conf reading (s .store) k P for-status;
-        call-18 = refl;
+        call-1 = λ e. refl;
+        call-2 = λ e. refl;
+        call-3 = λ e. refl;
+        call-4 = λ e. refl;
+        call-5 = λ e. refl;
+        call-6 = λ e. refl;
+        call-7 = λ e. refl;
+        call-8 = λ e. refl;
+        call-9 = λ e. refl;
+        call-10 = λ e. refl;
+        call-11 = λ e. refl;
+        call-12 = λ e. by-bits conf reading (s .store) k P for-bits;
+        call-13 = λ e. refl;
+        call-14 = λ e. refl;
+        call-15 = λ e. refl;
+        call-16 = λ e. refl;
+        call-17 = λ e. by-status conf reading (s .store) k P for-status;
+        call-18 = λ e. refl;
         other = refl;
       })
     where
@@ -158,7 +157,7 @@ module _ (s : State) (k : Call) where
   unfolding wholeRule spawn releaseProcess buildSegment rendezvous releaseSegment setAccess create openFile close link unlink writeBlock post accessOf
   own-buffer a b c =
       let P : Rule → Type 0 = λ x. x .effects .buffer ≡ k .buffer in
-      coded conf reading (s .store) k P (record {
+      by-code conf reading (s .store) k P (record {
         call-1 = λ e. refl;
         call-2 = λ e. refl;
         call-3 = λ e. refl;
