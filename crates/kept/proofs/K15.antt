@@ -5,7 +5,7 @@ use mathlib.Core.List.{List, []}
 use Prim.Native.Nat.{ℕ, _+_, _≤_, _<_}
 use native.Mathlib.Omega.{arith}
 use lib.Dec.{ltb, eqb}
-use borrow.Author.Tests.{ltb-true, ne-eqb}
+use borrow.Author.Tests.{ltb-true, eq-eqb, ne-eqb}
 use Rattle.rules.specs.Words.{word4}
 use Rattle.rules.specs.Layout.{process, slots, cellOf, flows, Addr, at, live, serial, queue, messages, messageWords, messageAt}
 use Rattle.rules.specs.Seid.{class, seidAt, orSelf, indexOf, present}
@@ -37,56 +37,64 @@ me-held h r p c me flow =
       flow = rw ix flow;
     }
 
-module _ (h : List ℕ) (r : Addr → ℕ) (p : ℕ) (me : Caller h r p) (q n : ℕ) (buffer : List ℕ) (ql : q < slots h process) (lives : r (at process q live) ≡ 1)
-    (n-is : n ≡ r (at process q queue)) (nl : n < messages) (flow : flows h (cellOf h process p) (cellOf h process q) ≡ true) where
-  in-it : AllOf (InRecord process q) (queued (seidAt r process p) q buffer n)
+-- a message written behind n others
+module _ (me q n : ℕ) (buffer : List ℕ) where
+  pub queued-in : n < messages → AllOf (InRecord process q) (queued me q buffer n)
   unfolding queued
-  in-it =
+  queued-in nl =
       word-in process q queue (n + 1) (omega arith) (word-in process q (messageAt n 0) _ (omega arith) (word-in process q (messageAt n 1) _ (omega arith)
       (word-in process q (messageAt n 2) _ (omega arith) (word-in process q (messageAt n 3) _ (omega arith) nil))))
 
-  word : (j : ℕ) → over r (queued (seidAt r process p) q buffer n) (at process q j)
-      ≡ cond (eqb j (messageAt n 3)) (word4 buffer 8) (cond (eqb j (messageAt n 2)) (word4 buffer 4) (cond (eqb j (messageAt n 1)) (word4 buffer 0)
-      (cond (eqb j (messageAt n 0)) (seidAt r process p) (cond (eqb j queue) (n + 1) (r (at process q j))))))
-  unfolding over queued
-  word j = simp same-record
+  module _ (r : Addr → ℕ) where
+    word : (j : ℕ) → over r (queued me q buffer n) (at process q j)
+        ≡ cond (eqb j (messageAt n 3)) (word4 buffer 8) (cond (eqb j (messageAt n 2)) (word4 buffer 4) (cond (eqb j (messageAt n 1)) (word4 buffer 0)
+        (cond (eqb j (messageAt n 0)) me (cond (eqb j queue) (n + 1) (r (at process q j))))))
+    unfolding over queued
+    word j = simp same-record
 
-  -- a word of neither the queue's length nor message n
-  beside : (j : ℕ) → (j ≡ queue → ⊥) → (messageAt n 0 ≤ j → j < messageAt n 0 + messageWords → ⊥) → over r (queued (seidAt r process p) q buffer n) (at process q j) ≡ r (at process q j)
-  beside j x y = word j
-      ∙ rw (
-        ne-eqb j (messageAt n 3) (λ e. y (omega arith) (omega arith)),
-        ne-eqb j (messageAt n 2) (λ e. y (omega arith) (omega arith)),
-        ne-eqb j (messageAt n 1) (λ e. y (omega arith) (omega arith)),
-        ne-eqb j (messageAt n 0) (λ e. y (omega arith) (omega arith)),
-        ne-eqb j queue x,
-      )
+    -- a word of neither the queue's length nor message n
+    pub queued-past : (j : ℕ) → (j ≡ queue → ⊥) → (messageAt n 0 ≤ j → j < messageAt n 0 + messageWords → ⊥) → over r (queued me q buffer n) (at process q j) ≡ r (at process q j)
+    queued-past j x y = word j
+        ∙ rw (
+          ne-eqb j (messageAt n 3) (λ e. y (omega arith) (omega arith)),
+          ne-eqb j (messageAt n 2) (λ e. y (omega arith) (omega arith)),
+          ne-eqb j (messageAt n 1) (λ e. y (omega arith) (omega arith)),
+          ne-eqb j (messageAt n 0) (λ e. y (omega arith) (omega arith)),
+          ne-eqb j queue x,
+        )
 
-  queue-is : over r (queued (seidAt r process p) q buffer n) (at process q queue) ≡ n + 1
-  queue-is = word queue
-      ∙ rw (
-        ne-eqb queue (messageAt n 3) (λ e. omega arith),
-        ne-eqb queue (messageAt n 2) (λ e. omega arith),
-        ne-eqb queue (messageAt n 1) (λ e. omega arith),
-        ne-eqb queue (messageAt n 0) (λ e. omega arith),
-      )
+    pub queued-length : over r (queued me q buffer n) (at process q queue) ≡ n + 1
+    queued-length = word queue
+        ∙ rw (
+          ne-eqb queue (messageAt n 3) (λ e. omega arith),
+          ne-eqb queue (messageAt n 2) (λ e. omega arith),
+          ne-eqb queue (messageAt n 1) (λ e. omega arith),
+          ne-eqb queue (messageAt n 0) (λ e. omega arith),
+        )
 
-  sender-is : over r (queued (seidAt r process p) q buffer n) (at process q (messageAt n 0)) ≡ seidAt r process p
-  sender-is = word (messageAt n 0)
-      ∙ rw (
-        ne-eqb (messageAt n 0) (messageAt n 3) (λ e. omega arith),
-        ne-eqb (messageAt n 0) (messageAt n 2) (λ e. omega arith),
-        ne-eqb (messageAt n 0) (messageAt n 1) (λ e. omega arith),
-        borrow.Author.Tests.eq-eqb (messageAt n 0) (messageAt n 0) refl,
-      )
+    queued-sender : over r (queued me q buffer n) (at process q (messageAt n 0)) ≡ me
+    queued-sender = word (messageAt n 0)
+        ∙ rw (
+          ne-eqb (messageAt n 0) (messageAt n 3) (λ e. omega arith),
+          ne-eqb (messageAt n 0) (messageAt n 2) (λ e. omega arith),
+          ne-eqb (messageAt n 0) (messageAt n 1) (λ e. omega arith),
+          eq-eqb (messageAt n 0) (messageAt n 0) refl,
+        )
+
+module _ (h : List ℕ) (r : Addr → ℕ) (p : ℕ) (me : Caller h r p) (q n : ℕ) (buffer : List ℕ) (ql : q < slots h process) (lives : r (at process q live) ≡ 1)
+    (n-is : n ≡ r (at process q queue)) (nl : n < messages) (flow : flows h (cellOf h process p) (cellOf h process q) ≡ true) where
+  abbrev mine : ℕ
+  mine = seidAt r process p
 
   queues : Keeps h r (queued (seidAt r process p) q buffer n)
-  queues = keeps-mail h r (me .fine) q ql lives in-it (λ j l x. beside j x (λ a b. omega arith)) (rw queue-is (omega arith))
-      (λ m j ml jl full. let full′ : n + 1 ≤ m = rw queue-is at full in
-      beside (messageAt m j) (λ e. omega arith) (λ a b. omega arith) ∙ me .fine .own process q ql .alive lives .unused m j ml jl (omega arith))
-      (λ m l. by-slot (λ m. m < n + 1 → Held h r process (cellOf h process q) (over r (queued (seidAt r process p) q buffer n) (at process q (messageAt m 0)))) n
-      (λ l. rw sender-is (me-held h r p (cellOf h process q) me flow))
-      (λ m ne l. rw (beside (messageAt m 0) (λ e. omega arith) (λ a b. ne (omega arith))) (me .fine .sender q m ql (omega arith))) m (rw queue-is at l))
+  queues = keeps-mail h r (me .fine) q ql lives (queued-in mine q n buffer nl) (λ j l x. queued-past mine q n buffer r j x (λ a b. omega arith))
+      (rw (queued-length mine q n buffer r) (omega arith))
+      (λ m j ml jl full. let full′ : n + 1 ≤ m = rw (queued-length mine q n buffer r) at full in
+      queued-past mine q n buffer r (messageAt m j) (λ e. omega arith) (λ a b. omega arith) ∙ me .fine .own process q ql .alive lives .unused m j ml jl (omega arith))
+      (λ m l. by-slot (λ m. m < n + 1 → Held h r process (cellOf h process q) (over r (queued mine q buffer n) (at process q (messageAt m 0)))) n
+      (λ l. rw (queued-sender mine q n buffer r) (me-held h r p (cellOf h process q) me flow))
+      (λ m ne l. rw (queued-past mine q n buffer r (messageAt m 0) (λ e. omega arith) (λ a b. ne (omega arith))) (me .fine .sender q m ql (omega arith))) m
+      (rw (queued-length mine q n buffer r) at l))
 
 pub keeps : (h : List ℕ) (r : Addr → ℕ) (p : ℕ) → Caller h r p → (a : ℕ) (buffer : List ℕ) → KeptBy h r (post h r p a buffer)
 unfolding post

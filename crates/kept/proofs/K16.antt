@@ -17,16 +17,17 @@ use Rattle.kept.proofs.Records.{InRecord, word-in, apart-word, tab-in, 
 use Rattle.kept.proofs.Keeps.{Keeps, KeptBy, Caller}
 use Rattle.kept.proofs.Mail.{keeps-mail}
 
-module _ (h : List ℕ) (r : Addr → ℕ) (p : ℕ) (me : Caller h r p) (some : r (at process p queue) ≡ 0 → ⊥) where
+-- the oldest message taken away: every other moves up
+module _ (r : Addr → ℕ) (p : ℕ) where
   abbrev n : ℕ
   n = r (at process p queue)
 
-  abbrev taken : List Word
+  abbrev pub taken : List Word
   taken = (at process p queue ≔ n - 1) ∷ movedUp r p
 
-  in-it : AllOf (InRecord process p) taken
+  pub taken-in : AllOf (InRecord process p) taken
   unfolding movedUp zeros
-  in-it = word-in process p queue (n - 1) (omega arith)
+  taken-in = word-in process p queue (n - 1) (omega arith)
       (all-append _ (tab-in process p (λ k. r (at process p (k + messageWords))) messagesAt (messageWords * (messages - 1)) (omega arith))
       (tab-in process p (λ w. 0) (messageAt (messages - 1) 0) messageWords (omega arith)))
 
@@ -59,31 +60,32 @@ module _ (h : List ℕ) (r : Addr → ℕ) (p : ℕ) (me : Caller h r p) (some :
   unfolding moved
   low j a = before j (omega arith) ∙ tab-past process p (λ k. r (at process p (k + messageWords))) messagesAt (messageWords * (messages - 1)) shortened j (λ x y. omega arith)
 
-  queue-is : over r taken (at process p queue) ≡ n - 1
+  pub taken-length : over r taken (at process p queue) ≡ n - 1
   unfolding shortened
-  queue-is = low queue (omega arith) ∙ hit (at process p queue) (at process p queue) (n - 1) n refl
+  taken-length = low queue (omega arith) ∙ hit (at process p queue) (at process p queue) (n - 1) n refl
 
-  beside : (j : ℕ) → j < messagesAt → (j ≡ queue → ⊥) → over r taken (at process p j) ≡ r (at process p j)
+  pub taken-past : (j : ℕ) → j < messagesAt → (j ≡ queue → ⊥) → over r taken (at process p j) ≡ r (at process p j)
   unfolding shortened
-  beside j l x = low j l ∙ miss (at process p j) (at process p queue) (n - 1) (r (at process p j)) (apart-word process p j queue x)
+  taken-past j l x = low j l ∙ miss (at process p j) (at process p queue) (n - 1) (r (at process p j)) (apart-word process p j queue x)
 
   -- message m is the one that stood after it
-  later : (m j : ℕ) → m + 1 < messages → j < messageWords → over r taken (at process p (messageAt m j)) ≡ r (at process p (messageAt (m + 1) j))
-  later m j ml jl =
+  pub taken-later : (m j : ℕ) → m + 1 < messages → j < messageWords → over r taken (at process p (messageAt m j)) ≡ r (at process p (messageAt (m + 1) j))
+  taken-later m j ml jl =
       let e : messageAt m j + messageWords ≡ messageAt (m + 1) j = omega arith in
       moves (messageAt m j) (omega arith) (omega arith) ∙ ap (λ (w : ℕ). r (at process p w)) e
 
-  receives : Keeps h r taken
+module _ (h : List ℕ) (r : Addr → ℕ) (p : ℕ) (me : Caller h r p) (some : r (at process p queue) ≡ 0 → ⊥) where
+  receives : Keeps h r (taken r p)
   receives =
       let x = me .fine .own process p (me .in-range) .alive (me .alive) in
-      keeps-mail h r (me .fine) p (me .in-range) (me .alive) in-it beside (rw queue-is (omega (arith, x .queue-fits)))
-      (λ m j ml jl full. let full′ : n - 1 ≤ m = rw queue-is at full in
+      keeps-mail h r (me .fine) p (me .in-range) (me .alive) (taken-in r p) (taken-past r p) (rw (taken-length r p) (omega (arith, x .queue-fits)))
+      (λ m j ml jl full. let full′ : r (at process p queue) - 1 ≤ m = rw (taken-length r p) at full in
       elim (ℕ-discrete m (messages - 1)) [
-        | yes e ↦ cleared (messageAt m j) (omega arith) (omega arith)
-        | no ne ↦ later m j (omega arith) jl ∙ x .unused (m + 1) j (omega arith) jl (omega arith)
+        | yes e ↦ cleared r p (messageAt m j) (omega arith) (omega arith)
+        | no ne ↦ taken-later r p m j (omega arith) jl ∙ x .unused (m + 1) j (omega arith) jl (omega arith)
       ])
-      (λ m l. let l′ : m < n - 1 = rw queue-is at l in
-      rw (later m 0 (omega (arith, x .queue-fits)) (omega arith)) (me .fine .sender p (m + 1) (me .in-range) (omega arith)))
+      (λ m l. let l′ : m < r (at process p queue) - 1 = rw (taken-length r p) at l in
+      rw (taken-later r p m 0 (omega (arith, x .queue-fits)) (omega arith)) (me .fine .sender p (m + 1) (me .in-range) (omega arith)))
 
 pub keeps : (h : List ℕ) (r : Addr → ℕ) (p : ℕ) → Caller h r p → (buffer : List ℕ) → KeptBy h r (receive h r p buffer)
 unfolding receive

@@ -20,10 +20,11 @@ use Rattle.rules.specs.Step.{State, Call, step, next, run, badCode, ruleOf, who
 use Rattle.laws.proofs.Tests.{and-left, and-right, and-both, passed, both-ways, split, cond-true, cond-false}
 use Rattle.laws.proofs.Shape.{good-of}
 use Rattle.kept.proofs.Fine.{fine-of}
+use Rattle.kept.proofs.K16.{taken, taken-past, taken-length, taken-later}
 use Rattle.kept.proofs.Kept.{Well, kept, conf-kept}
 use Rattle.promises.proofs.Refusals.{own, own-clear, goes-on, done, refused}
 use Rattle.promises.proofs.After.{its-caller, read-after}
-use Rattle.promises.proofs.Queue.{later, shifted, taken}
+use Rattle.promises.proofs.Queue.{later}
 
 -- ---- the words of the statement
 
@@ -133,16 +134,16 @@ module _ (s : State) (k : Call) (p m : ℕ) (x : Waiting s p m) where
     moves-up : (n : ℕ) → m ≡ n + 1 → Waiting (next s k) p n × (messageOf (next s k) p n ≡ messageOf s p m)
     unfolding receive
     moves-up n e =
-        let after : (j : ℕ) → j < recordWords process → wordOf (next s k) p j ≡ over (rd (configuration (s .table)) (s .table)) (taken (rd (configuration (s .table)) (s .table)) p) (at process p j) =
-        λ j jl. word-after s k p (x .well) (x .in-range) received j jl ∙ ap (λ (y : Rule). over (rd (configuration (s .table)) (s .table)) (y .effects .words) (at process p j)) its-rule in
-        let l = shifted (rd (configuration (s .table)) (s .table)) p in (
+        let r = rd (configuration (s .table)) (s .table) in
+        let after : (j : ℕ) → j < recordWords process → wordOf (next s k) p j ≡ over r (taken r p) (at process p j) =
+        λ j jl. word-after s k p (x .well) (x .in-range) received j jl ∙ ap (λ (y : Rule). over r (y .effects .words) (at process p j)) its-rule in (
           record {
             well = kept s k (x .well);
             in-range = rw (conf-kept s k (x .well)) (x .in-range);
-            alive = after live (omega arith) ∙ l .same-live ∙ x .alive;
-            behind = omega (arith, after queue (omega arith), l .one-fewer, x .behind);
+            alive = after live (omega arith) ∙ taken-past r p live (omega arith) (λ e. omega arith) ∙ x .alive;
+            behind = omega (arith, after queue (omega arith), taken-length r p, x .behind);
           },
-          same-bytes (next s k) s p n m (λ j jl. after (messageAt n j) (omega (arith, few s p m x, x .behind)) ∙ rw e (l .moved n j (omega (arith, few s p m x, x .behind)) jl)),
+          same-bytes (next s k) s p n m (λ j jl. after (messageAt n j) (omega (arith, few s p m x, x .behind)) ∙ rw e (taken-later r p n j (omega (arith, few s p m x, x .behind)) jl)),
         )
 
 -- ---- the statement

@@ -1,17 +1,16 @@
--- What each call writes of a process's queue: receive takes the oldest message away, post adds one behind the others, release clears all, and no other call writes there.
-use mathlib.Core.Path.{_≡_, refl, sym, ap, _∙_}
-use mathlib.Core.Bool.{cond, _&&_, not}
+-- A process's messages stand where they stood after every call but a release of it and a receive by it; a post may have added one behind them.
+use mathlib.Core.Path.{_≡_, sym, ap, _∙_}
+use mathlib.Core.Bool.{_&&_, not}
 use mathlib.Core.List.{List, [], _∷_}
-use Prim.Native.Nat.{ℕ, zero, suc, _+_, _-_, _*_, _≤_, _<_}
+use Prim.Native.Nat.{ℕ, zero, suc, _-_, _≤_, _<_}
 use native.Mathlib.Omega.{arith}
 use native.Mathlib.Decide.{ℕ-discrete}
 use lib.Dec.{ltb, eqb}
-use borrow.Author.Tests.{leb-false}
-use Rattle.rules.specs.Words.{tabFrom}
+use borrow.Author.Tests.{ltb-true, leb-false}
 use Rattle.rules.specs.Layout.{Kind, process, segment, file, cellOf, Addr, at, live, serial, owner, group, parent, queue, entries, heldAt, usedAt, messages, messageWords, messagesAt, messageAt, bits, size, holders, links, opens}
 use Rattle.rules.specs.Seid.{indexOf, orSelf, present, seidAt}
-use Rattle.rules.specs.Rule.{Word, _≔_, Rule, over, sameAddr}
-use Rattle.rules.specs.Find.{inOwnCell, entered, oneMore, oneLess, givenUp, kept, zeros, freeSlot, freeEntry}
+use Rattle.rules.specs.Rule.{Word, _≔_, Rule, over}
+use Rattle.rules.specs.Find.{inOwnCell, entered, oneMore, oneLess, givenUp, kept, freeSlot, freeEntry}
 use Rattle.rules.specs.Call01.{spawn}
 use Rattle.rules.specs.Call02.{dropped, droppedTo, released, releaseProcess}
 use Rattle.rules.specs.Call03.{buildSegment}
@@ -26,27 +25,29 @@ use Rattle.rules.specs.Call11.{unlinked, unlink}
 use Rattle.rules.specs.Call13.{readBlock}
 use Rattle.rules.specs.Call14.{writeBlock}
 use Rattle.rules.specs.Call15.{queued, post}
-use Rattle.rules.specs.Call16.{movedUp, receive}
+use Rattle.rules.specs.Call16.{receive}
 use Rattle.rules.specs.Call18.{accessOf}
 use Rattle.rules.specs.Step.{Call, ruleOf}
-use Rattle.laws.proofs.Tests.{cond-both}
-use Rattle.laws.proofs.Written.{AllOf, nil, also, all-append, all-if, all-map, hit, miss, over-append, over-miss}
+use Rattle.laws.proofs.Tests.{and-right, cond-both}
+use Rattle.laws.proofs.Written.{AllOf, nil, also, all-append, all-if, all-map, over-miss}
 use Rattle.laws.proofs.Shape.{in-run}
 use Rattle.kept.proofs.Fine.{Object}
 use Rattle.kept.proofs.Refusals.{Clear}
-use Rattle.kept.proofs.Records.{InRecord, word-in, apart-word, tab-in, tab-past, tab-at, freed-in}
+use Rattle.kept.proofs.Records.{InRecord, word-in, freed-in}
 use Rattle.kept.proofs.Made.{placed, no-process, object-words}
 use Rattle.kept.proofs.Keeps.{Caller}
 use Rattle.kept.proofs.Found.{free-slot, free-entry}
+use Rattle.kept.proofs.K15.{queued-in, queued-past, queued-length}
+use Rattle.kept.proofs.K16.{taken-in}
 use Rattle.kept.proofs.Codes.{by-code, by-bits, by-status}
 
 -- ---- writes that leave process p as it is, but for its entries
 
 module _ (p : ℕ) where
-  abbrev pub Spares : Word → Type 0
+  abbrev Spares : Word → Type 0
   Spares x = x .at .kind ≡ process → x .at .slot ≡ p → (8 ≤ x .at .word) × (x .at .word < messagesAt)
 
-  pub spared : {ws : List Word} → AllOf Spares ws → (j : ℕ) → (8 ≤ j → j < messagesAt → ⊥) → (r : Addr → ℕ) → over r ws (at process p j) ≡ r (at process p j)
+  spared : {ws : List Word} → AllOf Spares ws → (j : ℕ) → (8 ≤ j → j < messagesAt → ⊥) → (r : Addr → ℕ) → over r ws (at process p j) ≡ r (at process p j)
   spared a j out = over-miss (at process p j) (all-map (λ x f e.
       let w = f (sym (ap (λ (b : Addr). b .kind) e)) (sym (ap (λ (b : Addr). b .slot) e)) in
       let same : j ≡ x .at .word = ap (λ (b : Addr). b .word) e in
@@ -74,13 +75,6 @@ module _ (p : ℕ) where
   unfolding unlinked
   of-unlinked r i = all-if Spares (eqb (r (at file i links)) 1 && eqb (r (at file i opens)) 0) _ _
       (λ e. of-object file tt i (freed-in file i)) (λ e. object-word file tt i links (r (at file i links) - 1) nil)
-
-  of-queued : (q : ℕ) → (q ≡ p → ⊥) → (me n : ℕ) (buffer : List ℕ) → AllOf Spares (queued me q buffer n)
-  unfolding queued
-  of-queued q ne me n buffer = other _ _ (other _ _ (other _ _ (other _ _ (other _ _ nil))))
-    where
-      other : (j v : ℕ) {ws : List Word} → AllOf Spares ws → AllOf Spares ((at process q j ≔ v) ∷ ws)
-      other j v a = also (λ e f. absurd (ne f)) a
 
   -- a holder more or less
   of-more : (h : List ℕ) (r : Addr → ℕ) (k : Kind) → Object k → (q s : ℕ) → AllOf Spares (oneMore h r q k s)
@@ -135,71 +129,11 @@ module _ (r : Addr → ℕ) (p me : ℕ) (buffer : List ℕ) where
   abbrev n : ℕ
   n = r (at process p queue)
 
-  -- a word of neither the queue's length nor the new message
-  misses : (j : ℕ) → (j ≡ queue → ⊥) → (messageAt n 0 ≤ j → ⊥) → over r (queued me p buffer n) (at process p j) ≡ r (at process p j)
-  unfolding queued
-  misses j x y = over-miss (at process p j)
-      (also (apart-word process p j queue x) (also (apart-word process p j (messageAt n 0) (λ e. y (omega arith))) (also (apart-word process p j (messageAt n 1) (λ e. y (omega arith)))
-      (also (apart-word process p j (messageAt n 2) (λ e. y (omega arith))) (also (apart-word process p j (messageAt n 3) (λ e. y (omega arith))) nil))))) r
-
-  one-longer : over r (queued me p buffer n) (at process p queue) ≡ n + 1
-  unfolding over queued
-  one-longer = over-miss (at process p queue)
-      (also (apart-word process p queue (messageAt n 0) (λ e. omega arith)) (also (apart-word process p queue (messageAt n 1) (λ e. omega arith))
-      (also (apart-word process p queue (messageAt n 2) (λ e. omega arith)) (also (apart-word process p queue (messageAt n 3) (λ e. omega arith)) nil))))
-      (λ b. cond (sameAddr b (at process p queue)) (n + 1) (r b))
-      ∙ hit (at process p queue) (at process p queue) (n + 1) n refl
-
   later-posted : Later r (over r (queued me p buffer n)) p
   later-posted = record {
-    same-live = misses live (λ e. omega arith) (λ l. omega arith);
-    no-fewer = omega (arith, one-longer);
-    same-message = λ m j ml jl. misses (messageAt m j) (λ e. omega arith) (λ l. omega arith);
-  }
-
--- the oldest message taken away: every other moves up
-pub record Shifted (r q : Addr → ℕ) (p : ℕ) : Type 0 where
-  pub same-live : q (at process p live) ≡ r (at process p live)
-  pub one-fewer : q (at process p queue) ≡ r (at process p queue) - 1
-  pub moved : (m j : ℕ) → m + 1 < messages → j < messageWords → q (at process p (messageAt m j)) ≡ r (at process p (messageAt (m + 1) j))
-
-module _ (r : Addr → ℕ) (p : ℕ) where
-  abbrev pub taken : List Word
-  taken = (at process p queue ≔ r (at process p queue) - 1) ∷ movedUp r p
-
-  taken-in : AllOf (InRecord process p) taken
-  unfolding movedUp zeros
-  taken-in = word-in process p queue _ (omega arith)
-      (all-append _ (tab-in process p (λ k. r (at process p (k + messageWords))) messagesAt (messageWords * (messages - 1)) (omega arith))
-      (tab-in process p (λ w. 0) (messageAt (messages - 1) 0) messageWords (omega arith)))
-
-  -- the length written, the messages moved, the last one cleared
-  shortened : Addr → ℕ
-  shortened b = cond (sameAddr b (at process p queue)) (r (at process p queue) - 1) (r b)
-
-  ups : List Word
-  ups = tabFrom messagesAt (messageWords * (messages - 1)) (λ k. at process p k ≔ r (at process p (k + messageWords)))
-
-  before-last : (j : ℕ) → j < messageAt (messages - 1) 0 → over r taken (at process p j) ≡ over shortened ups (at process p j)
-  unfolding over movedUp shortened ups zeros
-  before-last j l =
-      ap (λ (f : Addr → ℕ). f (at process p j)) (over-append shortened ups (zeros process p (messageAt (messages - 1) 0) messageWords))
-      ∙ tab-past process p (λ w. 0) (messageAt (messages - 1) 0) messageWords (over shortened ups) j (λ x y. omega arith)
-
-  low : (j : ℕ) → j < messagesAt → over r taken (at process p j) ≡ shortened (at process p j)
-  unfolding ups
-  low j l = before-last j (omega arith)
-      ∙ tab-past process p (λ k. r (at process p (k + messageWords))) messagesAt (messageWords * (messages - 1)) shortened j (λ x y. omega arith)
-
-  pub shifted : Shifted r (over r taken) p
-  unfolding shortened ups
-  shifted = record {
-    same-live = low live (omega arith) ∙ miss (at process p live) (at process p queue) _ (r (at process p live)) (apart-word process p live queue (λ e. omega arith));
-    one-fewer = low queue (omega arith) ∙ hit (at process p queue) (at process p queue) _ (r (at process p queue)) refl;
-    moved = λ m j ml jl. let e : messageAt m j + messageWords ≡ messageAt (m + 1) j = omega arith in
-        before-last (messageAt m j) (omega arith)
-        ∙ tab-at process p (λ k. r (at process p (k + messageWords))) messagesAt (messageWords * (messages - 1)) shortened (messageAt m j) (omega arith) (omega arith)
-        ∙ ap (λ (w : ℕ). r (at process p w)) e;
+    same-live = queued-past me p n buffer r live (λ e. omega arith) (λ x y. omega arith);
+    no-fewer = omega (arith, queued-length me p n buffer r);
+    same-message = λ m j ml jl. queued-past me p n buffer r (messageAt m j) (λ e. omega arith) (λ x y. omega arith);
   }
 
 -- ---- every call but a release of p and a receive by p
@@ -222,13 +156,13 @@ module _ (h : List ℕ) (r : Addr → ℕ) (st : List ℕ) (k : Call) (p : ℕ) 
       (word-in process q group _ (omega arith) (word-in process q parent _ (omega arith) nil)))))
 
   by-post : Clear (post h r caller (k .a) (k .buffer) .refusals) → Later r (over r (post h r caller (k .a) (k .buffer) .effects .words)) p
-  unfolding post over queued
+  unfolding post
   by-post ok =
       let q = indexOf given in
       cond-both (λ ws. Later r (over r ws) p) (present r process given && ltb (r (at process q queue)) messages) (queued (seidAt r process caller) q (k .buffer) (r (at process q queue))) []
       (λ e. elim (ℕ-discrete q p) [
         | yes x ↦ rw x (later-posted r p (seidAt r process caller) (k .buffer))
-        | no x ↦ later-spared r p (of-queued p q x (seidAt r process caller) (r (at process q queue)) (k .buffer))
+        | no x ↦ later-spared r p (of-other p q x (queued-in (seidAt r process caller) q (r (at process q queue)) (k .buffer) (ltb-true _ messages (and-right (present r process given) _ e))))
       ])
       (λ e. later-spared r p nil)
 
