@@ -69,7 +69,7 @@ module _ (s : State) (w : Holds (wellFormed (s .table) (length (s .store)))) whe
   unchanged = record { well = w; same-configuration = refl; serials = λ k i l. omega arith }
 
   -- a caller that is not refused
-  caller : (p : ℕ) → badCaller conf reading p ≡ false → Caller conf reading p
+  pub caller : (p : ℕ) → badCaller conf reading p ≡ false → Caller conf reading p
   unfolding badCaller
   caller p e = record {
     shape = good .shape;
