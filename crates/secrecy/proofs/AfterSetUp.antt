@@ -1,11 +1,11 @@
 -- Demand 3 from set-up on: what a set of cells sees of a run hangs on the configuration and on the stretches of its files, and not on what stood in the table.
-use mathlib.Core.Path.{_≡_, refl, sym, ap, _∙_}
-use mathlib.Core.Bool.{Bool, true}
+use mathlib.Core.Path.{_≡_, sym, ap, _∙_}
+use mathlib.Core.Bool.{Bool}
 use mathlib.Core.List.{List}
 use Prim.Native.Nat.{ℕ}
 use lib.ListN.{length}
 use Rattle.rules.specs.Claim.{Holds, test}
-use Rattle.rules.specs.Layout.{configuration, rd}
+use Rattle.rules.specs.Layout.{configuration}
 use Rattle.rules.specs.SetUp.{canSetUp, freshTable, setUpTable}
 use Rattle.rules.specs.Step.{State, Call, run}
 use Rattle.rules.specs.Observer.{Closed, Agree, remaining, replies}
