@@ -27,6 +27,16 @@ found h r k s f p =
     let e = passed (formed h k s) f in
     record { form = e; parts = is-formed (class k) (slots h k) s e; here = is-present r k s (passed (present r k s) p) }
 
+-- the slot that a search finds, whatever the configuration
+pub slot-found : (h : List ℕ) (r : Addr → ℕ) (k : Kind) (c : ℕ) → noSlot h r k c ≡ false
+    → (r (at k (freeSlot h r k c) live) ≡ 0) × (r (at k (freeSlot h r k c) serial) < maxSerial)
+unfolding freeSlot
+slot-found h r k c n =
+    let test : ℕ → Bool = λ i. eqb (r (at k i live)) 0 && ltb (r (at k i serial)) maxSerial in
+    let i : ℕ = lowest test (cellSlots h k c) (firstSlot h k c) in
+    let is = lowest-hit test (cellSlots h k c) (firstSlot h k c) (leb-false (firstSlot h k c + cellSlots h k c) i n) in
+    (eqb-true _ 0 (and-left (eqb (r (at k i live)) 0) (ltb (r (at k i serial)) maxSerial) is), ltb-true _ maxSerial (and-right (eqb (r (at k i live)) 0) (ltb (r (at k i serial)) maxSerial) is))
+
 -- slot i of cell c can be taken
 pub record FreeSlot (h : List ℕ) (r : Addr → ℕ) (k : Kind) (c i : ℕ) : Type 0 where
   pub in-range : i < slots h k
@@ -37,17 +47,11 @@ pub record FreeSlot (h : List ℕ) (r : Addr → ℕ) (k : Kind) (c i : ℕ) : T
 pub free-slot : (h : List ℕ) (r : Addr → ℕ) (k : Kind) (c : ℕ) → Shape h → c < cells h → noSlot h r k c ≡ false → FreeSlot h r k c (freeSlot h r k c)
 unfolding freeSlot
 free-slot h r k c sh l n =
-    let test : ℕ → Bool = λ i. eqb (r (at k i live)) 0 && ltb (r (at k i serial)) maxSerial in
-    let i : ℕ = lowest test (cellSlots h k c) (firstSlot h k c) in
+    let i : ℕ = freeSlot h r k c in
+    let lo : firstSlot h k c ≤ i = lowest-ge _ (cellSlots h k c) (firstSlot h k c) in
     let hi : i < firstSlot h k c + cellSlots h k c = leb-false (firstSlot h k c + cellSlots h k c) i n in
-    let lo : firstSlot h k c ≤ i = lowest-ge test (cellSlots h k c) (firstSlot h k c) in
-    let is = lowest-hit test (cellSlots h k c) (firstSlot h k c) hi in
-    record {
-      in-range = omega (arith, run-end h k c l, sh .sums k);
-      in-cell = cell-run h k i c l lo hi;
-      is-free = eqb-true _ 0 (and-left (eqb (r (at k i live)) 0) (ltb (r (at k i serial)) maxSerial) is);
-      not-worn = ltb-true _ maxSerial (and-right (eqb (r (at k i live)) 0) (ltb (r (at k i serial)) maxSerial) is);
-    }
+    let is = slot-found h r k c n in
+    record { in-range = omega (arith, run-end h k c l, sh .sums k); in-cell = cell-run h k i c l lo hi; is-free = is .0; not-worn = is .1 }
 
 -- entry d of process p is empty
 pub record FreeEntry (r : Addr → ℕ) (k : Kind) (p d : ℕ) : Type 0 where

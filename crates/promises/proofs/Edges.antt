@@ -1,16 +1,16 @@
 -- The edges that document 01 marks P, under one statement: `edges`, at the end.
-use mathlib.Core.Path.{_≡_, refl}
-use mathlib.Core.Bool.{Bool, true, false, cond, _&&_}
+use mathlib.Core.Path.{_≡_, refl, ap}
+use mathlib.Core.Bool.{true, false, cond, _&&_}
 use mathlib.Core.List.{List, [], _∷_}
-use Prim.Native.Nat.{ℕ, _+_, _<_, _≤_}
+use Prim.Native.Nat.{ℕ, _<_, _≤_}
 use native.Mathlib.Omega.{arith}
-use lib.Dec.{ltb, eqb}
+use lib.Dec.{eqb}
 use lib.ListN.{length}
-use borrow.Author.Tests.{eq-eqb, ne-eqb, ltb-true, leb-false}
+use borrow.Author.Tests.{eq-eqb, ne-eqb}
 use Rattle.rules.specs.Words.{allBelow, sumBelow, lowest}
 use Rattle.rules.specs.Claim.{Holds}
 use Rattle.rules.specs.Level.{Level, level, has, within, flowsTo}
-use Rattle.rules.specs.Layout.{maxSerial, Kind, process, slots, cellWord, cellSlots, configuration, firstSlot, cellOf, flows, Addr, at, rd, live, serial}
+use Rattle.rules.specs.Layout.{maxSerial, Kind, process, slots, cellWord, configuration, firstSlot, cellOf, flows, Addr, at, rd, live, serial}
 use Rattle.rules.specs.Seid.{class, seid, indexOf, formed, orSelf, present}
 use Rattle.rules.specs.Modes.{validModes}
 use Rattle.rules.specs.Rights.{rights, mayRead, mayWrite, access}
@@ -20,11 +20,11 @@ use Rattle.rules.specs.Rule.{store}
 use Rattle.rules.specs.Find.{inOwnCell, freeSlot, noSlot}
 use Rattle.rules.specs.Call15.{textBytes, post}
 use Rattle.rules.specs.Step.{State, Call, step, badCode, ruleOf}
-use Rattle.laws.proofs.Tests.{and-right, refuted, both-ways, cond-false}
-use Rattle.laws.proofs.Search.{lowest-hit}
+use Rattle.laws.proofs.Tests.{refuted, both-ways, cond-false}
 use Rattle.laws.proofs.Seids.{class-some, is-formed}
 use Rattle.levels.proofs.Flow.{flows-says, flows-when, reflexive}
 use Rattle.kept.proofs.Refusals.{Clear}
+use Rattle.kept.proofs.Found.{slot-found}
 use Rattle.promises.proofs.Refusals.{Untouched, goes-on}
 use Rattle.promises.proofs.Stale.{stale-post}
 
@@ -53,15 +53,6 @@ unfolding rights
 others-420 u g owner group x y = rw (ne-eqb u owner x, ne-eqb g group y)
 
 -- ---- slots
-
--- a slot found has a serial below the last
-not-worn : (h : List ℕ) (r : Addr → ℕ) (k : Kind) (c : ℕ) → noSlot h r k c ≡ false → r (at k (freeSlot h r k c) serial) ≡ maxSerial → ⊥
-unfolding freeSlot
-not-worn h r k c n e =
-    let test : ℕ → Bool = λ i. eqb (r (at k i live)) 0 && ltb (r (at k i serial)) maxSerial in
-    let i : ℕ = lowest test (cellSlots h k c) (firstSlot h k c) in
-    let hit = lowest-hit test (cellSlots h k c) (firstSlot h k c) (leb-false (firstSlot h k c + cellSlots h k c) i n) in
-    omega (arith, ltb-true (r (at k i serial)) maxSerial (and-right (eqb (r (at k i live)) 0) (ltb (r (at k i serial)) maxSerial) hit))
 
 -- one cell of two process slots, neither live; the serial of slot 0 is 65535, that of slot 1 is 0
 abbrev pub two-slots : List ℕ
@@ -174,7 +165,7 @@ edges = record {
   others = λ u g owner group x y. rw (others-420 u g owner group x y);
   modes-9 = refl;
   modes-11 = refl;
-  worn = λ h r k c i n e q. not-worn h r k c n (rw q e);
+  worn = λ h r k c i n e q. omega (arith, slot-found h r k c n .1, ap (λ (j : ℕ). r (at k j serial)) q);
   passed-over = second-taken;
   post-up = dropped-above;
 }
