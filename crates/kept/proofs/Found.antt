@@ -1,4 +1,4 @@
--- What the shared refusals leave: an object found, a free slot, a free entry.
+-- What the shared refusals leave: an object found, a free slot, a free entry; and the caller, found by its own seid.
 use mathlib.Core.Path.{_≡_, sym}
 use mathlib.Core.Bool.{Bool, true, false, _&&_, not, true≢false}
 use mathlib.Core.List.{List}
@@ -8,13 +8,14 @@ use lib.Dec.{ltb, eqb}
 use borrow.Author.Tests.{eqb-true, ltb-true, leb-false}
 use Rattle.rules.specs.Words.{lowest}
 use Rattle.rules.specs.Layout.{maxSerial, Kind, process, cells, slots, cellSlots, firstSlot, cellOf, Addr, at, live, serial, entries, heldAt}
-use Rattle.rules.specs.Seid.{class, formed, isSeid, indexOf, present}
+use Rattle.rules.specs.Seid.{class, formed, isSeid, indexOf, seidAt, present}
 use Rattle.rules.specs.Find.{inOwnCell, freeSlot, noSlot, freeEntry, noEntry}
 use Rattle.laws.proofs.Tests.{and-left, and-right, passed}
 use Rattle.laws.proofs.Search.{lowest-ge, lowest-hit}
-use Rattle.laws.proofs.Seids.{Formed, is-formed, Present, is-present}
+use Rattle.laws.proofs.Seids.{index-seid, serial-seid, Formed, is-formed, made-formed, Present, is-present}
 use Rattle.laws.proofs.Cells.{cell-run, run-end}
 use Rattle.laws.proofs.Shape.{Shape}
+use Rattle.kept.proofs.Keeps.{Caller}
 
 -- a seid that names an object
 pub record Found (h : List ℕ) (r : Addr → ℕ) (k : Kind) (s : ℕ) : Type 0 where
@@ -26,6 +27,32 @@ pub found : (h : List ℕ) (r : Addr → ℕ) (k : Kind) (s : ℕ) → not (form
 found h r k s f p =
     let e = passed (formed h k s) f in
     record { form = e; parts = is-formed (class k) (slots h k) s e; here = is-present r k s (passed (present r k s) p) }
+
+-- a live process's own seid names it
+module _ (h : List ℕ) (r : Addr → ℕ) (p : ℕ) (me : Caller h r p) where
+  abbrev its-serial : ℕ
+  its-serial = r (at process p serial)
+
+  small : p < 256
+  small = omega (arith, me .in-range, me .shape .few process)
+
+  fits : its-serial < 65536
+  fits = omega (arith, me .fine .own process p (me .in-range) .serial-fits)
+
+  pub own-index : indexOf (seidAt r process p) ≡ p
+  unfolding seidAt
+  own-index = index-seid (class process) p its-serial small fits
+
+  pub own-found : Found h r process (seidAt r process p)
+  unfolding seidAt
+  own-found =
+      let some : 1 ≤ its-serial = me .fine .own process p (me .in-range) .serial-some (me .alive) in
+      let form = made-formed (class process) (slots h process) p its-serial (me .in-range) (omega (arith, me .shape .few process)) (omega arith) fits in
+      record {
+        form = form;
+        parts = is-formed (class process) (slots h process) _ form;
+        here = record { is-live = rw own-index (me .alive); same-serial = rw own-index (sym (serial-seid (class process) p its-serial small fits)) };
+      }
 
 -- the slot that a search finds, whatever the configuration
 pub slot-found : (h : List ℕ) (r : Addr → ℕ) (k : Kind) (c : ℕ) → noSlot h r k c ≡ false

@@ -6,21 +6,20 @@ use Prim.Native.Nat.{ℕ, _+_, _≤_, _<_}
 use native.Mathlib.Omega.{arith}
 use lib.Dec.{ltb, eqb}
 use borrow.Author.Tests.{ltb-false, ne-eqb}
-use Rattle.rules.specs.Layout.{maxOwner, process, segment, recordWords, slots, cellOf, Addr, at, serial, queue, heldAt, usedAt, messageAt}
-use Rattle.rules.specs.Seid.{class, seid, seidAt, indexOf}
+use Rattle.rules.specs.Layout.{maxOwner, process, segment, recordWords, cellOf, Addr, at, serial, queue, heldAt, usedAt, messageAt}
+use Rattle.rules.specs.Seid.{seidAt}
 use Rattle.rules.specs.WellFormed.{parentOk}
 use Rattle.rules.specs.Rule.{over}
 use Rattle.rules.specs.Find.{freeSlot}
 use Rattle.rules.specs.Call01.{spawn, spawned}
 use Rattle.laws.proofs.Tests.{or-left, or-right}
-use Rattle.laws.proofs.Seids.{index-seid, made-formed}
 use Rattle.laws.proofs.Shape.{in-run}
 use Rattle.laws.proofs.Written.{AllOf, nil}
 use Rattle.kept.proofs.Refusals.{clear}
 use Rattle.kept.proofs.Records.{InRecord, word-in, same-record, elsewhere}
 use Rattle.kept.proofs.Made.{placed, live-record}
 use Rattle.kept.proofs.Keeps.{Keeps, KeptBy, Caller, keeps-process}
-use Rattle.kept.proofs.Found.{FreeSlot, free-slot}
+use Rattle.kept.proofs.Found.{own-index, own-found, FreeSlot, free-slot}
 
 module _ (h : List ℕ) (r : Addr → ℕ) (p : ℕ) (me : Caller h r p) (a b q : ℕ) (f : FreeSlot h r process (cellOf h process p) q) (a-fits : a ≤ maxOwner) (b-fits : b ≤ maxOwner) where
   abbrev next : ℕ
@@ -45,18 +44,12 @@ module _ (h : List ℕ) (r : Addr → ℕ) (p : ℕ) (me : Caller h r p) (a b q 
   zero j l m = beyond j l ∙ me .fine .own process q (f .in-range) .free (f .is-free) j (omega arith) m
 
   spawns : Keeps h r (spawned r p a b q next)
-  unfolding parentOk seidAt
+  unfolding parentOk
   spawns =
-      let mine = me .fine .own process p (me .in-range) in
-      let few = me .shape .few process in
-      let s : ℕ = r (at process p serial) in
-      let s0 : 1 ≤ s = mine .serial-some (me .alive) in
-      let s1 : s < 65536 = omega (arith, mine .serial-fits) in
-      let ix : indexOf (seid (class process) p s) ≡ p = index-seid (class process) p s (omega (arith, me .in-range)) s1 in
       keeps-process h r (me .fine) q (f .in-range) in-it (record {
         others = elsewhere process q in-it r;
         own-process = live-record _ process q _ (word 0) (rw (word 1) (omega arith)) (rw (word 1) (omega (arith, f .not-worn))) (rw (word 2) a-fits) (rw (word 3) b-fits) (record {
-          parent-ok = rw (word 4) (λ n. (made-formed (class process) (slots h process) p s (me .in-range) (omega arith) (omega arith) s1, rw ix (sym (f .in-cell))));
+          parent-ok = rw (word 4) (λ n. (own-found h r p me .form, rw (own-index h r p me) (sym (f .in-cell))));
           queue-fits = rw (zero queue (omega arith) (omega arith)) (omega arith);
           zero-six = zero 6 (omega arith) (omega arith);
           zero-seven = zero 7 (omega arith) (omega arith);

@@ -7,35 +7,25 @@ use native.Mathlib.Omega.{arith}
 use lib.Dec.{ltb, eqb}
 use borrow.Author.Tests.{ltb-true, eq-eqb, ne-eqb}
 use Rattle.rules.specs.Words.{word4}
-use Rattle.rules.specs.Layout.{process, slots, cellOf, flows, Addr, at, live, serial, queue, messages, messageWords, messageAt}
-use Rattle.rules.specs.Seid.{class, seidAt, orSelf, indexOf, present}
+use Rattle.rules.specs.Layout.{process, slots, cellOf, flows, Addr, at, live, queue, messages, messageWords, messageAt}
+use Rattle.rules.specs.Seid.{seidAt, orSelf, indexOf, present}
 use Rattle.rules.specs.Rule.{over}
 use Rattle.rules.specs.Call15.{post, queued}
 use Rattle.laws.proofs.Tests.{and-left, and-right, passed}
-use Rattle.laws.proofs.Seids.{index-seid, serial-seid, made-formed, is-formed, is-present}
+use Rattle.laws.proofs.Seids.{is-formed, is-present}
 use Rattle.laws.proofs.Shape.{Held}
 use Rattle.laws.proofs.Written.{AllOf, nil}
 use Rattle.kept.proofs.Refusals.{clear}
 use Rattle.kept.proofs.Records.{InRecord, word-in, same-record, by-slot}
 use Rattle.kept.proofs.Keeps.{Keeps, KeptBy, Caller, keeps-none, keeps-if}
+use Rattle.kept.proofs.Found.{own-index, own-found}
 use Rattle.kept.proofs.Mail.{keeps-mail}
 
 -- the caller's own seid, held by a process that it flows to
 me-held : (h : List ℕ) (r : Addr → ℕ) (p c : ℕ) → Caller h r p → flows h (cellOf h process p) c ≡ true → Held h r process c (seidAt r process p)
-unfolding seidAt
 me-held h r p c me flow =
-    let mine = me .fine .own process p (me .in-range) in
-    let few = me .shape .few process in
-    let s : ℕ = r (at process p serial) in
-    let s0 : 1 ≤ s = mine .serial-some (me .alive) in
-    let s1 : s < 65536 = omega (arith, mine .serial-fits) in
-    let small : p < 256 = omega (arith, me .in-range) in
-    let ix = index-seid (class process) p s small s1 in
-    record {
-      form = made-formed (class process) (slots h process) p s (me .in-range) (omega arith) (omega arith) s1;
-      serial-known = rw (ix, serial-seid (class process) p s small s1) (omega arith);
-      flow = rw ix flow;
-    }
+    let f = own-found h r p me in
+    record { form = f .form; serial-known = omega (arith, f .here .same-serial); flow = rw (own-index h r p me) flow }
 
 -- a message written behind n others
 module _ (me q n : ℕ) (buffer : List ℕ) where

@@ -10,8 +10,8 @@ use lib.Dec.{leb, eqb}
 use lib.ListN.{length}
 use borrow.Author.Tests.{eqb-true, ne-eqb, lt-leb}
 use Rattle.rules.specs.Claim.{Holds}
-use Rattle.rules.specs.Layout.{Kind, process, segment, file, slots, configuration, Addr, at, Valid, rd, live, serial, entries, heldAt, usedAt}
-use Rattle.rules.specs.Seid.{class, seid, classOf, formed, seidAt, orSelf, present}
+use Rattle.rules.specs.Layout.{Kind, process, segment, file, slots, configuration, Addr, at, Valid, rd, live, entries, heldAt, usedAt}
+use Rattle.rules.specs.Seid.{class, classOf, formed, seidAt, orSelf, present}
 use Rattle.rules.specs.WellFormed.{wellFormed}
 use Rattle.rules.specs.Errors.{XOK, XnSgDes, XbSgDes, XbadOd}
 use Rattle.rules.specs.Rule.{_⇒_, Effect, effect, Rule, rule, write, store, over}
@@ -32,13 +32,14 @@ use Rattle.rules.specs.Call17.{status, statusOf}
 use Rattle.rules.specs.Call18.{accessOf}
 use Rattle.rules.specs.Step.{State, Call, step, ruleOf, badCode, wholeRule}
 use Rattle.laws.proofs.Tests.{and-both, passed, not-of, refuted, both-ways, or-rest, split, cond-both}
-use Rattle.laws.proofs.Seids.{index-seid, serial-seid, present-is}
+use Rattle.laws.proofs.Seids.{present-is}
 use Rattle.laws.proofs.Shape.{good-of}
 use Rattle.laws.proofs.Written.{nil, also, rd-write, conf-write, over-miss}
 use Rattle.kept.proofs.Fine.{Object, fine-of}
 use Rattle.kept.proofs.Refusals.{Clear}
 use Rattle.kept.proofs.Records.{all-valid}
 use Rattle.kept.proofs.Made.{placed}
+use Rattle.kept.proofs.Found.{own-found}
 use Rattle.kept.proofs.Exchange.{entered-in, entered-held, entered-used}
 use Rattle.promises.proofs.Refusals.{Untouched, own, own-clear, goes-on, done, refused, nothing-done, effects}
 
@@ -122,16 +123,9 @@ module _ (s : State) (k : Call) where
   pub own-seid-present : Holds (wellFormed (s .table) (length (s .store))) → k .caller < slots (configuration (s .table)) process
       → rd (configuration (s .table)) (s .table) (at process (k .caller) live) ≡ 1
       → present (rd (configuration (s .table)) (s .table)) process (seidAt (rd (configuration (s .table)) (s .table)) process (k .caller)) ≡ true
-  unfolding seidAt
   own-seid-present w l alive =
       let g = good-of (s .table) (length (s .store)) w in
-      let mine = fine-of h r (g .records) .own process (k .caller) l in
-      let n : ℕ = r (at process (k .caller) serial) in
-      let small : k .caller < 256 = omega (arith, g .shape .few process) in
-      let fits : n < 65536 = omega (arith, mine .serial-fits) in
-      let ix = index-seid (class process) (k .caller) n small fits in
-      present-is r process (seid (class process) (k .caller) n)
-      (record { is-live = rw ix alive; same-serial = rw ix (sym (serial-seid (class process) (k .caller) n small fits)) })
+      present-is r process _ (own-found h r (k .caller) (record { shape = g .shape; fine = fine-of h r (g .records); in-range = l; alive = alive }) .here)
 
   -- ---- posts
 
