@@ -14,6 +14,7 @@ pub mod Found
 pub mod Objects
 pub mod Entries
 pub mod Created
+pub mod Begun
 pub mod Mail
 pub mod K01
 pub mod K02

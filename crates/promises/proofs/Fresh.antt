@@ -10,7 +10,7 @@ use lib.ListN.{length, getD, replicate, length-replicate, getD-replicate, length
 use lib.Seq.{length-take-le, getD-append-add, take-at}
 use borrow.Author.Tests.{ne-eqb}
 use Rattle.rules.specs.Claim.{Holds}
-use Rattle.rules.specs.Layout.{maxOwner, process, segment, headerWords, cellWords, cells, slots, cellOwner, cellGroup, configuration, firstSlot, Addr, at, offset, Valid, rd, tableWords, live, serial, owner, group, parent, queue, zero6, zero7, entries, heldAt, usedAt, messageAt}
+use Rattle.rules.specs.Layout.{maxOwner, process, headerWords, cellWords, cells, slots, cellOwner, cellGroup, configuration, firstSlot, Addr, at, offset, Valid, rd, tableWords, live, serial, owner, group, parent, entries}
 use Rattle.rules.specs.WellFormed.{parentOk, ownEntries, ownEntry, lengthsExact, recordsOk, wellFormed}
 use Rattle.rules.specs.Rule.{Word, _≔_, over}
 use Rattle.rules.specs.SetUp.{canSetUp, firstProcesses, freshTable, setUpTable}
@@ -23,9 +23,9 @@ use Rattle.laws.proofs.Written.{AllOf, nil, over-append, over-same, rd-write, c
 use Rattle.kept.proofs.Fine.{Fine, fine-holds}
 use Rattle.kept.proofs.Records.{InRecord, word-in, same-record, elsewhere}
 use Rattle.kept.proofs.Counting.{empty-named}
-use Rattle.kept.proofs.Made.{placed, live-record}
 use Rattle.kept.proofs.Readings.{same-fine}
-use Rattle.kept.proofs.Keeps.{Keeps, keeps-none, keeps-then, keeps-process}
+use Rattle.kept.proofs.Begun.{keeps-begun}
+use Rattle.kept.proofs.Keeps.{Keeps, keeps-none, keeps-then}
 use Rattle.kept.proofs.Entries.{empty-entry}
 
 -- ---- a table whose records are all zero
@@ -66,25 +66,19 @@ module _ (h : List ℕ) (r : Addr → ℕ) (w : Fine h r) (q a b : ℕ) (l : q <
   past : (j : ℕ) → 4 ≤ j → over r (begun q a b) (at process q j) ≡ r (at process q j)
   past j m = word j ∙ rw (ne-eqb j 3 (λ e. omega arith), ne-eqb j 2 (λ e. omega arith), ne-eqb j 1 (λ e. omega arith), ne-eqb j 0 (λ e. omega arith))
 
-  nothing : (j : ℕ) → 4 ≤ j → over r (begun q a b) (at process q j) ≡ 0
-  nothing j m = past j m ∙ zeros j
-
   begins : Keeps h r (begun q a b)
   unfolding parentOk
-  begins = keeps-process h r w q l (begun-in q a b) (record {
-    others = elsewhere process q (begun-in q a b) r;
-    own-process = live-record _ process q _ (word 0) (rw (word 1) (omega arith)) (rw (word 1) (omega arith)) (rw (word 2) a-fits) (rw (word 3) b-fits) (record {
-      parent-ok = rw (nothing parent (omega arith)) (λ n. absurd (true≢false (sym n)));
-      queue-fits = rw (nothing queue (omega arith)) (omega arith);
-      zero-six = nothing zero6 (omega arith);
-      zero-seven = nothing zero7 (omega arith);
-      once = λ d e dl el n some same. some (nothing (heldAt segment e) (omega arith));
-      unused = λ m j ml jl full. nothing (messageAt m j) (omega arith);
-    });
-    serial-grown = rw (word 1, zeros serial) (omega arith);
-    same-held = λ k o d dl. let x = placed k o d dl in past (heldAt k d) (omega arith);
-    entry-ok = λ k o d dl. let x = placed k o d dl in rw (past (usedAt k d) (omega arith)) (w .entry k o q d l dl);
-    sender-ok = λ m ml. absurd (omega (arith, nothing queue (omega arith)));
+  begins = keeps-begun h r w q _ (record {
+    in-range = l;
+    not-worn = rw (zeros serial) (omega arith);
+    zeros = λ j l m. zeros j;
+    in-record = begun-in q a b;
+    lives = word 0;
+    next-serial = rw (word 1, zeros serial);
+    owner-fits = rw (word 2) a-fits;
+    group-fits = rw (word 3) b-fits;
+    parent-ok = rw (past parent (omega arith), zeros parent) (λ n. absurd (true≢false (sym n)));
+    beyond = λ j l. past j (omega arith);
   })
 
 -- ---- the first process of each cell
