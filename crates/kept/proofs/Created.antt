@@ -37,17 +37,17 @@ abbrev pub made : Kind → ℕ → ℕ → ℕ → ℕ → ℕ → ℕ → ℕ �
 made k i s u g b x y =
     (at k i 0 ≔ 1) ∷ (at k i 1 ≔ s) ∷ (at k i 2 ≔ u) ∷ (at k i 3 ≔ g) ∷ (at k i 4 ≔ b) ∷ (at k i 5 ≔ x) ∷ (at k i 6 ≔ y) ∷ (at k i 7 ≔ 1) ∷ []
 
-module _ (r : Addr → ℕ) (k : Kind) (o : Object k) (i s u g b x y : ℕ) where
-  made-in : AllOf (InRecord k i) (made k i s u g b x y)
+module _ (k : Kind) (o : Object k) (i s u g b x y : ℕ) where
+  pub made-in : AllOf (InRecord k i) (made k i s u g b x y)
   made-in =
       let w = object-words k o in
       word-in k i 0 1 (omega arith) (word-in k i 1 s (omega arith) (word-in k i 2 u (omega arith) (word-in k i 3 g (omega arith)
       (word-in k i 4 b (omega arith) (word-in k i 5 x (omega arith) (word-in k i 6 y (omega arith) (word-in k i 7 1 (omega arith) nil)))))))
 
-  made-word : (j : ℕ) → over r (made k i s u g b x y) (at k i j)
+  pub made-word : (r : Addr → ℕ) (j : ℕ) → over r (made k i s u g b x y) (at k i j)
       ≡ cond (eqb j 7) 1 (cond (eqb j 6) y (cond (eqb j 5) x (cond (eqb j 4) b (cond (eqb j 3) g (cond (eqb j 2) u (cond (eqb j 1) s (cond (eqb j 0) 1 (r (at k i j)))))))))
   unfolding over
-  made-word j = simp same-record
+  made-word r j = simp same-record
 
 module _ (h : List ℕ) (r : Addr → ℕ) (p : ℕ) (c : Caller h r p) (k : Kind) (o : Object k) (i d u b x y : ℕ) (f : FreeSlot h r k (cellOf h process p) i) (e : FreeEntry r k p d)
     (bits-fit : b ≤ maxBits) (particular : Particular h k x y) (valid : validUse k u ≡ true) where
@@ -69,7 +69,7 @@ module _ (h : List ℕ) (r : Addr → ℕ) (p : ℕ) (c : Caller h r p) (k : Kin
   word : (j : ℕ) → over r words (at k i j)
       ≡ cond (eqb j 7) 1 (cond (eqb j 6) y (cond (eqb j 5) x (cond (eqb j 4) b (cond (eqb j 3) (r (at process p group)) (cond (eqb j 2) (r (at process p owner))
       (cond (eqb j 1) next (cond (eqb j 0) 1 (r (at k i j)))))))))
-  word = made-word r k o i next (r (at process p owner)) (r (at process p group)) b x y
+  word = made-word k o i next (r (at process p owner)) (r (at process p group)) b x y r
 
   count-is : over r words (at k i (holders k)) ≡ 1
   count-is = let w = object-words k o in rw (w .0) (word 7)
@@ -101,7 +101,7 @@ module _ (h : List ℕ) (r : Addr → ℕ) (p : ℕ) (c : Caller h r p) (k : Kin
       let w = object-words k o in
       object-first h r (c .fine) k o p d i new u (c .in-range) (c .alive) (e .in-record) (record {
         in-range = f .in-range;
-        in-record = made-in r k o i next (r (at process p owner)) (r (at process p group)) b x y;
+        in-record = made-in k o i next (r (at process p owner)) (r (at process p group)) b x y;
         own-after = own-new;
         grown-after = rw (word 1) (omega arith);
         steady-after = λ a l. absurd (omega (arith, f .is-free));

@@ -99,6 +99,12 @@ module _ (h : List ℕ) (r : Addr → ℕ) (p : ℕ) (c : Caller h r p) (k : Kin
 
 -- ---- given up
 
+pub less-in : (r : Addr → ℕ) (k : Kind) → Object k → (i : ℕ) → AllOf (InRecord k i) (oneLess r k i)
+unfolding oneLess
+less-in r k o i =
+    let w = object-words k o in
+    all-if _ (eqb (r (at k i (holders k))) 1 && not (kept r k i)) _ _ (λ t. freed-in k i) (λ t. word-in k i (holders k) _ (omega arith) nil)
+
 module _ (h : List ℕ) (r : Addr → ℕ) (w : Fine h r) (p : ℕ) (pl : p < slots h process) (lives : r (at process p live) ≡ 1) (k : Kind) (o : Object k) (d : ℕ) (dl : d < entries)
     (some : r (at process p (heldAt k d)) ≡ 0 → ⊥) where
   abbrev given : ℕ
@@ -167,12 +173,7 @@ module _ (h : List ℕ) (r : Addr → ℕ) (w : Fine h r) (p : ℕ) (pl : p < sl
       (λ e. emptied-by [] nil (w .own k slot slot-in) refl (λ x. refl) (rw (not-named h r k p d slot (λ y. eqb-false _ _ e (y .same-cell))) (omega arith)))
 
   given-in : AllOf (InRecord k slot) (cond (inOwnCell h p k given) (oneLess r k slot) [])
-  unfolding oneLess
-  given-in =
-      let ws = object-words k o in
-      all-if _ (inOwnCell h p k given) _ _
-      (λ e. all-if _ (eqb (r (at k slot (holders k))) 1 && not (kept r k slot)) _ _ (λ t. freed-in k slot) (λ t. word-in k slot (holders k) _ (omega arith) nil))
-      (λ e. nil)
+  given-in = all-if _ (inOwnCell h p k given) _ _ (λ e. less-in r k o slot) (λ e. nil)
 
   -- of the process, the entry alone is written
   given-word : (j : ℕ) → over r (givenUp h r k p d given) (at process p j) ≡ over r (entered k p d 0 0) (at process p j)

@@ -1,16 +1,16 @@
 -- A process's messages stand where they stood after every call but a release of it and a receive by it; a post may have added one behind them.
 use mathlib.Core.Path.{_≡_, sym, ap, _∙_}
-use mathlib.Core.Bool.{_&&_, not}
+use mathlib.Core.Bool.{_&&_}
 use mathlib.Core.List.{List, [], _∷_}
-use Prim.Native.Nat.{ℕ, zero, suc, _-_, _≤_, _<_}
+use Prim.Native.Nat.{ℕ, zero, suc, _+_, _-_, _≤_, _<_}
 use native.Mathlib.Omega.{arith}
 use native.Mathlib.Decide.{ℕ-discrete}
 use lib.Dec.{ltb, eqb}
 use borrow.Author.Tests.{ltb-true, leb-false}
-use Rattle.rules.specs.Layout.{Kind, process, segment, file, cellOf, Addr, at, live, serial, owner, group, parent, queue, entries, heldAt, usedAt, messages, messageWords, messagesAt, messageAt, bits, size, holders, links, opens}
+use Rattle.rules.specs.Layout.{Kind, process, segment, file, cellOf, Addr, at, live, serial, queue, entries, heldAt, usedAt, messages, messageWords, messagesAt, messageAt, bits, size, holders, links, opens}
 use Rattle.rules.specs.Seid.{indexOf, orSelf, present, seidAt}
 use Rattle.rules.specs.Rule.{Word, _≔_, Rule, over}
-use Rattle.rules.specs.Find.{inOwnCell, entered, oneMore, oneLess, givenUp, kept, freeSlot, freeEntry}
+use Rattle.rules.specs.Find.{inOwnCell, entered, oneMore, givenUp, freeSlot, freeEntry}
 use Rattle.rules.specs.Call01.{spawn}
 use Rattle.rules.specs.Call02.{dropped, droppedTo, released, releaseProcess}
 use Rattle.rules.specs.Call03.{buildSegment}
@@ -37,6 +37,9 @@ use Rattle.kept.proofs.Records.{InRecord, word-in, freed-in}
 use Rattle.kept.proofs.Made.{placed, no-process, object-words}
 use Rattle.kept.proofs.Keeps.{Caller}
 use Rattle.kept.proofs.Found.{free-slot, free-entry}
+use Rattle.kept.proofs.Entries.{less-in}
+use Rattle.kept.proofs.Created.{made-in}
+use Rattle.kept.proofs.K01.{spawned-in}
 use Rattle.kept.proofs.K15.{queued-in, queued-past, queued-length}
 use Rattle.kept.proofs.K16.{taken-in}
 use Rattle.kept.proofs.Codes.{by-code, by-bits, by-status}
@@ -82,15 +85,9 @@ module _ (p : ℕ) where
       let w = object-words k o in
       all-if Spares (inOwnCell h q k s) _ _ (λ e. of-object k o (indexOf s) (word-in k (indexOf s) (holders k) _ (omega arith) nil)) (λ e. nil)
 
-  of-less : (r : Addr → ℕ) (k : Kind) → Object k → (i : ℕ) → AllOf Spares (oneLess r k i)
-  unfolding oneLess
-  of-less r k o i =
-      let w = object-words k o in
-      of-object k o i (all-if (InRecord k i) (eqb (r (at k i (holders k))) 1 && not (kept r k i)) _ _ (λ e. freed-in k i) (λ e. word-in k i (holders k) _ (omega arith) nil))
-
   of-given-up : (h : List ℕ) (r : Addr → ℕ) (k : Kind) → Object k → (q d s : ℕ) → d < entries → AllOf Spares (givenUp h r k q d s)
   unfolding givenUp
-  of-given-up h r k o q d s l = all-append _ (of-entry k o q d 0 0 l) (all-if Spares (inOwnCell h q k s) _ _ (λ e. of-less r k o (indexOf s)) (λ e. nil))
+  of-given-up h r k o q d s l = all-append _ (of-entry k o q d 0 0 l) (all-if Spares (inOwnCell h q k s) _ _ (λ e. of-object k o (indexOf s) (less-in r k o (indexOf s))) (λ e. nil))
 
   of-one : (h : List ℕ) (r : Addr → ℕ) (k : Kind) → Object k → (q d : ℕ) → d < entries → AllOf Spares (dropped h r k q d)
   unfolding dropped
@@ -152,8 +149,7 @@ module _ (h : List ℕ) (r : Addr → ℕ) (st : List ℕ) (k : Call) (p : ℕ) 
       let q = freeSlot h r process (cellOf h process caller) in
       let f = free-slot h r process (cellOf h process caller) (me .shape) (in-run h (me .shape) process caller (me .in-range) .0) (ok .1 .1 .0) in
       of-other p q (λ e. omega (arith, f .is-free, ap (λ (i : ℕ). r (at process i live)) e))
-      (word-in process q live _ (omega arith) (word-in process q serial _ (omega arith) (word-in process q owner _ (omega arith)
-      (word-in process q group _ (omega arith) (word-in process q parent _ (omega arith) nil)))))
+      (spawned-in r caller (k .a) (k .b) q (r (at process q serial) + 1))
 
   by-post : Clear (post h r caller (k .a) (k .buffer) .refusals) → Later r (over r (post h r caller (k .a) (k .buffer) .effects .words)) p
   unfolding post
@@ -174,11 +170,11 @@ module _ (h : List ℕ) (r : Addr → ℕ) (st : List ℕ) (k : Call) (p : ℕ) 
       by-code h r st k P (record {
         call-1 = λ e ok. later-spared r p (by-spawn ok);
         call-2 = λ e ok. later-spared r p (of-released p h r (indexOf given) (x e));
-        call-3 = λ e ok. later-spared r p (all-append _ (by-made segment tt (freeSlot h r segment (cellOf h process caller))) (of-entry p segment tt caller (freeEntry r segment caller) _ _ (free-entry r segment caller (ok .1 .1 .0) .in-record)));
+        call-3 = λ e ok. later-spared r p (all-append _ (of-object p segment tt (freeSlot h r segment (cellOf h process caller)) (made-in segment tt _ _ _ _ _ _ _)) (of-entry p segment tt caller (freeEntry r segment caller) _ _ (free-entry r segment caller (ok .1 .1 .0) .in-record)));
         call-4 = λ e ok. later-spared r p (all-append _ (of-entry p segment tt caller (freeEntry r segment caller) _ _ (free-entry r segment caller (ok .1 .1 .1 .1 .1 .1 .1 .0) .in-record)) (of-more p h r segment tt caller given));
         call-5 = λ e ok. later-spared r p (of-given-up p h r segment tt caller (k .a) _ (leb-false entries (k .a) (ok .0)));
         call-6 = λ e ok. let l = leb-false entries (k .a) (ok .1 .0) in later-spared r p (entry-word p caller (usedAt segment (k .a)) _ (omega arith) (omega arith) nil);
-        call-7 = λ e ok. later-spared r p (all-append _ (by-made file tt (freeSlot h r file (cellOf h process caller))) (of-entry p file tt caller (freeEntry r file caller) _ _ (free-entry r file caller (ok .1 .1 .0) .in-record)));
+        call-7 = λ e ok. later-spared r p (all-append _ (of-object p file tt (freeSlot h r file (cellOf h process caller)) (made-in file tt _ _ _ _ _ _ _)) (of-entry p file tt caller (freeEntry r file caller) _ _ (free-entry r file caller (ok .1 .1 .0) .in-record)));
         call-8 = λ e ok. later-spared r p (all-append _ (of-entry p file tt caller (freeEntry r file caller) _ _ (free-entry r file caller (ok .1 .1 .1 .1 .1 .1 .0) .in-record)) (of-more p h r file tt caller given));
         call-9 = λ e ok. later-spared r p (of-given-up p h r file tt caller (k .a) _ (leb-false entries (k .a) (ok .0)));
         call-10 = λ e ok. later-spared r p (object-word p file tt (indexOf given) links _ nil);
@@ -192,8 +188,3 @@ module _ (h : List ℕ) (r : Addr → ℕ) (st : List ℕ) (k : Call) (p : ℕ) 
         call-18 = λ e ok. later-spared r p nil;
         other = λ ok. later-spared r p nil;
       })
-    where
-      by-made : (j : Kind) → Object j → (i : ℕ) {x0 x1 x2 x3 x4 x5 x6 x7 : ℕ} → AllOf (Spares p)
-          ((at j i 0 ≔ x0) ∷ (at j i 1 ≔ x1) ∷ (at j i 2 ≔ x2) ∷ (at j i 3 ≔ x3) ∷ (at j i 4 ≔ x4) ∷ (at j i 5 ≔ x5) ∷ (at j i 6 ≔ x6) ∷ (at j i 7 ≔ x7) ∷ [])
-      by-made j o i = object-word p j o i 0 _ (object-word p j o i 1 _ (object-word p j o i 2 _ (object-word p j o i 3 _ (object-word p j o i 4 _ (object-word p j o i 5 _
-          (object-word p j o i 6 _ (object-word p j o i 7 _ nil)))))))
