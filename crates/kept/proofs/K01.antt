@@ -26,30 +26,32 @@ spawned-in r p a b q s =
     word-in process q 0 1 (omega arith) (word-in process q 1 s (omega arith) (word-in process q 2 a (omega arith) (word-in process q 3 b (omega arith)
     (word-in process q 4 (seidAt r process p) (omega arith) nil))))
 
+pub spawned-word : (r : Addr → ℕ) (p a b q s j : ℕ) → over r (spawned r p a b q s) (at process q j)
+    ≡ cond (eqb j 4) (seidAt r process p) (cond (eqb j 3) b (cond (eqb j 2) a (cond (eqb j 1) s (cond (eqb j 0) 1 (r (at process q j))))))
+unfolding over
+spawned-word r p a b q s j = simp same-record
+
 module _ (h : List ℕ) (r : Addr → ℕ) (p : ℕ) (me : Caller h r p) (a b q : ℕ) (f : FreeSlot h r process (cellOf h process p) q) (a-fits : a ≤ maxOwner) (b-fits : b ≤ maxOwner) where
   abbrev next : ℕ
   next = r (at process q serial) + 1
 
-  word : (j : ℕ) → over r (spawned r p a b q next) (at process q j)
-      ≡ cond (eqb j 4) (seidAt r process p) (cond (eqb j 3) b (cond (eqb j 2) a (cond (eqb j 1) next (cond (eqb j 0) 1 (r (at process q j))))))
-  unfolding over
-  word j = simp same-record
-
   spawns : Keeps h r (spawned r p a b q next)
   unfolding parentOk
-  spawns = keeps-begun h r (me .fine) q _ (record {
-    in-range = f .in-range;
-    not-worn = f .not-worn;
-    zeros = λ j l. me .fine .own process q (f .in-range) .free (f .is-free) j (omega arith);
-    in-record = spawned-in r p a b q next;
-    lives = word 0;
-    next-serial = word 1;
-    owner-fits = rw (word 2) a-fits;
-    group-fits = rw (word 3) b-fits;
-    parent-ok = rw (word 4) (λ n. (own-found h r p me .form, rw (own-index h r p me) (sym (f .in-cell))));
-    beyond = λ j l. word j
-        ∙ rw (ne-eqb j 4 (λ e. omega arith), ne-eqb j 3 (λ e. omega arith), ne-eqb j 2 (λ e. omega arith), ne-eqb j 1 (λ e. omega arith), ne-eqb j 0 (λ e. omega arith));
-  })
+  spawns =
+      let word = spawned-word r p a b q next in
+      keeps-begun h r (me .fine) q _ (record {
+        in-range = f .in-range;
+        not-worn = f .not-worn;
+        zeros = λ j l. me .fine .own process q (f .in-range) .free (f .is-free) j (omega arith);
+        in-record = spawned-in r p a b q next;
+        lives = word 0;
+        next-serial = word 1;
+        owner-fits = rw (word 2) a-fits;
+        group-fits = rw (word 3) b-fits;
+        parent-ok = rw (word 4) (λ n. (own-found h r p me .form, rw (own-index h r p me) (sym (f .in-cell))));
+        beyond = λ j l. word j
+            ∙ rw (ne-eqb j 4 (λ e. omega arith), ne-eqb j 3 (λ e. omega arith), ne-eqb j 2 (λ e. omega arith), ne-eqb j 1 (λ e. omega arith), ne-eqb j 0 (λ e. omega arith));
+      })
 
 pub keeps : (h : List ℕ) (r : Addr → ℕ) (p : ℕ) → Caller h r p → (a b : ℕ) (buffer : List ℕ) → KeptBy h r (spawn h r p a b buffer)
 unfolding spawn

@@ -2,17 +2,17 @@
 -- though objects go and their slots are used again; nor is a first process's ever answered.
 use mathlib.Core.Path.{_≡_, refl, sym, ap, _∙_}
 use mathlib.Core.Bool.{Bool, true, false, _||_}
-use mathlib.Core.List.{List, _∷_}
+use mathlib.Core.List.{List, _++_}
 use Prim.Native.Nat.{ℕ, _+_, _≤_, _<_}
 use native.Mathlib.Omega.{arith}
 use lib.Dec.{eqb}
 use lib.ListN.{length}
 use borrow.Author.Tests.{eqb-true}
 use Rattle.rules.specs.Claim.{Holds}
-use Rattle.rules.specs.Layout.{maxSerial, Kind, process, segment, file, cells, slots, configuration, firstSlot, cellOf, Addr, at, rd, live, serial, heldAt, usedAt}
+use Rattle.rules.specs.Layout.{maxSerial, Kind, process, segment, file, cells, slots, configuration, firstSlot, cellOf, Addr, at, rd, serial, entries}
 use Rattle.rules.specs.Seid.{class, seid, classOf, indexOf, serialOf}
 use Rattle.rules.specs.Errors.{XOK}
-use Rattle.rules.specs.Rule.{Rule, Word, _≔_, over}
+use Rattle.rules.specs.Rule.{Rule, over}
 use Rattle.rules.specs.Find.{freeSlot, noSlot, freeEntry, entered}
 use Rattle.rules.specs.Call01.{spawn}
 use Rattle.rules.specs.Call03.{buildSegment}
@@ -22,13 +22,15 @@ use Rattle.rules.specs.Step.{State, Call, step, next, run, ruleOf, wholeRule}
 use Rattle.laws.proofs.Tests.{or-rest, split}
 use Rattle.laws.proofs.Seids.{class-seid, index-seid, serial-seid, class-inj}
 use Rattle.laws.proofs.Shape.{good-of, in-run}
-use Rattle.laws.proofs.Written.{AllOf, nil, also, hit, over-miss}
 use Rattle.kept.proofs.Fine.{Object}
 use Rattle.kept.proofs.Refusals.{Clear}
-use Rattle.kept.proofs.Records.{apart-word, words-some}
+use Rattle.kept.proofs.Records.{in-first, words-some}
 use Rattle.kept.proofs.Made.{no-process}
 use Rattle.kept.proofs.Keeps.{Caller}
-use Rattle.kept.proofs.Found.{free-slot}
+use Rattle.kept.proofs.Found.{free-slot, free-entry}
+use Rattle.kept.proofs.Exchange.{entered-in}
+use Rattle.kept.proofs.Created.{made, made-in, made-word}
+use Rattle.kept.proofs.K01.{spawned-word}
 use Rattle.kept.proofs.Kept.{Well, kept, conf-kept, run-kept, run-conf-kept, run-serials-kept}
 use Rattle.promises.proofs.Refusals.{own, own-clear, done}
 use Rattle.promises.proofs.After.{its-caller, read-after}
@@ -49,12 +51,6 @@ record Handed (h : List ℕ) (r : Addr → ℕ) (x : Rule) : Type 0 where
   given : x .effects .first ≡ seid (class kind) slot (r (at kind slot serial) + 1)
   left : over r (x .effects .words) (at kind slot serial) ≡ r (at kind slot serial) + 1
 
--- a serial written, and not written again
-serial-written : (r : Addr → ℕ) (j : Kind) (i n : ℕ) (ws : List Word) → AllOf (λ x. at j i serial ≡ x .at → ⊥) ws
-    → over r ((at j i live ≔ 1) ∷ (at j i serial ≔ n) ∷ ws) (at j i serial) ≡ n
-unfolding over
-serial-written r j i n ws a = over-miss (at j i serial) a _ ∙ hit (at j i serial) (at j i serial) n _ refl
-
 module _ (h : List ℕ) (r : Addr → ℕ) (k : Call) (me : Caller h r (k .caller)) where
   abbrev cell : ℕ
   cell = cellOf h process (k .caller)
@@ -68,29 +64,22 @@ module _ (h : List ℕ) (r : Addr → ℕ) (k : Call) (me : Caller h r (k .calle
       let f = free-slot h r j cell (me .shape) (in-run h (me .shape) process (k .caller) (me .in-range) .0) room in
       record { kind = j; slot = free j; in-range = f .in-range; not-worn = f .not-worn; given = given; left = left }
 
-  -- words of the record but for its serial
-  apart : (j : Kind) (i n : ℕ) → 2 ≤ n → at j i serial ≡ at j i n → ⊥
-  apart j i n l = apart-word j i serial n (λ e. omega arith)
-
-  -- the six words after an object's serial, and the entry for it
-  object-rest : (j : Kind) → Object j → (i d : ℕ) {x2 x3 x4 x5 x6 x7 v u : ℕ} → AllOf (λ x. at j i serial ≡ x .at → ⊥)
-      ((at j i 2 ≔ x2) ∷ (at j i 3 ≔ x3) ∷ (at j i 4 ≔ x4) ∷ (at j i 5 ≔ x5) ∷ (at j i 6 ≔ x6) ∷ (at j i 7 ≔ x7) ∷ entered j (k .caller) d v u)
-  object-rest j o i d =
-      also (apart j i 2 (omega arith)) (also (apart j i 3 (omega arith)) (also (apart j i 4 (omega arith)) (also (apart j i 5 (omega arith))
-      (also (apart j i 6 (omega arith)) (also (apart j i 7 (omega arith)) (also (other (heldAt j d)) (also (other (usedAt j d)) nil)))))))
-    where
-      other : (w : ℕ) → at j i serial ≡ at process (k .caller) w → ⊥
-      other w e = no-process j o (ap (λ (a : Addr). a .kind) e)
+  -- an object's serial, where its words are followed by an entry for it
+  object-serial : (j : Kind) → Object j → (i d : ℕ) → d < entries → (s u g b x y v a : ℕ) → over r (made j i s u g b x y ++ entered j (k .caller) d v a) (at j i serial) ≡ s
+  object-serial j o i d l s u g b x y v a =
+      in-first j process i (k .caller) (λ e f. no-process j o (sym e)) (made-in j o i s u g b x y) (entered-in r j o (k .caller) d v a l) r serial
+      ∙ made-word j o i s u g b x y r serial
 
   by-rule : (st : List ℕ) → creates (k .code) ≡ true → Clear (ruleOf h r st k .refusals) → Handed h r (ruleOf h r st k)
   unfolding ruleOf spawn buildSegment create
   by-rule st t = split _ (eqb (k .code) 1)
-      (λ e. rw (eqb-true (k .code) 1 e) (λ ok. handed process _ (ok .1 .1 .0) refl (serial-written r process (free process) _ _
-      (also (apart process (free process) 2 (omega arith)) (also (apart process (free process) 3 (omega arith)) (also (apart process (free process) 4 (omega arith)) nil))))))
+      (λ e. rw (eqb-true (k .code) 1 e) (λ ok. handed process _ (ok .1 .1 .0) refl (spawned-word r (k .caller) (k .a) (k .b) (free process) _ serial)))
       (λ n. split _ (eqb (k .code) 3)
-      (λ e. rw (eqb-true (k .code) 3 e) (λ ok. handed segment _ (ok .1 .1 .1 .0) refl (serial-written r segment (free segment) _ _ (object-rest segment tt (free segment) (freeEntry r segment (k .caller))))))
+      (λ e. rw (eqb-true (k .code) 3 e) (λ ok. handed segment _ (ok .1 .1 .1 .0) refl
+      (object-serial segment tt (free segment) (freeEntry r segment (k .caller)) (free-entry r segment (k .caller) (ok .1 .1 .0) .in-record) _ _ _ _ _ _ _ _)))
       (λ m. rw (eqb-true (k .code) 7 (or-rest (eqb (k .code) 3) (eqb (k .code) 7) (or-rest (eqb (k .code) 1) _ t n) m))
-      (λ ok. handed file _ (ok .1 .1 .1 .0) refl (serial-written r file (free file) _ _ (object-rest file tt (free file) (freeEntry r file (k .caller)))))))
+      (λ ok. handed file _ (ok .1 .1 .1 .0) refl
+      (object-serial file tt (free file) (freeEntry r file (k .caller)) (free-entry r file (k .caller) (ok .1 .1 .0) .in-record) _ _ _ _ _ _ _ _))))
 
 -- ---- two of them
 
