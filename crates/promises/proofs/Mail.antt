@@ -81,6 +81,10 @@ same-bytes : (s t : State) (p m n : ℕ) → ((j : ℕ) → j < messageWords →
 same-bytes s t p m n e = rw (e 0 (omega arith), e 1 (omega arith), e 2 (omega arith), e 3 (omega arith))
 
 module _ (s : State) (k : Call) (p m : ℕ) (x : Waiting s p m) where
+  -- while p lives, a message that it has after the call is waiting
+  still : (n : ℕ) → wordOf (next s k) p live ≡ wordOf s p live → n < wordOf (next s k) p queue → Waiting (next s k) p n
+  still n same behind = record { well = kept s k (x .well); in-range = rw (conf-kept s k (x .well)) (x .in-range); alive = same ∙ x .alive; behind = behind }
+
   -- a call that is no receive by p and does not release it leaves the message where it is
   stays : (Releases s k p → ⊥) → receives p k ≡ false → Waiting (next s k) p m × (messageOf (next s k) p m ≡ messageOf s p m)
   stays unreleased other = elim (ℕ-discrete (step s k .answered .error) XOK) [
@@ -88,12 +92,7 @@ module _ (s : State) (k : Call) (p m : ℕ) (x : Waiting s p m) where
         let after = word-after s k p (x .well) (x .in-range) ok in
         let l = later (configuration (s .table)) _ (s .store) k p (its-caller s k (x .well) ok) (x .alive)
         (λ c i. unreleased (c, ok, i)) (not-received ok) (own-clear s k ok) in (
-          record {
-            well = kept s k (x .well);
-            in-range = rw (conf-kept s k (x .well)) (x .in-range);
-            alive = after live (omega arith) ∙ l .same-live ∙ x .alive;
-            behind = omega (arith, after queue (omega arith), l .no-fewer, x .behind);
-          },
+          still m (after live (omega arith) ∙ l .same-live) (omega (arith, after queue (omega arith), l .no-fewer, x .behind)),
           same-bytes (next s k) s p m m (λ j jl. after (messageAt m j) (omega (arith, few s p m x, x .behind)) ∙ l .same-message m j (x .behind) jl),
         )
     | no n ↦ rw (refused s k n .state) (x, refl)
@@ -137,12 +136,7 @@ module _ (s : State) (k : Call) (p m : ℕ) (x : Waiting s p m) where
         let r = rd (configuration (s .table)) (s .table) in
         let after : (j : ℕ) → j < recordWords process → wordOf (next s k) p j ≡ over r (taken r p) (at process p j) =
         λ j jl. word-after s k p (x .well) (x .in-range) received j jl ∙ ap (λ (y : Rule). over r (y .effects .words) (at process p j)) its-rule in (
-          record {
-            well = kept s k (x .well);
-            in-range = rw (conf-kept s k (x .well)) (x .in-range);
-            alive = after live (omega arith) ∙ taken-past r p live (omega arith) (λ e. omega arith) ∙ x .alive;
-            behind = omega (arith, after queue (omega arith), taken-length r p, x .behind);
-          },
+          still n (after live (omega arith) ∙ taken-past r p live (omega arith) (λ e. omega arith)) (omega (arith, after queue (omega arith), taken-length r p, x .behind)),
           same-bytes (next s k) s p n m (λ j jl. after (messageAt n j) (omega (arith, few s p m x, x .behind)) ∙ rw e (taken-later r p n j (omega (arith, few s p m x, x .behind)) jl)),
         )
 
