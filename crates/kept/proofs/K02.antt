@@ -16,15 +16,10 @@ use Rattle.laws.proofs.Written.{over-append}
 use Rattle.kept.proofs.Fine.{Object, Fine}
 use Rattle.kept.proofs.Refusals.{clear}
 use Rattle.kept.proofs.Records.{by-slot, elsewhere, freed-in, freed-serial, freed-word}
-use Rattle.kept.proofs.Made.{placed, freed-record}
+use Rattle.kept.proofs.Made.{placed, place-apart, freed-record}
 use Rattle.kept.proofs.Keeps.{Keeps, KeptBy, Caller, keeps-none, keeps-then, keeps-process}
 use Rattle.kept.proofs.Found.{found}
 use Rattle.kept.proofs.Entries.{empty-entry, given-up, given-held, given-beside}
-
-held-apart : (k : Kind) → Object k → (d e : ℕ) → (d ≡ e → ⊥) → heldAt k d ≡ heldAt k e → ⊥
-held-apart process o d e n q = absurd o
-held-apart segment o d e n q = n (omega arith)
-held-apart file o d e n q = n (omega arith)
 
 -- what giving up entries of kind k leaves of process q: those of the set D are empty, and no other word is touched
 record Dropped (h : List ℕ) (r : Addr → ℕ) (k : Kind) (q : ℕ) (D : ℕ → Type 0) (ws : List Word) : Type 0 where
@@ -57,9 +52,9 @@ module _ (h : List ℕ) (r : Addr → ℕ) (w : Fine h r) (k : Kind) (o : Object
   drop-more n ws vs l a b = record {
     keeps = keeps-then h r ws vs (a .keeps) (b .keeps);
     gone = λ d dl. rw (over-append r ws vs) (by-slot (λ d. d < suc n → over (over r ws) vs (at process q (heldAt k d)) ≡ 0) n (λ x. b .gone n refl)
-        (λ d ne x. b .beside (heldAt k d) (λ e en. (
-          λ f. held-apart k o d e (λ g. ne (g ∙ en)) f,
-          λ f. let y = placed k o d (omega arith) in let z = placed k o e (omega arith) in omega arith,
+        (λ d ne x. b .beside (heldAt k d) (λ e en. let y = placed k o d (omega arith) in let z = placed k o e (omega arith) in (
+          λ f. place-apart k k o o d e (omega arith) (omega arith) (λ h g. ne (g ∙ en)) (omega arith),
+          λ f. omega arith,
         )) ∙ a .gone d (omega arith)) d dl);
     beside = λ j f. rw (over-append r ws vs) (b .beside j (λ d e. f d (omega arith)) ∙ a .beside j (λ d e. f d (omega arith)));
   }
