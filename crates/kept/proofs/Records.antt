@@ -36,10 +36,7 @@ by-slot P i here there m = elim (ℕ-discrete m i) [ yes e ↦ rw e here | no n 
 pub by-record : (P : Kind → ℕ → Type 0) (k : Kind) (i : ℕ) → P k i → ((l : Kind) (m : ℕ) → (l ≡ k → m ≡ i → ⊥) → P l m) → (l : Kind) (m : ℕ) → P l m
 by-record P k i here there = by-kind (λ l. (m : ℕ) → P l m) k (by-slot (P k) i here (λ m n. there k m (λ x y. n y))) (λ l n m. there l m (λ x y. n x))
 
--- places of two records, and two places of one
-apart : (l k : Kind) (m i j n : ℕ) → (l ≡ k → m ≡ i → ⊥) → at l m j ≡ at k i n → ⊥
-apart l k m i j n ne e = ne (ap (λ (a : Addr). a .kind) e) (ap (λ (a : Addr). a .slot) e)
-
+-- two places of one record
 pub apart-word : (k : Kind) (i j n : ℕ) → (j ≡ n → ⊥) → at k i j ≡ at k i n → ⊥
 apart-word k i j n ne e = ne (ap (λ (a : Addr). a .word) e)
 
