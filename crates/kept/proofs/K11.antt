@@ -12,11 +12,11 @@ use Rattle.rules.specs.Seid.{indexOf, orSelf}
 use Rattle.rules.specs.Rule.{_≔_}
 use Rattle.rules.specs.Find.{freed}
 use Rattle.rules.specs.Call11.{unlink, unlinked}
-use Rattle.laws.proofs.Tests.{passed, and-right, both-ways}
+use Rattle.laws.proofs.Tests.{passed, and-right, both-ways, cond-both}
 use Rattle.kept.proofs.Refusals.{clear}
 use Rattle.kept.proofs.Records.{elsewhere, freed-in, freed-serial, freed-word}
 use Rattle.kept.proofs.Made.{freed-record}
-use Rattle.kept.proofs.Keeps.{Keeps, KeptBy, Caller, keeps-if, keeps-object}
+use Rattle.kept.proofs.Keeps.{Keeps, KeptBy, Caller, keeps-object}
 use Rattle.kept.proofs.Found.{Found, found}
 use Rattle.kept.proofs.Objects.{alive-now, keeps-word}
 
@@ -43,7 +43,7 @@ module _ (h : List ℕ) (r : Addr → ℕ) (p : ℕ) (c : Caller h r p) (s : ℕ
       let i : ℕ = indexOf s in
       let n : ℕ = r (at file i links) in
       let x = alive-now h r file tt i (c .fine .own file i (f .parts .index-in)) (f .here .is-live) in
-      keeps-if h r (eqb n 1 && eqb (r (at file i opens)) 0) (freed file i) ((at file i links ≔ n - 1) ∷ [])
+      cond-both (Keeps h r) (eqb n 1 && eqb (r (at file i opens)) 0) (freed file i) ((at file i links ≔ n - 1) ∷ [])
       (λ t. last (eqb-true _ 0 (and-right (eqb n 1) (eqb (r (at file i opens)) 0) t)))
       (λ t. keeps-word h r (c .fine) file tt i (f .parts .index-in) (f .here .is-live) links (n - 1) (omega arith) (omega arith) (record {
         bits-fit = x .bits-fit;

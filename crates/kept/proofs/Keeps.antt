@@ -1,6 +1,5 @@
 -- Writes that keep a reading fine, and that let no serial fall.
-use mathlib.Core.Path.{_≡_, refl}
-use mathlib.Core.Bool.{Bool, true, false, cond}
+use mathlib.Core.Path.{_≡_}
 use mathlib.Core.List.{List, [], _++_}
 use Prim.Native.Nat.{ℕ, _<_}
 use native.Mathlib.Omega.{arith}
@@ -29,10 +28,6 @@ keeps-then h r ws vs a b = record {
   fine = rw (over-append r ws vs) (b .fine);
   grown = λ k i l. rw (over-append r ws vs) (omega (arith, a .grown k i l, b .grown k i l));
 }
-
-pub keeps-if : (h : List ℕ) (r : Addr → ℕ) (b : Bool) (ws vs : List Word) → (b ≡ true → Keeps h r ws) → (b ≡ false → Keeps h r vs) → Keeps h r (cond b ws vs)
-keeps-if h r true ws vs f g = f refl
-keeps-if h r false ws vs f g = g refl
 
 pub keeps-process : (h : List ℕ) (r : Addr → ℕ) {ws : List Word} → Fine h r → (p : ℕ) → p < slots h process → AllOf (InRecord process p) ws
     → ProcessChanged h r (over r ws) p → Keeps h r ws
