@@ -8,7 +8,7 @@ use lib.Dec.{eqb, leb}
 use lib.ListN.{length}
 use borrow.Author.Tests.{eqb-true, leb-false}
 use Rattle.rules.specs.Claim.{Holds, test}
-use Rattle.rules.specs.Layout.{Kind, process, recordWords, slots, configuration, Addr, at, Valid, rd, live, serial}
+use Rattle.rules.specs.Layout.{Kind, process, slots, configuration, Addr, at, Valid, rd, live, serial}
 use Rattle.rules.specs.WellFormed.{lengthsExact, recordsOk, wellFormed}
 use Rattle.rules.specs.Errors.{XbTab, XbPrSd, XbdKcl}
 use Rattle.rules.specs.Rule.{Refusal, _⇒_, Rule, firstRefusal, Word, Bytes, write, store, over}
@@ -20,6 +20,7 @@ use Rattle.laws.proofs.Stored.{length-store}
 use Rattle.laws.proofs.Written.{rd-write, conf-write, length-write}
 use Rattle.kept.proofs.Fine.{Fine, fine-of, fine-holds}
 use Rattle.kept.proofs.Refusals.{clear-first, never}
+use Rattle.kept.proofs.Records.{words-some}
 use Rattle.kept.proofs.Readings.{same-fine}
 use Rattle.kept.proofs.Keeps.{Keeps, Caller}
 use Rattle.kept.proofs.Calls
@@ -30,11 +31,6 @@ pub record After (t : List ℕ) (s : State) : Type 0 where
   pub same-configuration : configuration (s .table) ≡ configuration t
   pub serials : (k : Kind) (i : ℕ) → i < slots (configuration t) k
       → rd (configuration t) t (at k i serial) ≤ rd (configuration t) (s .table) (at k i serial)
-
-has-serial : (k : Kind) → serial < recordWords k
-has-serial Kind.process = omega arith
-has-serial Kind.segment = omega arith
-has-serial Kind.file = omega arith
 
 -- words and bytes written into a well-formed state
 module _ (s : State) (w : Holds (wellFormed (s .table) (length (s .store)))) where
@@ -62,7 +58,7 @@ module _ (s : State) (w : Holds (wellFormed (s .table) (length (s .store)))) whe
         well = assembled (write conf (s .table) ws) (length (store conf (s .store) bs)) (conf-write conf (s .table) ws refl) (length-write conf (s .table) ws)
             (length-store conf (s .store) bs) (fine-holds conf (rd conf (write conf (s .table) ws)) (same-fine conf (over reading ws) (rd conf (write conf (s .table) ws)) reads (k .fine)));
         same-configuration = conf-write conf (s .table) ws refl;
-        serials = λ g i l. rw (reads (at g i serial) (l, has-serial g)) (k .grown g i l);
+        serials = λ g i l. rw (reads (at g i serial) (l, omega (arith, words-some g))) (k .grown g i l);
       }
 
   unchanged : After (s .table) s
