@@ -29,7 +29,7 @@ module _ (h : List ℕ) (r : Addr → ℕ) (k : Kind) (p d : ℕ) where
     pub same-class : classOf heldBy ≡ class k
     pub same-index : indexOf heldBy ≡ i
 
-  pub is-named : (i : ℕ) → ownEntry h r k i p d ≡ true → Names i
+  is-named : (i : ℕ) → ownEntry h r k i p d ≡ true → Names i
   unfolding ownEntry
   is-named i e =
       let a = eqb (cellOf h k i) (cellOf h process p) in

@@ -24,7 +24,7 @@ module _ (h : List ℕ) (r : Addr → ℕ) (k : Kind) (o : Object k) (i : ℕ) (
   pub alive-now : AliveObject h r k i
   alive-now = alive-object h r k i o (old .alive lives)
 
-  pub own-word : (n v : ℕ) → 4 ≤ n → AliveWith h r k i n v → Own h (over r ((at k i n ≔ v) ∷ [])) k i
+  own-word : (n v : ℕ) → 4 ≤ n → AliveWith h r k i n v → Own h (over r ((at k i n ≔ v) ∷ [])) k i
   own-word n v past a =
       let e0 = word-past r k i n v live (λ e. omega arith) in
       let e1 = word-past r k i n v serial (λ e. omega arith) in

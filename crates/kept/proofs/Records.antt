@@ -60,7 +60,7 @@ pub all-valid : (h : List ℕ) (k : Kind) (i : ℕ) {ws : List Word} → i < slo
 all-valid h k i l a = all-map (in-valid h k i l) a
 
 -- what is written over one word hangs on that word alone
-pub over-local : (ws : List Word) (r q : Addr → ℕ) (a : Addr) → r a ≡ q a → over r ws a ≡ over q ws a
+over-local : (ws : List Word) (r q : Addr → ℕ) (a : Addr) → r a ≡ q a → over r ws a ≡ over q ws a
 unfolding over
 over-local [] r q a e = e
 over-local (x ∷ ws) r q a e =

@@ -156,15 +156,15 @@ module _ (h : List ℕ) (exact : length h ≡ headerWords + cellWords * cells h)
     fresh-records : Holds (recordsOk h (rd h (freshTable h)))
     fresh-records = fine-holds h (rd h (freshTable h)) (same-fine h (over blank (firstProcesses h (cells h))) (rd h (freshTable h)) fresh-reads (begun-all .fine))
 
-    pub fresh-configuration : configuration (freshTable h) ≡ h
+    fresh-configuration : configuration (freshTable h) ≡ h
     unfolding freshTable
     fresh-configuration = conf-write h (zeroed h) (firstProcesses h (cells h)) zeroed-configuration
 
-    pub fresh-length : length (freshTable h) ≡ tableWords h
+    fresh-length : length (freshTable h) ≡ tableWords h
     unfolding freshTable
     fresh-length = length-write h (zeroed h) (firstProcesses h (cells h)) ∙ zeroed-length
 
-    pub fresh-serial : (c : ℕ) → c < cells h → rd h (freshTable h) (at process (firstSlot h process c) serial) ≡ 1
+    fresh-serial : (c : ℕ) → c < cells h → rd h (freshTable h) (at process (firstSlot h process c) serial) ≡ 1
     fresh-serial c l = fresh-reads (at process (firstSlot h process c) serial) (first-in h sh c l, omega arith) ∙ first-serial h sh (cells h) c (omega arith) l
 
 -- a configuration is whole where the table is as long as it says

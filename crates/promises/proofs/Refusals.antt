@@ -109,7 +109,7 @@ module _ (s : State) (k : Call) where
   -- ---- success
 
   -- every refusal has a number
-  pub all-numbered : numbered (refusals s k) ≡ true
+  all-numbered : numbered (refusals s k) ≡ true
   unfolding wholeRule spawn releaseProcess buildSegment rendezvous releaseSegment setAccess create openFile close link unlink readBlock writeBlock post receive accessOf
   all-numbered =
       let P : Rule → Type 0 = λ x. numbered (x .refusals) ≡ true in

@@ -21,17 +21,17 @@ use Rattle.secrecy.proofs.Lists.{over-at}
 -- ---- refusals
 
 -- where no refusal answers, each of the tests is false
-pub granted : {h : List ℕ} {c : ℕ} {k : Rule} → Good h c k → firstRefusal (k .refusals) ≡ 0 → Ups h c (k .effects .words) × AllOf (UpBytes h c) (k .effects .bytes)
+granted : {h : List ℕ} {c : ℕ} {k : Rule} → Good h c k → firstRefusal (k .refusals) ≡ 0 → Ups h c (k .effects .words) × AllOf (UpBytes h c) (k .effects .bytes)
 granted (good-effect u b) e = (u, b)
 granted (good-test {b = b} {n = n} {rs = rs} z g) e = split _ b
     (λ t. absurd (eqb-false n 0 z (rw t at e)))
     (λ f. granted (g f) (rw f at e))
 
-pub same-refusal : {h : List ℕ} {C : ℕ → Bool} {k l : Rule} → Alike h C k l → firstRefusal (k .refusals) ≡ firstRefusal (l .refusals)
+same-refusal : {h : List ℕ} {C : ℕ → Bool} {k l : Rule} → Alike h C k l → firstRefusal (k .refusals) ≡ firstRefusal (l .refusals)
 same-refusal (alike-effect a) = refl
 same-refusal (alike-test {b = b} {d = d} z e g) = split _ b (λ t. rw (← e, t)) (λ f. rw (← e, f) (same-refusal (g f)))
 
-pub granted-alike : {h : List ℕ} {C : ℕ → Bool} {k l : Rule} → Alike h C k l → firstRefusal (k .refusals) ≡ 0 → Alike-effects h C (k .effects) (l .effects)
+granted-alike : {h : List ℕ} {C : ℕ → Bool} {k l : Rule} → Alike h C k l → firstRefusal (k .refusals) ≡ 0 → Alike-effects h C (k .effects) (l .effects)
 granted-alike (alike-effect a) e = a
 granted-alike (alike-test {b = b} {n = n} z q g) e = split _ b
     (λ t. absurd (eqb-false n 0 z (rw t at e)))

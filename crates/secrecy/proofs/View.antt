@@ -35,12 +35,12 @@ holdable process = false
 holdable segment = true
 holdable file = true
 
-pub held-fits : (k : Kind) (d : ℕ) → holdable k ≡ true → leb entries d ≡ false → heldAt k d < recordWords process
+held-fits : (k : Kind) (d : ℕ) → holdable k ≡ true → leb entries d ≡ false → heldAt k d < recordWords process
 held-fits process d e l = absurd (true≢false (sym e))
 held-fits segment d e l = omega (arith, tests)
 held-fits file d e l = omega (arith, tests)
 
-pub used-fits : (k : Kind) (d : ℕ) → holdable k ≡ true → leb entries d ≡ false → usedAt k d < recordWords process
+used-fits : (k : Kind) (d : ℕ) → holdable k ≡ true → leb entries d ≡ false → usedAt k d < recordWords process
 used-fits process d e l = absurd (true≢false (sym e))
 used-fits segment d e l = omega (arith, tests)
 used-fits file d e l = omega (arith, tests)
