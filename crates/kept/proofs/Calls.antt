@@ -62,7 +62,7 @@ module _ (h : List ℕ) (r : Addr → ℕ) (st : List ℕ) (k : Call) where
         call-9 = λ e. K09.keeps h r p me (k .a) (k .buffer);
         call-10 = λ e. K10.keeps h r p me (k .a) (k .buffer);
         call-11 = λ e. K11.keeps h r p me (k .a) (k .buffer);
-        call-12 = λ e. by-bits h r st k (KeptBy h r) (K12.keeps h r p me (k .b) (k .buffer));
+        call-12 = λ e. by-bits h r st k (KeptBy h r) (K12.keeps h r p (k .b) (k .buffer) me);
         call-13 = λ e x. keeps-none h r (me .fine);
         call-14 = λ e. K14.keeps h r p me (k .a) (k .b) (k .buffer);
         call-15 = λ e. K15.keeps h r p me (k .a) (k .buffer);

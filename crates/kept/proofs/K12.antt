@@ -15,15 +15,16 @@ use Rattle.kept.proofs.Keeps.{KeptBy, Caller}
 use Rattle.kept.proofs.Found.{found}
 use Rattle.kept.proofs.Objects.{alive-now, keeps-word}
 
-module _ (h : List ℕ) (r : Addr → ℕ) (p : ℕ) (c : Caller h r p) (b : ℕ) (buffer : List ℕ) where
-  all-numbered : (s : ℕ) (k : Kind) → Object k → numbered (setBitsOf h r p s b buffer k .refusals) ≡ true
-  all-numbered s process o = absurd o
-  all-numbered s segment o = refl
-  all-numbered s file o = refl
+module _ (h : List ℕ) (r : Addr → ℕ) (p b : ℕ) (buffer : List ℕ) where
+  -- every refusal has a number
+  pub bits-numbered : (s : ℕ) (k : Kind) → Object k → numbered (setBitsOf h r p s b buffer k .refusals) ≡ true
+  bits-numbered s process o = absurd o
+  bits-numbered s segment o = refl
+  bits-numbered s file o = refl
 
-  pub keeps : (s : ℕ) (k : Kind) → Object k → KeptBy h r (setBitsOf h r p s b buffer k)
-  keeps s k o e =
-      let ok = clear (setBitsOf h r p s b buffer k .refusals) (all-numbered s k o) e in
+  pub keeps : Caller h r p → (s : ℕ) (k : Kind) → Object k → KeptBy h r (setBitsOf h r p s b buffer k)
+  keeps c s k o e =
+      let ok = clear (setBitsOf h r p s b buffer k .refusals) (bits-numbered s k o) e in
       let f = found h r k s (ok .1 .0) (ok .1 .1 .1 .0) in
       let x = alive-now h r k o (indexOf s) (c .fine .own k (indexOf s) (f .parts .index-in)) (f .here .is-live) in
       keeps-word h r (c .fine) k o (indexOf s) (f .parts .index-in) (f .here .is-live) bits b (omega arith) (omega arith)

@@ -25,7 +25,6 @@ use Rattle.rules.specs.Call08.{openFile}
 use Rattle.rules.specs.Call09.{close}
 use Rattle.rules.specs.Call10.{link}
 use Rattle.rules.specs.Call11.{unlink}
-use Rattle.rules.specs.Call12.{setBitsOf}
 use Rattle.rules.specs.Call13.{readBlock}
 use Rattle.rules.specs.Call14.{writeBlock}
 use Rattle.rules.specs.Call15.{post}
@@ -34,8 +33,8 @@ use Rattle.rules.specs.Call17.{statusOf}
 use Rattle.rules.specs.Call18.{accessOf}
 use Rattle.laws.proofs.Tests.{cond-true, cond-false, cond-both, split}
 use Rattle.laws.proofs.Claims.{tested}
-use Rattle.kept.proofs.Fine.{Object}
 use Rattle.kept.proofs.Refusals.{Clear, numbered, clear}
+use Rattle.kept.proofs.K12.{bits-numbered}
 use Rattle.kept.proofs.Codes.{by-code, by-bits, by-status}
 
 -- the refusals of a call in their order, those of all calls first; and what it does where none of them holds
@@ -125,7 +124,7 @@ module _ (s : State) (k : Call) where
         call-9 = λ e. refl;
         call-10 = λ e. refl;
         call-11 = λ e. refl;
-        call-12 = λ e. by-bits conf reading (s .store) k P for-bits;
+        call-12 = λ e. by-bits conf reading (s .store) k P (bits-numbered conf reading (k .caller) (k .b) (k .buffer));
         call-13 = λ e. refl;
         call-14 = λ e. refl;
         call-15 = λ e. refl;
@@ -135,10 +134,6 @@ module _ (s : State) (k : Call) where
         other = refl;
       })
     where
-      for-bits : (v : ℕ) (j : Kind) → Object j → numbered (setBitsOf conf reading (k .caller) v (k .b) (k .buffer) j .refusals) ≡ true
-      for-bits v segment o = refl
-      for-bits v file o = refl
-
       for-status : (v : ℕ) (j : Kind) → numbered (statusOf conf reading (k .caller) v (k .buffer) j .refusals) ≡ true
       for-status v process = refl
       for-status v segment = refl
