@@ -179,25 +179,30 @@ pub configured-shape : (t : List ℕ) (m : ℕ) → Holds (canSetUp t m) → Sha
 unfolding canSetUp
 configured-shape t m w = shape-of (configuration t) (w .0)
 
+-- set-up that does not refuse leaves the fresh table of the configuration, whatever else stood there
+pub set-up-table : (t : List ℕ) (m : ℕ) → Holds (canSetUp t m) → setUpTable t m ≡ freshTable (configuration t)
+unfolding setUpTable
+set-up-table t m w = rw (tested (canSetUp t m) w)
+
 -- "Set-up reads the header and cell words in the table and refuses bad ones or wrong lengths": otherwise what it leaves is well formed
 pub set-up-formed : (t : List ℕ) (m : ℕ) → Holds (canSetUp t m) → Holds (wellFormed (setUpTable t m) m)
-unfolding canSetUp setUpTable wellFormed lengthsExact
+unfolding canSetUp wellFormed lengthsExact
 set-up-formed t m w =
     let h = configuration t in
     let sh = shape-of h (w .0) in
     let exact = whole-configuration t (w .1 .0) in
-    rw (tested (canSetUp t m) w, fresh-configuration h exact sh, fresh-length h exact sh) (w .0, ((refl, w .1 .1), fresh-records h exact sh))
+    rw (set-up-table t m w, fresh-configuration h exact sh, fresh-length h exact sh) (w .0, ((refl, w .1 .1), fresh-records h exact sh))
 
 -- it leaves the configuration, and gives each cell's first process serial 1
 pub set-up-configuration : (t : List ℕ) (m : ℕ) → Holds (canSetUp t m) → configuration (setUpTable t m) ≡ configuration t
-unfolding canSetUp setUpTable lengthsExact
+unfolding canSetUp lengthsExact
 set-up-configuration t m w =
     let h = configuration t in
-    rw (tested (canSetUp t m) w) (fresh-configuration h (whole-configuration t (w .1 .0)) (shape-of h (w .0)))
+    rw (set-up-table t m w) (fresh-configuration h (whole-configuration t (w .1 .0)) (shape-of h (w .0)))
 
 pub set-up-serial : (t : List ℕ) (m : ℕ) → Holds (canSetUp t m) → (c : ℕ) → c < cells (configuration t)
     → rd (configuration t) (setUpTable t m) (at process (firstSlot (configuration t) process c) serial) ≡ 1
-unfolding canSetUp setUpTable lengthsExact
+unfolding canSetUp lengthsExact
 set-up-serial t m w c l =
     let h = configuration t in
-    rw (tested (canSetUp t m) w) (fresh-serial h (whole-configuration t (w .1 .0)) (shape-of h (w .0)) c l)
+    rw (set-up-table t m w) (fresh-serial h (whole-configuration t (w .1 .0)) (shape-of h (w .0)) c l)

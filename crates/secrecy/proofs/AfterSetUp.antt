@@ -4,14 +4,12 @@ use mathlib.Core.Bool.{Bool}
 use mathlib.Core.List.{List}
 use Prim.Native.Nat.{ℕ}
 use lib.ListN.{length}
-use Rattle.rules.specs.Claim.{Holds, test}
+use Rattle.rules.specs.Claim.{Holds}
 use Rattle.rules.specs.Layout.{configuration}
 use Rattle.rules.specs.SetUp.{canSetUp, freshTable, setUpTable}
 use Rattle.rules.specs.Step.{State, Call, run}
 use Rattle.rules.specs.Observer.{Closed, Agree, remaining, replies}
-use Rattle.laws.proofs.Tests.{cond-true}
-use Rattle.laws.proofs.Claims.{tested}
-use Rattle.promises.proofs.Fresh.{set-up-formed}
+use Rattle.promises.proofs.Fresh.{set-up-table, set-up-formed}
 use Rattle.secrecy.proofs.View.{Stretches}
 use Rattle.secrecy.proofs.Demand3.{two-runs}
 
@@ -21,10 +19,7 @@ setUp t store = record { table = setUpTable t (length store); store = store }
 
 same-table : (t u a b : List ℕ) → Holds (canSetUp t (length a)) → Holds (canSetUp u (length b)) → configuration t ≡ configuration u
     → setUpTable t (length a) ≡ setUpTable u (length b)
-unfolding setUpTable
-same-table t u a b x y e =
-    cond-true (test (canSetUp t (length a))) (freshTable (configuration t)) t (tested (canSetUp t (length a)) x) ∙ ap freshTable e
-    ∙ sym (cond-true (test (canSetUp u (length b))) (freshTable (configuration u)) u (tested (canSetUp u (length b)) y))
+same-table t u a b x y e = set-up-table t (length a) x ∙ ap freshTable e ∙ sym (set-up-table u (length b) y)
 
 same-set-up : (C : ℕ → Bool) (t u a b : List ℕ) → Holds (canSetUp t (length a)) → Holds (canSetUp u (length b)) → configuration t ≡ configuration u
     → Stretches (configuration (setUp t a .table)) C a b → Agree C (setUp t a) (setUp u b)
