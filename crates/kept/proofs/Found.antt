@@ -14,7 +14,7 @@ use Rattle.laws.proofs.Tests.{and-left, and-right, passed}
 use Rattle.laws.proofs.Search.{lowest-ge, lowest-hit}
 use Rattle.laws.proofs.Seids.{index-seid, serial-seid, Formed, is-formed, made-formed, Present, is-present}
 use Rattle.laws.proofs.Cells.{cell-run, run-end}
-use Rattle.laws.proofs.Shape.{Shape}
+use Rattle.laws.proofs.Shape.{in-run}
 use Rattle.kept.proofs.Keeps.{Caller}
 
 -- a seid that names an object
@@ -71,14 +71,17 @@ pub record FreeSlot (h : List ℕ) (r : Addr → ℕ) (k : Kind) (c i : ℕ) : T
   pub is-free : r (at k i live) ≡ 0
   pub not-worn : r (at k i serial) < maxSerial
 
-pub free-slot : (h : List ℕ) (r : Addr → ℕ) (k : Kind) (c : ℕ) → Shape h → c < cells h → noSlot h r k c ≡ false → FreeSlot h r k c (freeSlot h r k c)
+pub free-slot : (h : List ℕ) (r : Addr → ℕ) (p : ℕ) → Caller h r p → (k : Kind) → noSlot h r k (cellOf h process p) ≡ false
+    → FreeSlot h r k (cellOf h process p) (freeSlot h r k (cellOf h process p))
 unfolding freeSlot
-free-slot h r k c sh l n =
+free-slot h r p me k n =
+    let c : ℕ = cellOf h process p in
+    let l : c < cells h = in-run h (me .shape) process p (me .in-range) .0 in
     let i : ℕ = freeSlot h r k c in
     let lo : firstSlot h k c ≤ i = lowest-ge _ (cellSlots h k c) (firstSlot h k c) in
     let hi : i < firstSlot h k c + cellSlots h k c = leb-false (firstSlot h k c + cellSlots h k c) i n in
     let is = slot-found h r k c n in
-    record { in-range = omega (arith, run-end h k c l, sh .sums k); in-cell = cell-run h k i c l lo hi; is-free = is .0; not-worn = is .1 }
+    record { in-range = omega (arith, run-end h k c l, me .shape .sums k); in-cell = cell-run h k i c l lo hi; is-free = is .0; not-worn = is .1 }
 
 -- entry d of process p is empty
 pub record FreeEntry (r : Addr → ℕ) (k : Kind) (p d : ℕ) : Type 0 where

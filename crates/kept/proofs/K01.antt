@@ -13,7 +13,6 @@ use Rattle.rules.specs.Rule.{over}
 use Rattle.rules.specs.Find.{freeSlot}
 use Rattle.rules.specs.Call01.{spawn, spawned}
 use Rattle.laws.proofs.Tests.{or-left, or-right}
-use Rattle.laws.proofs.Shape.{in-run}
 use Rattle.laws.proofs.Written.{AllOf, nil}
 use Rattle.kept.proofs.Refusals.{clear}
 use Rattle.kept.proofs.Records.{InRecord, word-in, same-record}
@@ -58,5 +57,5 @@ unfolding spawn
 keeps h r p me a b buffer e =
     let ok = clear (spawn h r p a b buffer .refusals) refl e in
     let mine : ℕ = cellOf h process p in
-    spawns h r p me a b (freeSlot h r process mine) (free-slot h r process mine (me .shape) (in-run h (me .shape) process p (me .in-range) .0) (ok .1 .1 .0))
+    spawns h r p me a b (freeSlot h r process mine) (free-slot h r p me process (ok .1 .1 .0))
     (ltb-false maxOwner a (or-left (ltb maxOwner a) (ltb maxOwner b) (ok .0))) (ltb-false maxOwner b (or-right (ltb maxOwner a) (ltb maxOwner b) (ok .0)))

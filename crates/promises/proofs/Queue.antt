@@ -30,7 +30,6 @@ use Rattle.rules.specs.Call18.{accessOf}
 use Rattle.rules.specs.Step.{Call, ruleOf}
 use Rattle.laws.proofs.Tests.{and-right, cond-both}
 use Rattle.laws.proofs.Written.{AllOf, nil, also, all-append, all-if, all-map, over-miss}
-use Rattle.laws.proofs.Shape.{in-run}
 use Rattle.kept.proofs.Fine.{Object}
 use Rattle.kept.proofs.Refusals.{Clear}
 use Rattle.kept.proofs.Records.{InRecord, word-in, freed-in}
@@ -147,7 +146,7 @@ module _ (h : List ℕ) (r : Addr → ℕ) (st : List ℕ) (k : Call) (p : ℕ) 
   unfolding spawn
   by-spawn ok =
       let q = freeSlot h r process (cellOf h process caller) in
-      let f = free-slot h r process (cellOf h process caller) (me .shape) (in-run h (me .shape) process caller (me .in-range) .0) (ok .1 .1 .0) in
+      let f = free-slot h r caller me process (ok .1 .1 .0) in
       of-other p q (λ e. omega (arith, f .is-free, ap (λ (i : ℕ). r (at process i live)) e))
       (spawned-in r caller (k .a) (k .b) q (r (at process q serial) + 1))
 

@@ -21,7 +21,7 @@ use Rattle.rules.specs.SetUp.{canSetUp, setUpTable}
 use Rattle.rules.specs.Step.{State, Call, step, next, run, ruleOf, wholeRule}
 use Rattle.laws.proofs.Tests.{or-rest, split}
 use Rattle.laws.proofs.Seids.{class-seid, index-seid, serial-seid, class-inj}
-use Rattle.laws.proofs.Shape.{good-of, in-run}
+use Rattle.laws.proofs.Shape.{good-of}
 use Rattle.kept.proofs.Fine.{Object}
 use Rattle.kept.proofs.Refusals.{Clear}
 use Rattle.kept.proofs.Records.{in-first, words-some}
@@ -61,7 +61,7 @@ module _ (h : List ℕ) (r : Addr → ℕ) (k : Call) (me : Caller h r (k .calle
   handed : (j : Kind) (x : Rule) → noSlot h r j cell ≡ false → x .effects .first ≡ seid (class j) (free j) (r (at j (free j) serial) + 1)
       → over r (x .effects .words) (at j (free j) serial) ≡ r (at j (free j) serial) + 1 → Handed h r x
   handed j x room given left =
-      let f = free-slot h r j cell (me .shape) (in-run h (me .shape) process (k .caller) (me .in-range) .0) room in
+      let f = free-slot h r (k .caller) me j room in
       record { kind = j; slot = free j; in-range = f .in-range; not-worn = f .not-worn; given = given; left = left }
 
   -- an object's serial, where its words are followed by an entry for it
