@@ -14,11 +14,11 @@ use Rattle.rules.specs.WellFormed.{configured as configuredOk, headerOk}
 use Rattle.rules.specs.Replay.{Taken, took, bad, numbersFrom, numbers, headerNumbers, replayable, callNumbers, maxBuffer, callOf}
 use Rattle.laws.proofs.Tests.{split, refuted}
 use Rattle.laws.proofs.Claims.{holds}
-use Rattle.number.specs.declared.Part.{Part}
-use Rattle.number.specs.declared.Fed.{Fed}
-use Rattle.number.specs.declared.Fed.the-variants as fed
-use Rattle.number.specs.Fed.{start, fedBy}
-use Rattle.number.proofs.Read.{small-start, small-more}
+use Rattle.numerals.specs.declared.Part.{Part}
+use Rattle.numerals.specs.declared.Fed.{Fed}
+use Rattle.numerals.specs.declared.Fed.the-variants as fed
+use Rattle.numerals.specs.Fed.{start, fedBy}
+use Rattle.numerals.proofs.Read.{small-start, small-more}
 use Rattle.script.specs.declared.Stage.{Stage}
 use Rattle.script.specs.declared.Stage.the-variants.{Header, Cells, Numbers, Bytes}
 use Rattle.script.specs.declared.Reader.{Reader}

@@ -9,11 +9,11 @@ use Rattle.rules.specs.Claim.{test}
 use Rattle.rules.specs.Layout.{cellWords}
 use Rattle.rules.specs.Step.{Call}
 use Rattle.rules.specs.Replay.{Taken, took, bad, number, numbersFrom, numbers, headerNumbers, configurationIn, replayable, callNumbers, maxBuffer, callOf, callIn}
-use Rattle.number.specs.declared.Part.{Part}
-use Rattle.number.specs.declared.Fed.{Fed}
-use Rattle.number.specs.declared.Fed.the-variants.{More, Done, Bad}
-use Rattle.number.specs.Fed.{start, fedBy}
-use Rattle.number.proofs.Read.{readOn, afterByte, Small, read-byte}
+use Rattle.numerals.specs.declared.Part.{Part}
+use Rattle.numerals.specs.declared.Fed.{Fed}
+use Rattle.numerals.specs.declared.Fed.the-variants.{More, Done, Bad}
+use Rattle.numerals.specs.Fed.{start, fedBy}
+use Rattle.numerals.proofs.Read.{readOn, afterByte, Small, read-byte}
 
 -- ---- some numbers, of which vs are read whole and p of the next; k follow that
 unfoldable pub thenNumbers : List ℕ → ℕ → Taken ℕ → Taken (List ℕ)

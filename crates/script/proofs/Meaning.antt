@@ -7,7 +7,7 @@ use lib.ListN.{length, getD, take, drop}
 use Rattle.rules.specs.Layout.{maxCells, headerWords, cellWords, configuration}
 use Rattle.rules.specs.Step.{Call}
 use Rattle.rules.specs.Replay.{Taken, took, bad, headerNumbers, callNumbers, maxBuffer, callOf}
-use Rattle.number.proofs.Read.{Small}
+use Rattle.numerals.proofs.Read.{Small}
 use Rattle.script.specs.declared.Stage.{Stage}
 use Rattle.script.specs.declared.Stage.the-variants.{Header, Cells, Numbers, Bytes}
 use Rattle.script.specs.declared.Reader.{Reader}

@@ -10,7 +10,7 @@ use Rattle.rules.specs.Layout.{headerWords}
 use borrow.Author.Tests.{eqb-true, lt-leb}
 use Rattle.rules.specs.Replay.{Taken, took, bad, headerNumbers, configurationIn, callIn}
 use Rattle.laws.proofs.Tests.{split, and-left, and-right}
-use Rattle.number.specs.Fed.{start}
+use Rattle.numerals.specs.Fed.{start}
 use Rattle.script.specs.declared.Stage.{Stage}
 use Rattle.script.specs.declared.Stage.the-variants.{Header, Cells, Numbers, Bytes}
 use Rattle.script.specs.declared.Reader.{Reader}

@@ -10,12 +10,12 @@ use lib.ListN.{getD, set, take as firsts, drop, length, length-take, length-drop
 use lib.Seq.{sets, take-all, drop-cons, drop-drop}
 use borrow.Author.Tests.{lt-ltb, le-ltb}
 use Rattle.laws.proofs.Tests.{split}
-use Rattle.number.specs.declared.Part.{Part}
-use Rattle.number.specs.declared.Fed.{Fed}
-use Rattle.number.specs.declared.Fed.the-variants as fed
-use Rattle.number.specs.declared.Scan.{Scan}
-use Rattle.number.specs.Fed.{start, fedBy, scan, scanOf}
-use Rattle.number.proofs.Scanning.{scan-more, scan-done, scan-bad, scan-end, scan-past}
+use Rattle.numerals.specs.declared.Part.{Part}
+use Rattle.numerals.specs.declared.Fed.{Fed}
+use Rattle.numerals.specs.declared.Fed.the-variants as fed
+use Rattle.numerals.specs.declared.Scan.{Scan}
+use Rattle.numerals.specs.Fed.{start, fedBy, scan, scanOf}
+use Rattle.numerals.proofs.Scanning.{scan-more, scan-done, scan-bad, scan-end, scan-past}
 use Rattle.script.specs.declared.Stage.{Stage}
 use Rattle.script.specs.declared.Stage.the-variants.{Header, Cells, Numbers, Bytes}
 use Rattle.script.specs.declared.Reader.{Reader}

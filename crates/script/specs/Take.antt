@@ -7,10 +7,10 @@ use lib.Dec.{ltb, eqb}
 use lib.ListN.{getD, set, replicate}
 use Rattle.rules.specs.Layout.{maxCells, headerWords, cellWords}
 use Rattle.rules.specs.Replay.{headerNumbers, callNumbers, maxBuffer}
-use Rattle.number.specs.declared.Part.{Part}
-use Rattle.number.specs.declared.Fed.{Fed}
-use Rattle.number.specs.declared.Fed.the-variants as fed
-use Rattle.number.specs.Fed.{start, fedBy}
+use Rattle.numerals.specs.declared.Part.{Part}
+use Rattle.numerals.specs.declared.Fed.{Fed}
+use Rattle.numerals.specs.declared.Fed.the-variants as fed
+use Rattle.numerals.specs.Fed.{start, fedBy}
 use Rattle.script.specs.declared.Stage.{Stage}
 use Rattle.script.specs.declared.Stage.the-variants.{Header, Cells, Numbers, Bytes}
 use Rattle.script.specs.declared.Reader.{Reader}

@@ -7,8 +7,8 @@ ghost use Prim.Native.Nat.{ℕ, _+_, _<_, _≤_};
 ghost use lib.ListN.{drop, length, set};
 ghost use Rattle.script.specs.Take.{awaiting as awaitingAt, newReader, isMore, isBytes, isCalling, isBetween, onward, further, keptNums, keptTable, headerEnded, numbersEnded, ended, numbered, withPart, fedTook, fedTable, bytesLeft};
 ghost use Rattle.script.specs.Advance.{advance, Advances, Goes};
-use number::Fed;
-use number::Part;
+use numerals::Fed;
+use numerals::Part;
 use rules::CELL_WORDS;
 use rules::HEADER_WORDS;
 use rules::MAX_CELLS;
@@ -306,7 +306,7 @@ impl Reader {
         ensures { λ m. ⌜ ((l : List ℕ) → Goes self (now (table .entry)) l (now (s .entry)) from m (now (table .exit)) l) ⌝ }
     {
         let part = self.part;
-        let x = number::feed_all(part, s, from);
+        let x = numerals::feed_all(part, s, from);
         let fed = x.fed;
         let before = self.with_part(x.part);
         let took = before.take_fed(table, fed);

@@ -7,7 +7,7 @@ use native.Mathlib.Decide.{decLt}
 use lib.Dec.{ltb, leb, eqb}
 use lib.ListN.{length, getD, take, drop, length-drop}
 use Rattle.rules.specs.Replay.{Taken, took, bad, maxGroups, numberFrom, number, numbersFrom, numbers, callNumbers, maxBuffer, callOf, callIn}
-use Rattle.number.proofs.Read.{last-group, other-group}
+use Rattle.numerals.proofs.Read.{last-group, other-group}
 use Rattle.script.proofs.Going.{thenNumbers, going, going-start, callThen, call-in}
 
 -- at most n bytes are left

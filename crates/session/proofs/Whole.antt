@@ -8,7 +8,7 @@ use native.Mathlib.Decide.{decLt}
 use lib.ListN.{length, set, take, drop, length-set, drop-of-length-le}
 use lib.Seq.{getD-set-same, getD-set-other, length-sets}
 use Rattle.rules.specs.Replay.{headerNumbers, maxBuffer, listing}
-use Rattle.number.proofs.Read.{small-start}
+use Rattle.numerals.proofs.Read.{small-start}
 use Rattle.script.proofs.Meaning.{Roomy}
 use Rattle.output.proofs.Laws.{fits}
 use Rattle.text.specs.Room.{lineBytes}

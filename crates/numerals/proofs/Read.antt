@@ -8,11 +8,11 @@ use lib.Dec.{ltb, leb, eqb}
 use borrow.Author.Tests.{lt-ltb, le-ltb, lt-leb, le-leb, leb-true, leb-false}
 use Rattle.rules.specs.Replay.{maxGroups, Taken, took, bad, numberFrom}
 use Rattle.laws.proofs.Tests.{split}
-use Rattle.number.specs.declared.Part.{Part}
-use Rattle.number.specs.declared.Fed.{Fed}
-use Rattle.number.specs.declared.Fed.the-variants.{More, Done, Bad}
-use Rattle.number.specs.Fed.{start, grown, fedBy}
-use Rattle.number.proofs.Weights.{next-weight, weight-grows, group-small}
+use Rattle.numerals.specs.declared.Part.{Part}
+use Rattle.numerals.specs.declared.Fed.{Fed}
+use Rattle.numerals.specs.declared.Fed.the-variants.{More, Done, Bad}
+use Rattle.numerals.specs.Fed.{start, grown, fedBy}
+use Rattle.numerals.proofs.Weights.{next-weight, weight-grows, group-small}
 
 -- ---- the rules' reading, at a last group and at any other
 module _ (n v b : ℕ) (s : List ℕ) where

@@ -4,7 +4,7 @@ ghost use Prim.Native.Nat.{_<_, _^_};
 ghost use lib.ListN.{drop};
 ghost use Rattle.rules.specs.Replay.{maxGroups, encoded};
 ghost use Rattle.output.specs.Wrote.{Wrote};
-ghost use Rattle.number.specs.Fed.{grown, fedBy, scanOf};
+ghost use Rattle.numerals.specs.Fed.{grown, fedBy, scanOf};
 
 // A number of which count groups are read, and their value.
 pub struct Part {

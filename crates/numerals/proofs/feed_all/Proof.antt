@@ -1,12 +1,12 @@
--- `number::feed_all` meets its contract: from each place on, the rest of the bytes makes of the part what all of them make of the first.
+-- `numerals::feed_all` meets its contract: from each place on, the rest of the bytes makes of the part what all of them make of the first.
 use mathlib.Core.Path.{_≡_, refl, _∙_}
 use Prim.Native.Nat.{_-_}
 use lib.ListN.{length, drop}
 use borrow.Author.Needs.{needs}
-use Rattle.number.specs.Fed.{scanOf}
-use Rattle.number.proofs.Scanning.{code-more, code-done, code-bad, code-end}
-use Rattle.number.proofs.feed_all.Statement.{statement}
-use Rattle.number.proofs.feed_all.Tie as tie
+use Rattle.numerals.specs.Fed.{scanOf}
+use Rattle.numerals.proofs.Scanning.{code-more, code-done, code-bad, code-end}
+use Rattle.numerals.proofs.feed_all.Statement.{statement}
+use Rattle.numerals.proofs.feed_all.Tie as tie
 
 abbrev Inv-loop : tie.InvT-loop
 Inv-loop s from part₀ i₀ part i = scanOf part (drop i s) i ≡ scanOf part₀ (drop from s) from

@@ -1,4 +1,4 @@
--- `number::grow` meets its contract: the table of the weights is that of the powers of 128.
+-- `numerals::grow` meets its contract: the table of the weights is that of the powers of 128.
 use mathlib.Core.Path.{_≡_, ap, _∙_}
 use mathlib.Core.List.{List, [], _∷_}
 use Prim.Native.Nat.{ℕ, _+_, _*_, _%_, _^_, _<_}
@@ -8,9 +8,9 @@ use lib.ListN.{getD}
 use borrow.Author.Needs.{needs}
 use Rattle.rules.specs.Words.{tabFrom}
 use Rattle.laws.proofs.Tab.{getD-tab}
-use Rattle.number.proofs.Weights.{grown-small}
-use Rattle.number.proofs.grow.Statement.{statement}
-use Rattle.number.proofs.grow.Tie as tie
+use Rattle.numerals.proofs.Weights.{grown-small}
+use Rattle.numerals.proofs.grow.Statement.{statement}
+use Rattle.numerals.proofs.grow.Tie as tie
 
 abbrev weights : List ℕ
 weights = 1 ∷ 128 ∷ 16384 ∷ 2097152 ∷ 268435456 ∷ []

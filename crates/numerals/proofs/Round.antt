@@ -11,9 +11,9 @@ use lib.ListN.{length, getD}
 use borrow.Author.Tests.{lt-ltb, le-ltb, ltb-true, eq-eqb, ne-eqb, eqb-false}
 use Rattle.rules.specs.Replay.{maxGroups, groups, encoded, took, bad, numberFrom, number}
 use Rattle.laws.proofs.Tests.{split, and-left, and-right, or-by-left, or-by-right, not-of, or-rest, failed}
-use Rattle.number.proofs.Weights.{next-weight}
-use Rattle.number.proofs.Groups.{groups-one, groups-more}
-use Rattle.number.proofs.Read.{last-group, other-group}
+use Rattle.numerals.proofs.Weights.{next-weight}
+use Rattle.numerals.proofs.Groups.{groups-one, groups-more}
+use Rattle.numerals.proofs.Read.{last-group, other-group}
 
 -- x's low group and the others make x
 joined : (x w : ℕ) → x % 128 * w + x / 128 * (w * 128) ≡ x * w

@@ -1,10 +1,10 @@
--- `number::put_number` meets its contract: at each turn, what is written and the groups of the rest are the number's.
+-- `numerals::put_number` meets its contract: at each turn, what is written and the groups of the rest are the number's.
 use borrow.Author.Needs.{needs}
 use native.Mathlib.Omega.{arith}
 use Rattle.output.proofs.Laws.{same-size}
-use Rattle.number.proofs.Groups.{Begun, begin, one-more, end}
-use Rattle.number.proofs.put_number.Statement.{statement}
-use Rattle.number.proofs.put_number.Tie as tie
+use Rattle.numerals.proofs.Groups.{Begun, begin, one-more, end}
+use Rattle.numerals.proofs.put_number.Statement.{statement}
+use Rattle.numerals.proofs.put_number.Tie as tie
 
 abbrev Inv-loop : tie.InvT-loop
 Inv-loop out₀ at v next₀ rest₀ out next rest = Begun out₀ at v next rest out

@@ -6,11 +6,11 @@ use native.Mathlib.Omega.{arith}
 use native.Mathlib.Numerals.{add-one}
 use lib.ListN.{getD, drop, length, drop-of-length-le}
 use lib.Seq.{drop-cons}
-use Rattle.number.specs.declared.Part.{Part}
-use Rattle.number.specs.declared.Fed.{Fed}
-use Rattle.number.specs.declared.Fed.the-variants.{More, Done, Bad}
-use Rattle.number.specs.declared.Scan.{Scan}
-use Rattle.number.specs.Fed.{fedBy, scan, scanOf}
+use Rattle.numerals.specs.declared.Part.{Part}
+use Rattle.numerals.specs.declared.Fed.{Fed}
+use Rattle.numerals.specs.declared.Fed.the-variants.{More, Done, Bad}
+use Rattle.numerals.specs.declared.Scan.{Scan}
+use Rattle.numerals.specs.Fed.{fedBy, scan, scanOf}
 
 module _ (p : Part) (b : ℕ) (s : List ℕ) (i : ℕ) where
   pub scan-more : (q : Part) → fedBy p b ≡ More q → scanOf p (b ∷ s) i ≡ scanOf q s (i + 1)

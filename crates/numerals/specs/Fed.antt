@@ -5,10 +5,10 @@ use mathlib.Core.List.{List, [], _∷_}
 use Prim.Native.Nat.{ℕ, _+_, _*_, _%_, _^_}
 use lib.Dec.{leb, eqb}
 use Rattle.rules.specs.Replay.{maxGroups}
-use Rattle.number.specs.declared.Part.{Part}
-use Rattle.number.specs.declared.Fed.{Fed}
-use Rattle.number.specs.declared.Scan.{Scan}
-use Rattle.number.specs.declared.Fed.the-variants.{More, Done, Bad}
+use Rattle.numerals.specs.declared.Part.{Part}
+use Rattle.numerals.specs.declared.Fed.{Fed}
+use Rattle.numerals.specs.declared.Scan.{Scan}
+use Rattle.numerals.specs.declared.Fed.the-variants.{More, Done, Bad}
 
 -- a number of which nothing is read
 abbrev pub start : Part

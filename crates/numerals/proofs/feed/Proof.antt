@@ -1,9 +1,9 @@
--- `number::feed` meets its contract, way by way.
+-- `numerals::feed` meets its contract, way by way.
 use borrow.Author.Needs.{needs}
 use borrow.Author.Tests.{le-leb, lt-leb}
-use Rattle.number.specs.Fed.{fedBy}
-use Rattle.number.proofs.feed.Statement.{statement}
-use Rattle.number.proofs.feed.Tie as tie
+use Rattle.numerals.specs.Fed.{fedBy}
+use Rattle.numerals.proofs.feed.Statement.{statement}
+use Rattle.numerals.proofs.feed.Tie as tie
 
 returns : tie.Need-returns
 unfolding fedBy
