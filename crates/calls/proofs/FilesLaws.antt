@@ -158,8 +158,8 @@ module _ (h : List ℕ) (r : Addr → ℕ) (p s b : ℕ) (buffer : List ℕ) (k 
 
 -- the word written, at slot i
 pub bits-words : {t : List ℕ} {w : World} → Known t w → (p s b : ℕ) (buffer : List ℕ) (k : Kind) {i : ℕ} → i ≡ indexOf s
-    → set t (offsetBy w (at k i bits)) b ≡ write (configuration t) t (setBitsOf (configuration t) (rd (configuration t) t) p s b buffer k .effects .words)
-bits-words known p s b buffer k {i} slot = rw (spot known (at k i bits), slot)
+    → set t (offsetBy w (at k i (bits k))) b ≡ write (configuration t) t (setBitsOf (configuration t) (rd (configuration t) t) p s b buffer k .effects .words)
+bits-words known p s b buffer k {i} slot = rw (spot known (at k i (bits k)), slot)
 
 module _ (h : List ℕ) (r : Addr → ℕ) (p a b : ℕ) (buffer : List ℕ) {s c : ℕ} (self : s ≡ orSelf r p a) (cl : c ≡ classOf s) where
   at-class : c ≡ classOf (orSelf r p a)

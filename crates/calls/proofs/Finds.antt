@@ -48,12 +48,12 @@ module _ {t : List ℕ} {w : World} (known : Known t w) where
   flows-told k s me ie ce be = be ∙ rw (me, ce, ie, home-is known) (matrix-any (configuration t) (shape known .few-cells) _ _)
 
   pub rights-told : (k : Kind) (i : ℕ) {u g o p b r : ℕ} → u ≡ rdBy w t (at process (w .me) owner) → g ≡ rdBy w t (at process (w .me) group)
-      → o ≡ rdBy w t (at k i owner) → p ≡ rdBy w t (at k i group) → b ≡ rdBy w t (at k i bits) → r ≡ rights u g o p b
+      → o ≡ rdBy w t (at k i owner) → p ≡ rdBy w t (at k i group) → b ≡ rdBy w t (at k i (bits k)) → r ≡ rights u g o p b
       → r ≡ rightsAt (rd (configuration t) t) (w .me) k i
   unfolding rightsAt
   rights-told k i ue ge oe pe be re =
       re
-      ∙ rw (ue, ge, oe, pe, be, see known (at process (w .me) owner), see known (at process (w .me) group), see known (at k i owner), see known (at k i group), see known (at k i bits))
+      ∙ rw (ue, ge, oe, pe, be, see known (at process (w .me) owner), see known (at process (w .me) group), see known (at k i owner), see known (at k i group), see known (at k i (bits k)))
 
   pub own-number : (k : Kind) (s rest : ℕ) {i theirs mine x y e : ℕ} {here there : Bool} → i ≡ indexOf s → theirs ≡ rdBy w t (at k i owner)
       → mine ≡ rdBy w t (at process (w .me) owner) → here ≡ inOwnCell (configuration t) (w .me) k s → there ≡ present (rd (configuration t) t) k s

@@ -7,7 +7,7 @@ use native.Mathlib.Omega.{arith}
 use native.Mathlib.Nat.{mul-le-mul-right}
 use lib.ListN.{getD, set}
 use Rattle.rules.specs.Words.{countBelow}
-use Rattle.rules.specs.Layout.{maxSlots, Kind, process, segment, file, configuration, slots, Addr, at, offset, rd, entries, heldAt, live, serial, owner, group, bits, opens}
+use Rattle.rules.specs.Layout.{maxSlots, Kind, process, segment, file, configuration, slots, Addr, at, offset, rd, entries, heldAt, live, serial, owner, group, opens}
 use Rattle.rules.specs.Seid.{indexOf}
 use Rattle.rules.specs.Rule.{Word, _≔_, write}
 use Rattle.rules.specs.WellFormed.{ownEntry, ownEntries}
@@ -43,7 +43,7 @@ module _ {t : List ℕ} {w : World} (sound : Sound t w) where
 
 -- a new object's record
 pub made-is : (h t : List ℕ) (k : Kind) (i s u g b x y : ℕ) (ws : List Word)
-    → write h t ((at k i live ≔ 1) ∷ (at k i serial ≔ s) ∷ (at k i owner ≔ u) ∷ (at k i group ≔ g) ∷ (at k i bits ≔ b) ∷ (at k i 5 ≔ x) ∷ (at k i 6 ≔ y) ∷ (at k i 7 ≔ 1) ∷ ws)
+    → write h t ((at k i live ≔ 1) ∷ (at k i serial ≔ s) ∷ (at k i owner ≔ u) ∷ (at k i group ≔ g) ∷ (at k i 4 ≔ b) ∷ (at k i 5 ≔ x) ∷ (at k i 6 ≔ y) ∷ (at k i 7 ≔ 1) ∷ ws)
     ≡ write h (madeAt t (offset h (at k i 0)) s u g b x y) ws
 unfolding madeAt fourAt
 made-is h t k i s u g b x y ws =

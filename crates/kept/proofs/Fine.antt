@@ -34,7 +34,7 @@ linked segment x = false
 linked file x = not (eqb x 0)
 
 pub record AliveObject (h : List ℕ) (r : Addr → ℕ) (k : Kind) (i : ℕ) : Type 0 where
-  pub bits-fit : r (at k i bits) ≤ maxBits
+  pub bits-fit : r (at k i (bits k)) ≤ maxBits
   pub particular : Particular h k (r (at k i links)) (r (at k i size))
   pub needed : linked k (r (at k i links)) ≡ false → 1 ≤ r (at k i (holders k))
 

@@ -26,6 +26,11 @@ module _ (h : List ℕ) (r : Addr → ℕ) (p b : ℕ) (buffer : List ℕ) where
   keeps c s k o e =
       let ok = clear (setBitsOf h r p s b buffer k .refusals) (bits-numbered s k o) e in
       let f = found h r k s (ok .1 .0) (ok .1 .1 .1 .0) in
+      let w = object-words k o in
       let x = alive-now h r k o (indexOf s) (c .fine .own k (indexOf s) (f .parts .index-in)) (f .here .is-live) in
-      keeps-word h r (c .fine) k o (indexOf s) (f .parts .index-in) (f .here .is-live) bits b (omega arith) (omega arith)
-      (record { bits-fit = ltb-false maxBits b (ok .0); particular = x .particular; needed = rw (object-words k o .0) (rw (object-words k o .0) at (x .needed)) })
+      keeps-word h r (c .fine) k o (indexOf s) (f .parts .index-in) (f .here .is-live) (bits k) b (omega arith) (omega arith)
+      (record {
+        bits-fit = rw (w .bits-at) (ltb-false maxBits b (ok .0));
+        particular = rw (w .bits-at) (x .particular);
+        needed = rw (w .bits-at, w .holders-at) (rw (w .holders-at) at (x .needed));
+      })

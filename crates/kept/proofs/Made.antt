@@ -2,7 +2,7 @@
 use mathlib.Core.Path.{_≡_, refl, ap}
 use Prim.Native.Nat.{ℕ, _+_, _*_, _≤_, _<_}
 use native.Mathlib.Omega.{arith}
-use Rattle.rules.specs.Layout.{maxSerial, maxOwner, Kind, process, segment, file, recordWords, Addr, at, live, serial, owner, group, entries, heldAt, usedAt, holders}
+use Rattle.rules.specs.Layout.{maxSerial, maxOwner, Kind, process, segment, file, recordWords, Addr, at, live, serial, owner, group, entries, heldAt, usedAt, bits, holders}
 use Rattle.rules.specs.Seid.{class}
 use Rattle.rules.specs.Rule.{over}
 use Rattle.rules.specs.Find.{freed}
@@ -43,10 +43,16 @@ no-process process o e = absurd o
 no-process segment o e = omega (arith, ap class e)
 no-process file o e = omega (arith, ap class e)
 
-pub object-words : (k : Kind) → Object k → (holders k ≡ 7) × (8 ≤ recordWords k)
+-- the words that segments and files have at the same places
+pub record ObjectWords (k : Kind) : Type 0 where
+  pub bits-at : bits k ≡ 4
+  pub holders-at : holders k ≡ 7
+  pub enough : 8 ≤ recordWords k
+
+pub object-words : (k : Kind) → Object k → ObjectWords k
 object-words process o = absurd o
-object-words segment o = (refl, omega arith)
-object-words file o = (refl, omega arith)
+object-words segment o = record { bits-at = refl; holders-at = refl; enough = omega arith }
+object-words file o = record { bits-at = refl; holders-at = refl; enough = omega arith }
 
 -- ---- records made
 

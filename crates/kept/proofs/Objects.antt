@@ -15,7 +15,7 @@ use Rattle.kept.proofs.Keeps.{Keeps, keeps-object}
 
 -- what a live object's words say, with word n as v
 pub record AliveWith (h : List ℕ) (r : Addr → ℕ) (k : Kind) (i n v : ℕ) : Type 0 where
-  pub bits-fit : cond (eqb bits n) v (r (at k i bits)) ≤ maxBits
+  pub bits-fit : cond (eqb (bits k) n) v (r (at k i (bits k))) ≤ maxBits
   pub particular : Particular h k (cond (eqb links n) v (r (at k i links))) (cond (eqb size n) v (r (at k i size)))
   pub needed : linked k (cond (eqb links n) v (r (at k i links))) ≡ false → 1 ≤ cond (eqb (holders k) n) v (r (at k i (holders k)))
 
@@ -33,13 +33,13 @@ module _ (h : List ℕ) (r : Addr → ℕ) (k : Kind) (o : Object k) (i : ℕ) (
       let w = word-if r k i n v in
       live-record _ k i _ (e0 ∙ lives) (omega (arith, old .serial-some lives)) (omega (arith, old .serial-fits)) (omega (arith, old .owner-fits)) (omega (arith, old .group-fits))
       (object-alive h _ k i o
-      (record { bits-fit = rw (w bits) (a .bits-fit); particular = rw (w links, w size) (a .particular); needed = rw (w links, w (holders k)) (a .needed) }))
+      (record { bits-fit = rw (w (bits k)) (a .bits-fit); particular = rw (w links, w size) (a .particular); needed = rw (w links, w (holders k)) (a .needed) }))
 
   pub own-holders : (v : ℕ) → (linked k (r (at k i links)) ≡ false → 1 ≤ v) → Own h (over r ((at k i (holders k) ≔ v) ∷ [])) k i
   own-holders v needed =
       let s = object-words k o in
       own-word (holders k) v (omega arith)
-      (record { bits-fit = rw (s .0) (alive-now .bits-fit); particular = rw (s .0) (alive-now .particular); needed = rw (s .0) needed })
+      (record { bits-fit = rw (s .holders-at, s .bits-at) (rw (s .bits-at) at (alive-now .bits-fit)); particular = rw (s .holders-at) (alive-now .particular); needed = rw (s .holders-at) needed })
 
 pub keeps-word : (h : List ℕ) (r : Addr → ℕ) (w : Fine h r) (k : Kind) → Object k → (i : ℕ) → i < slots h k → r (at k i live) ≡ 1
     → (n v : ℕ) → 4 ≤ n → n < 7 → AliveWith h r k i n v → Keeps h r ((at k i n ≔ v) ∷ [])

@@ -19,7 +19,7 @@ module _ (h : List ℕ) (r q : Addr → ℕ) where
   object-same : (k : Kind) (i : ℕ) → Object k → ((j : ℕ) → j < recordWords k → q (at k i j) ≡ r (at k i j)) → AliveObject h r k i → AliveObject h q k i
   object-same k i o same x =
       let s = object-words k o in
-      let e4 = same bits (omega arith) in
+      let e4 = same (bits k) (omega arith) in
       let e5 = same links (omega arith) in
       let e6 = same size (omega arith) in
       let e7 = same (holders k) (omega arith) in

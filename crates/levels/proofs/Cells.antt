@@ -11,7 +11,7 @@ use lib.Seq.{getD-set-same, set-getD, set-set}
 use borrow.Author.Tests.{lt-ltb, le-ltb, ltb-true, ltb-false}
 use Rattle.rules.specs.Words.{tabFrom}
 use Rattle.rules.specs.Level.{level, flowsTo}
-use Rattle.rules.specs.Layout.{maxCells, headerWords, cellWords, cells, cellWord, levelOf, configuration, flows, flowMatrix}
+use Rattle.rules.specs.Layout.{maxCells, headerWords, cellWords, configurationWords, cells, cellWord, levelOf, configuration, flows, flowMatrix}
 use Rattle.laws.proofs.Tests.{same-test, split}
 use Rattle.laws.proofs.Tab.{length-tab, getD-tab2}
 use Rattle.laws.proofs.Fill.{tab-at, tab-past, tab-any, tab-same, upTo, upTo-more, upTo-all}
@@ -24,7 +24,7 @@ use Rattle.levels.specs.Rule.{ruleLevel, codeLevel}
 cell-past : (t : List ℕ) (c k : ℕ) → cells t ≤ c → 0 ≡ cellWord (configuration t) c k
 unfolding cellWord configuration
 cell-past t c k h =
-    let end : ℕ = headerWords + cellWords * cells t in
+    let end : ℕ = configurationWords t in
     sym (List·getD-eq-default (take end t) 0 (omega (arith, length-take end t)))
 
 -- n is the table's first word, as the code read it

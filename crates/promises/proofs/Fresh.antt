@@ -10,7 +10,7 @@ use lib.ListN.{length, getD, replicate, length-replicate, getD-replicate, length
 use lib.Seq.{length-take-le, getD-append-add, take-at}
 use borrow.Author.Tests.{ne-eqb}
 use Rattle.rules.specs.Claim.{Holds}
-use Rattle.rules.specs.Layout.{maxOwner, process, headerWords, cellWords, cells, slots, cellOwner, cellGroup, configuration, firstSlot, Addr, at, offset, Valid, rd, tableWords, live, serial, owner, group, parent, entries}
+use Rattle.rules.specs.Layout.{maxOwner, process, configurationWords, cells, slots, cellOwner, cellGroup, configuration, firstSlot, Addr, at, offset, Valid, rd, tableWords, live, serial, owner, group, parent, entries}
 use Rattle.rules.specs.WellFormed.{parentOk, ownEntries, ownEntry, lengthsExact, recordsOk, wellFormed}
 use Rattle.rules.specs.Rule.{Word, _≔_, over}
 use Rattle.rules.specs.SetUp.{canSetUp, firstProcesses, freshTable, setUpTable}
@@ -126,7 +126,7 @@ module _ (h : List ℕ) (sh : Shape h) where
 abbrev zeroed : List ℕ → List ℕ
 zeroed h = h ++ replicate (tableWords h - length h) 0
 
-module _ (h : List ℕ) (exact : length h ≡ headerWords + cellWords * cells h) where
+module _ (h : List ℕ) (exact : length h ≡ configurationWords h) where
   zeroed-length : length (zeroed h) ≡ tableWords h
   zeroed-length = omega (arith, length-append h (replicate (tableWords h - length h) 0), length-replicate {A = ℕ} (tableWords h - length h) 0)
 
@@ -168,11 +168,11 @@ module _ (h : List ℕ) (exact : length h ≡ headerWords + cellWords * cells h)
     fresh-serial c l = fresh-reads (at process (firstSlot h process c) serial) (first-in h sh c l, omega arith) ∙ first-serial h sh (cells h) c (omega arith) l
 
 -- a configuration is whole where the table is as long as it says
-taken-length : (t : List ℕ) → headerWords + cellWords * cells t ≤ length t → length (configuration t) ≡ headerWords + cellWords * cells t
+taken-length : (t : List ℕ) → configurationWords t ≤ length t → length (configuration t) ≡ configurationWords t
 unfolding configuration
-taken-length t l = length-take-le (headerWords + cellWords * cells t) t l
+taken-length t l = length-take-le (configurationWords t) t l
 
-whole-configuration : (t : List ℕ) → length t ≡ tableWords (configuration t) → length (configuration t) ≡ headerWords + cellWords * cells (configuration t)
+whole-configuration : (t : List ℕ) → length t ≡ tableWords (configuration t) → length (configuration t) ≡ configurationWords (configuration t)
 whole-configuration t e = rw (conf-cells t) (taken-length t (omega (arith, conf-cells t)))
 
 pub configured-shape : (t : List ℕ) (m : ℕ) → Holds (canSetUp t m) → Shape (configuration t)

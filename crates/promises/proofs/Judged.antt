@@ -42,9 +42,9 @@ opened = seid (class file) 0 2
 -- in use: the first process holds the segment and, to write, the file; the second holds the file to read, and has a message from the first
 abbrev inUse : List Word
 inUse =
-    (at file 0 live ≔ 1) ∷ (at file 0 serial ≔ 2) ∷ (at file 0 owner ≔ 7) ∷ (at file 0 group ≔ 9) ∷ (at file 0 bits ≔ 420) ∷ (at file 0 size ≔ 1)
+    (at file 0 live ≔ 1) ∷ (at file 0 serial ≔ 2) ∷ (at file 0 owner ≔ 7) ∷ (at file 0 group ≔ 9) ∷ (at file 0 (bits file) ≔ 420) ∷ (at file 0 size ≔ 1)
     ∷ (at file 0 opens ≔ 1) ∷ (at process 0 (heldAt file 0) ≔ opened) ∷ (at process 0 (usedAt file 0) ≔ 3)
-    ∷ (at segment 0 live ≔ 1) ∷ (at segment 0 serial ≔ 1) ∷ (at segment 0 owner ≔ 7) ∷ (at segment 0 group ≔ 9) ∷ (at segment 0 bits ≔ 384)
+    ∷ (at segment 0 live ≔ 1) ∷ (at segment 0 serial ≔ 1) ∷ (at segment 0 owner ≔ 7) ∷ (at segment 0 group ≔ 9) ∷ (at segment 0 (bits segment) ≔ 384)
     ∷ (at segment 0 sharable ≔ 1) ∷ (at segment 0 size ≔ 512) ∷ (at segment 0 references ≔ 1)
     ∷ (at process 0 (heldAt segment 3) ≔ shared) ∷ (at process 0 (usedAt segment 3) ≔ 384)
     ∷ (at process 1 (heldAt file 5) ≔ opened) ∷ (at process 1 (usedAt file 5) ≔ 1)

@@ -178,7 +178,7 @@ module _ (h : List ℕ) (r : Addr → ℕ) (st : List ℕ) (k : Call) (p : ℕ) 
         call-9 = λ e ok. later-spared r p (of-given-up p h r file tt caller (k .a) _ (leb-false entries (k .a) (ok .0)));
         call-10 = λ e ok. later-spared r p (object-word p file tt (indexOf given) links _ nil);
         call-11 = λ e ok. later-spared r p (of-unlinked p r (indexOf given));
-        call-12 = λ e. by-bits h r st k P (λ v j o ok. later-spared r p (object-word p j o (indexOf v) bits _ nil));
+        call-12 = λ e. by-bits h r st k P (λ v j o ok. later-spared r p (object-word p j o (indexOf v) (bits j) _ nil));
         call-13 = λ e ok. later-spared r p nil;
         call-14 = λ e ok. later-spared r p (object-word p file tt _ size _ nil);
         call-15 = λ e. by-post;

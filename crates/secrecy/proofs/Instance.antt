@@ -77,7 +77,7 @@ listed = refl
 unfoldable pub secret : Effect
 secret =
     effect 0 0 []
-    ((at process 3 live ≔ 1) ∷ (at process 3 serial ≔ 7) ∷ (at process 3 owner ≔ 5) ∷ (at file 2 live ≔ 1) ∷ (at file 2 serial ≔ 9) ∷ (at file 2 bits ≔ 420)
+    ((at process 3 live ≔ 1) ∷ (at process 3 serial ≔ 7) ∷ (at process 3 owner ≔ 5) ∷ (at file 2 live ≔ 1) ∷ (at file 2 serial ≔ 9) ∷ (at file 2 (bits file) ≔ 420)
     ∷ (at file 2 links ≔ 1) ∷ (at file 2 size ≔ 1) ∷ [])
     (bytesAt 2 0 (1 ∷ 2 ∷ 3 ∷ []) ∷ [])
 

@@ -29,6 +29,11 @@ common process j l = lt-ltb j (recordWords process) (omega (arith, tests))
 common segment j l = l
 common file j l = l
 
+bits-common : (k : Kind) → ltb (bits k) (recordWords k) ≡ true
+bits-common process = refl
+bits-common segment = refl
+bits-common file = refl
+
 -- an entry holds a file or a segment, not a process
 abbrev pub holdable : Kind → Bool
 holdable process = false
@@ -188,7 +193,7 @@ module _ {h : List ℕ} {p : ℕ} {C : ℕ → Bool} {r q : Addr → ℕ} (v : V
         same-me group refl,
         same-below k i owner l (common k owner refl) f,
         same-below k i group l (common k group refl) f,
-        same-below k i bits l (common k bits refl) f,
+        same-below k i (bits k) l (bits-common k) f,
       )
 
   -- ---- searches

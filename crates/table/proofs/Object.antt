@@ -21,13 +21,13 @@ use Rattle.table.proofs.Record.{record-claim}
 
 module _ (t : List ℕ) (n : Header) (shaped : Shaped t n) (i place held : ℕ) where
   pub segment-claim : RecordAt n segment i place → held ≡ ownEntries (configuration t) (rd (configuration t) t) segment i
-      → test (recordOk (recordAt t place) segment 0 (is (leb (getD t (place + bits) 0) maxBits && (leb (getD t (place + sharable) 0) 1 && ((eqb (getD t (place + size) 0 % 512) 0 && (leb 512 (getD t (place + size) 0) && leb (getD t (place + size) 0) 65024)) && leb 1 (getD t (place + references) 0))))))
+      → test (recordOk (recordAt t place) segment 0 (is (leb (getD t (place + bits segment) 0) maxBits && (leb (getD t (place + sharable) 0) 1 && ((eqb (getD t (place + size) 0 % 512) 0 && (leb 512 (getD t (place + size) 0) && leb (getD t (place + size) 0) 65024)) && leb 1 (getD t (place + references) 0))))))
       && eqb (getD t (place + references) 0) held
       ≡ test (segmentOk (configuration t) (rd (configuration t) t) i)
   unfolding segmentOk segmentSize
   segment-claim lies e =
       rw (
-        record-word t n shaped segment i bits place lies,
+        record-word t n shaped segment i (bits segment) place lies,
         record-word t n shaped segment i sharable place lies,
         record-word t n shaped segment i size place lies,
         record-word t n shaped segment i references place lies,
@@ -36,13 +36,13 @@ module _ (t : List ℕ) (n : Header) (shaped : Shaped t n) (i place held : ℕ) 
       (ap (λ (b : Bool). b && eqb (rd (configuration t) t (at segment i references)) (ownEntries (configuration t) (rd (configuration t) t) segment i)) (record-claim t n shaped segment i place _ lies))
 
   pub file-claim : RecordAt n file i place → held ≡ ownEntries (configuration t) (rd (configuration t) t) file i
-      → test (recordOk (recordAt t place) file 0 (is (leb (getD t (place + bits) 0) maxBits && (leb (getD t (place + links) 0) maxLinks && (leb (getD t (place + size) 0) (n .blocks) && leb 1 (getD t (place + links) 0 + getD t (place + opens) 0))))))
+      → test (recordOk (recordAt t place) file 0 (is (leb (getD t (place + bits file) 0) maxBits && (leb (getD t (place + links) 0) maxLinks && (leb (getD t (place + size) 0) (n .blocks) && leb 1 (getD t (place + links) 0 + getD t (place + opens) 0))))))
       && eqb (getD t (place + opens) 0) held
       ≡ test (fileOk (configuration t) (rd (configuration t) t) i)
   unfolding fileOk
   file-claim lies e =
       rw (
-        record-word t n shaped file i bits place lies,
+        record-word t n shaped file i (bits file) place lies,
         record-word t n shaped file i links place lies,
         record-word t n shaped file i size place lies,
         record-word t n shaped file i opens place lies,
