@@ -25,49 +25,49 @@ use Rattle.rules.specs.Call16.{receive}
 use Rattle.rules.specs.Call17.{statusOf}
 use Rattle.rules.specs.Call18.{accessOf}
 use Rattle.rules.specs.Step.{Call, ruleOf}
-use Rattle.kept.proofs.Fine.{Object}
-use Rattle.kept.proofs.Refusals.{without}
+use Rattle.laws.proofs.Object.{Object}
+use Rattle.laws.proofs.Refusals.{without}
 use Rattle.kept.proofs.Keeps.{KeptBy, Caller, keeps-none}
-use Rattle.kept.proofs.K01
-use Rattle.kept.proofs.K02
-use Rattle.kept.proofs.K03
-use Rattle.kept.proofs.K04
-use Rattle.kept.proofs.K05
-use Rattle.kept.proofs.K06
-use Rattle.kept.proofs.K07
-use Rattle.kept.proofs.K08
-use Rattle.kept.proofs.K09
-use Rattle.kept.proofs.K10
-use Rattle.kept.proofs.K11
-use Rattle.kept.proofs.K12
-use Rattle.kept.proofs.K14
-use Rattle.kept.proofs.K15
-use Rattle.kept.proofs.K16
-use Rattle.kept.proofs.Codes.{by-code, by-bits, by-status}
+use Rattle.kept.proofs.Keep01
+use Rattle.kept.proofs.Keep02
+use Rattle.kept.proofs.Keep03
+use Rattle.kept.proofs.Keep04
+use Rattle.kept.proofs.Keep05
+use Rattle.kept.proofs.Keep06
+use Rattle.kept.proofs.Keep07
+use Rattle.kept.proofs.Keep08
+use Rattle.kept.proofs.Keep09
+use Rattle.kept.proofs.Keep10
+use Rattle.kept.proofs.Keep11
+use Rattle.kept.proofs.Keep12
+use Rattle.kept.proofs.Keep14
+use Rattle.kept.proofs.Keep15
+use Rattle.kept.proofs.Keep16
+use Rattle.laws.proofs.Codes.{by-code, by-bits, by-status}
 
 module _ (h : List ℕ) (r : Addr → ℕ) (st : List ℕ) (k : Call) where
   pub keeps : Caller h r (k .caller) → KeptBy h r (ruleOf h r st k)
   unfolding readBlock accessOf
   keeps me =
       let p = k .caller in
-      by-code h r st k (KeptBy h r) (record {
-        call-1 = λ e. K01.keeps h r p me (k .a) (k .b) (k .buffer);
-        call-2 = λ e. K02.keeps h r p me (k .a) (k .buffer);
-        call-3 = λ e. K03.keeps h r p me (k .a) (k .b) (k .c) (k .buffer);
-        call-4 = λ e. K04.keeps h r p me (k .a) (k .b) (k .buffer);
-        call-5 = λ e. K05.keeps h r p me (k .a) (k .buffer);
-        call-6 = λ e. K06.keeps h r p me (k .a) (k .b) (k .buffer);
-        call-7 = λ e. K07.keeps h r p me (k .a) (k .b) (k .buffer);
-        call-8 = λ e. K08.keeps h r p me (k .a) (k .b) (k .buffer);
-        call-9 = λ e. K09.keeps h r p me (k .a) (k .buffer);
-        call-10 = λ e. K10.keeps h r p me (k .a) (k .buffer);
-        call-11 = λ e. K11.keeps h r p me (k .a) (k .buffer);
-        call-12 = λ e. by-bits h r st k (KeptBy h r) (K12.keeps h r p (k .b) (k .buffer) me);
+      by-code h k (λ f. KeptBy h r (f r st)) (record {
+        call-1 = λ e. Keep01.keeps h r p me (k .a) (k .b) (k .buffer);
+        call-2 = λ e. Keep02.keeps h r p me (k .a) (k .buffer);
+        call-3 = λ e. Keep03.keeps h r p me (k .a) (k .b) (k .c) (k .buffer);
+        call-4 = λ e. Keep04.keeps h r p me (k .a) (k .b) (k .buffer);
+        call-5 = λ e. Keep05.keeps h r p me (k .a) (k .buffer);
+        call-6 = λ e. Keep06.keeps h r p me (k .a) (k .b) (k .buffer);
+        call-7 = λ e. Keep07.keeps h r p me (k .a) (k .b) (k .buffer);
+        call-8 = λ e. Keep08.keeps h r p me (k .a) (k .b) (k .buffer);
+        call-9 = λ e. Keep09.keeps h r p me (k .a) (k .buffer);
+        call-10 = λ e. Keep10.keeps h r p me (k .a) (k .buffer);
+        call-11 = λ e. Keep11.keeps h r p me (k .a) (k .buffer);
+        call-12 = λ e. by-bits h r k (KeptBy h r) (Keep12.keeps h r p (k .b) (k .buffer) me);
         call-13 = λ e x. keeps-none h r (me .fine);
-        call-14 = λ e. K14.keeps h r p me (k .a) (k .b) (k .buffer);
-        call-15 = λ e. K15.keeps h r p me (k .a) (k .buffer);
-        call-16 = λ e. K16.keeps h r p me (k .buffer);
-        call-17 = λ e. by-status h r st k (KeptBy h r) (λ s j x. keeps-none h r (me .fine));
+        call-14 = λ e. Keep14.keeps h r p me (k .a) (k .b) (k .buffer);
+        call-15 = λ e. Keep15.keeps h r p me (k .a) (k .buffer);
+        call-16 = λ e. Keep16.keeps h r p me (k .buffer);
+        call-17 = λ e. by-status h r k (KeptBy h r) (λ s j x. keeps-none h r (me .fine));
         call-18 = λ e x. keeps-none h r (me .fine);
         other = λ x. keeps-none h r (me .fine);
       })
@@ -77,7 +77,7 @@ module _ (h : List ℕ) (r : Addr → ℕ) (st : List ℕ) (k : Call) where
   unfolding spawn releaseProcess buildSegment rendezvous releaseSegment setAccess create openFile close link unlink readBlock writeBlock post receive accessOf
   numbers =
       let P : Rule → Type 0 = λ x. without XbTab (x .refusals) ≡ true in
-      by-code h r st k P (record {
+      by-code h k (λ f. P (f r st)) (record {
         call-1 = λ e. refl;
         call-2 = λ e. refl;
         call-3 = λ e. refl;
@@ -89,12 +89,12 @@ module _ (h : List ℕ) (r : Addr → ℕ) (st : List ℕ) (k : Call) where
         call-9 = λ e. refl;
         call-10 = λ e. refl;
         call-11 = λ e. refl;
-        call-12 = λ e. by-bits h r st k P bits-numbers;
+        call-12 = λ e. by-bits h r k P bits-numbers;
         call-13 = λ e. refl;
         call-14 = λ e. refl;
         call-15 = λ e. refl;
         call-16 = λ e. refl;
-        call-17 = λ e. by-status h r st k P status-numbers;
+        call-17 = λ e. by-status h r k P status-numbers;
         call-18 = λ e. refl;
         other = refl;
       })

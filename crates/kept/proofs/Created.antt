@@ -15,14 +15,16 @@ use Rattle.laws.proofs.Seids.{class-seid, index-seid, serial-seid, made-formed,
 use Rattle.laws.proofs.Shape.{in-run}
 use Rattle.laws.proofs.Written.{AllOf, nil}
 use Rattle.levels.proofs.Flow.{reflexive}
-use Rattle.kept.proofs.Fine.{Object, Particular, Own, object-alive}
+use Rattle.laws.proofs.Object.{Object}
+use Rattle.kept.proofs.Fine.{Particular, Own, object-alive}
 use Rattle.kept.proofs.Records.{InRecord, word-in, same-record}
 use Rattle.kept.proofs.Counting.{named-is, empty-named}
 use Rattle.kept.proofs.Made.{object-words, live-record}
 use Rattle.kept.proofs.OneEntry.{Fresh}
 use Rattle.kept.proofs.Keeps.{Keeps, Caller}
 use Rattle.kept.proofs.Exchange.{object-first}
-use Rattle.kept.proofs.Found.{FreeSlot, FreeEntry}
+use Rattle.laws.proofs.Slots.{FreeSlot}
+use Rattle.kept.proofs.Found.{FreeEntry}
 use Rattle.kept.proofs.Entries.{new-entry}
 
 -- ---- a cell flows to itself

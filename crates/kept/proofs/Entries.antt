@@ -16,11 +16,12 @@ use Rattle.laws.proofs.Tests.{cond-both, and-left, both-ways}
 use Rattle.laws.proofs.Seids.{class-pos, class-some, is-formed}
 use Rattle.laws.proofs.Shape.{Held, Entry}
 use Rattle.laws.proofs.Written.{AllOf, nil, all-if}
-use Rattle.kept.proofs.Fine.{Object, linked, Own, Fine}
-use Rattle.kept.proofs.Refusals.{clear}
+use Rattle.laws.proofs.Object.{Object, no-process}
+use Rattle.kept.proofs.Fine.{linked, Own, Fine}
+use Rattle.laws.proofs.Refusals.{clear}
 use Rattle.kept.proofs.Records.{InRecord, in-first, word-in, word-at, word-past, freed-in, freed-serial, freed-word}
 use Rattle.kept.proofs.Counting.{one, named-is, named-counted, not-named, empty-named}
-use Rattle.kept.proofs.Made.{no-process, object-words, freed-record}
+use Rattle.kept.proofs.Made.{object-words, freed-record}
 use Rattle.kept.proofs.OneEntry.{Fresh}
 use Rattle.kept.proofs.Keeps.{Keeps, Caller}
 use Rattle.kept.proofs.Exchange.{entry-first, entered-in, entered-held, entered-beside}

@@ -12,10 +12,11 @@ use Rattle.rules.specs.Find.{entered}
 use Rattle.laws.proofs.Seids.{class-pos, class-some}
 use Rattle.laws.proofs.Shape.{Entry}
 use Rattle.laws.proofs.Written.{AllOf, nil, all-append, hit, miss}
-use Rattle.kept.proofs.Fine.{Object, Own, Fine}
+use Rattle.laws.proofs.Object.{Object, no-process}
+use Rattle.kept.proofs.Fine.{Own, Fine}
 use Rattle.kept.proofs.Records.{InRecord, word-in, apart-word, all-valid, in-first, in-second, in-neither}
 use Rattle.kept.proofs.Counting.{one, not-named}
-use Rattle.kept.proofs.Made.{placed, no-process}
+use Rattle.kept.proofs.Made.{placed}
 use Rattle.kept.proofs.Readings.{Steady, own-same}
 use Rattle.kept.proofs.OneEntry.{Fresh, entry-changed, EntryChanged, entry-grown}
 use Rattle.kept.proofs.Keeps.{Keeps}

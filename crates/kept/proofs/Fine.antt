@@ -11,13 +11,8 @@ use Rattle.rules.specs.Claim.{Claim, Holds}
 use Rattle.rules.specs.Layout.{maxBits, maxLinks, Kind, process, segment, file, recordWords, slots, blocks, cellOf, Addr, at, live, parent, queue, zero6, zero7, entries, heldAt, usedAt, messages, messageWords, messageAt, bits, size, links, opens, holders}
 use Rattle.rules.specs.WellFormed.{recordOk, currentOk, entryOk, parentOk, heldOnce, messageOk, processOk, ownEntries, segmentSize, segmentOk, fileOk, recordsOk}
 use Rattle.laws.proofs.Tests.{not-of, failed, passed}
+use Rattle.laws.proofs.Object.{Object}
 use Rattle.laws.proofs.Shape.{Record, Held, held-of, held-holds, Entry, LiveProcess, process-record, segment-record, file-record, descriptor, designator, references-counted, opens-counted}
-
--- the kinds that entries hold
-abbrev pub Object : Kind → Type 0
-Object process = ⊥
-Object segment = Unit {0}
-Object file = Unit {0}
 
 -- ---- a live record's own words
 

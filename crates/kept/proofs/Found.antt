@@ -10,11 +10,11 @@ use Rattle.rules.specs.Words.{lowest}
 use Rattle.rules.specs.Layout.{maxSerial, Kind, process, cells, slots, cellSlots, firstSlot, cellOf, Addr, at, live, serial, entries, heldAt}
 use Rattle.rules.specs.Seid.{class, formed, isSeid, indexOf, seidAt, present}
 use Rattle.rules.specs.Find.{inOwnCell, freeSlot, noSlot, freeEntry, noEntry}
-use Rattle.laws.proofs.Tests.{and-left, and-right, passed}
-use Rattle.laws.proofs.Search.{lowest-ge, lowest-hit}
+use Rattle.laws.proofs.Tests.{passed}
+use Rattle.laws.proofs.Search.{lowest-hit}
 use Rattle.laws.proofs.Seids.{index-seid, serial-seid, Formed, is-formed, made-formed, Present, is-present}
-use Rattle.laws.proofs.Cells.{cell-run, run-end}
 use Rattle.laws.proofs.Shape.{in-run}
+use Rattle.laws.proofs.Slots.{FreeSlot, free-slot}
 use Rattle.kept.proofs.Keeps.{Caller}
 
 -- a seid that names an object
@@ -54,34 +54,10 @@ module _ (h : List ℕ) (r : Addr → ℕ) (p : ℕ) (me : Caller h r p) where
         here = record { is-live = rw own-index (me .alive); same-serial = rw own-index (sym (serial-seid (class process) p its-serial small fits)) };
       }
 
--- the slot that a search finds, whatever the configuration
-pub slot-found : (h : List ℕ) (r : Addr → ℕ) (k : Kind) (c : ℕ) → noSlot h r k c ≡ false
-    → (r (at k (freeSlot h r k c) live) ≡ 0) × (r (at k (freeSlot h r k c) serial) < maxSerial)
-unfolding freeSlot
-slot-found h r k c n =
-    let test : ℕ → Bool = λ i. eqb (r (at k i live)) 0 && ltb (r (at k i serial)) maxSerial in
-    let i : ℕ = lowest test (cellSlots h k c) (firstSlot h k c) in
-    let is = lowest-hit test (cellSlots h k c) (firstSlot h k c) (leb-false (firstSlot h k c + cellSlots h k c) i n) in
-    (eqb-true _ 0 (and-left (eqb (r (at k i live)) 0) (ltb (r (at k i serial)) maxSerial) is), ltb-true _ maxSerial (and-right (eqb (r (at k i live)) 0) (ltb (r (at k i serial)) maxSerial) is))
-
--- slot i of cell c can be taken
-pub record FreeSlot (h : List ℕ) (r : Addr → ℕ) (k : Kind) (c i : ℕ) : Type 0 where
-  pub in-range : i < slots h k
-  pub in-cell : cellOf h k i ≡ c
-  pub is-free : r (at k i live) ≡ 0
-  pub not-worn : r (at k i serial) < maxSerial
-
-pub free-slot : (h : List ℕ) (r : Addr → ℕ) (p : ℕ) → Caller h r p → (k : Kind) → noSlot h r k (cellOf h process p) ≡ false
+-- a free slot of the caller's cell
+pub own-slot : (h : List ℕ) (r : Addr → ℕ) (p : ℕ) → Caller h r p → (k : Kind) → noSlot h r k (cellOf h process p) ≡ false
     → FreeSlot h r k (cellOf h process p) (freeSlot h r k (cellOf h process p))
-unfolding freeSlot
-free-slot h r p me k n =
-    let c : ℕ = cellOf h process p in
-    let l : c < cells h = in-run h (me .shape) process p (me .in-range) .0 in
-    let i : ℕ = freeSlot h r k c in
-    let lo : firstSlot h k c ≤ i = lowest-ge _ (cellSlots h k c) (firstSlot h k c) in
-    let hi : i < firstSlot h k c + cellSlots h k c = leb-false (firstSlot h k c + cellSlots h k c) i n in
-    let is = slot-found h r k c n in
-    record { in-range = omega (arith, run-end h k c l, me .shape .sums k); in-cell = cell-run h k i c l lo hi; is-free = is .0; not-worn = is .1 }
+own-slot h r p me = free-slot h r (me .shape) (cellOf h process p) (in-run h (me .shape) process p (me .in-range) .0)
 
 -- entry d of process p is empty
 pub record FreeEntry (r : Addr → ℕ) (k : Kind) (p d : ℕ) : Type 0 where

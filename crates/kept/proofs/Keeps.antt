@@ -7,7 +7,8 @@ use Rattle.rules.specs.Layout.{Kind, process, slots, Addr, at, live}
 use Rattle.rules.specs.Rule.{Word, over, Rule, firstRefusal}
 use Rattle.laws.proofs.Shape.{Shape}
 use Rattle.laws.proofs.Written.{AllOf, nil, all-append, Valids, over-append}
-use Rattle.kept.proofs.Fine.{Object, Fine}
+use Rattle.laws.proofs.Object.{Object}
+use Rattle.kept.proofs.Fine.{Fine}
 use Rattle.kept.proofs.Records.{InRecord, all-valid}
 use Rattle.kept.proofs.Readings.{Grown}
 use Rattle.kept.proofs.OneProcess.{process-grown, ProcessChanged, process-changed}

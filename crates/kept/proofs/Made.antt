@@ -1,13 +1,12 @@
 -- Places in a record, and records made of their words.
-use mathlib.Core.Path.{_≡_, refl, ap}
+use mathlib.Core.Path.{_≡_, refl}
 use Prim.Native.Nat.{ℕ, _+_, _*_, _≤_, _<_}
 use native.Mathlib.Omega.{arith}
 use Rattle.rules.specs.Layout.{maxSerial, maxOwner, Kind, process, segment, file, recordWords, Addr, at, live, serial, owner, group, entries, heldAt, usedAt, bits, holders}
-use Rattle.rules.specs.Seid.{class}
 use Rattle.rules.specs.Rule.{over}
 use Rattle.rules.specs.Find.{freed}
 use Rattle.laws.proofs.Shape.{Record}
-use Rattle.kept.proofs.Fine.{Object}
+use Rattle.laws.proofs.Object.{Object}
 use Rattle.kept.proofs.Records.{words-some, freed-serial, freed-word}
 
 -- ---- places in a record
@@ -37,11 +36,6 @@ place-apart segment file o s e d el dl n q = omega arith
 place-apart file process o s e d el dl n q = absurd s
 place-apart file segment o s e d el dl n q = omega arith
 place-apart file file o s e d el dl n q = n refl (omega arith)
-
-pub no-process : (k : Kind) → Object k → k ≡ process → ⊥
-no-process process o e = absurd o
-no-process segment o e = omega (arith, ap class e)
-no-process file o e = omega (arith, ap class e)
 
 -- the words that segments and files have at the same places
 pub record ObjectWords (k : Kind) : Type 0 where

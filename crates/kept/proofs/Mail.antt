@@ -7,7 +7,8 @@ use Rattle.rules.specs.Layout.{Kind, process, segment, slots, cellOf, Addr, at,
 use Rattle.rules.specs.Rule.{Word, over}
 use Rattle.laws.proofs.Shape.{Held}
 use Rattle.laws.proofs.Written.{AllOf}
-use Rattle.kept.proofs.Fine.{Object, Fine}
+use Rattle.laws.proofs.Object.{Object}
+use Rattle.kept.proofs.Fine.{Fine}
 use Rattle.kept.proofs.Records.{InRecord, elsewhere}
 use Rattle.kept.proofs.Made.{placed}
 use Rattle.kept.proofs.Readings.{live-process}

@@ -8,7 +8,8 @@ use lib.Dec.{eqb}
 use Rattle.rules.specs.Layout.{maxBits, Kind, slots, Addr, at, live, serial, owner, group, bits, links, size, holders}
 use Rattle.rules.specs.Rule.{_≔_, over}
 use Rattle.laws.proofs.Written.{nil}
-use Rattle.kept.proofs.Fine.{Object, Particular, linked, AliveObject, Own, Fine, object-alive, alive-object}
+use Rattle.laws.proofs.Object.{Object}
+use Rattle.kept.proofs.Fine.{Particular, linked, AliveObject, Own, Fine, object-alive, alive-object}
 use Rattle.kept.proofs.Records.{word-in, word-if, word-past, elsewhere}
 use Rattle.kept.proofs.Made.{object-words, live-record}
 use Rattle.kept.proofs.Keeps.{Keeps, keeps-object}

@@ -9,10 +9,11 @@ use Rattle.rules.specs.Layout.{Kind, process, segment, file, slots, Addr, at, l
 use Rattle.rules.specs.Seid.{class, indexOf}
 use Rattle.rules.specs.WellFormed.{ownEntry, ownEntries}
 use Rattle.laws.proofs.Seids.{is-formed}
-use Rattle.kept.proofs.Fine.{Object, AliveProcess, Own, EntryAt, Fine}
+use Rattle.laws.proofs.Object.{Object, no-process}
+use Rattle.kept.proofs.Fine.{AliveProcess, Own, EntryAt, Fine}
 use Rattle.kept.proofs.Records.{by-kind, by-slot, by-record}
 use Rattle.kept.proofs.Counting.{one, named-is, named-counted, count-all, count-entry}
-use Rattle.kept.proofs.Made.{place, placed, place-apart, no-process}
+use Rattle.kept.proofs.Made.{place, placed, place-apart}
 use Rattle.kept.proofs.Readings.{own-same, live-process, Grown, Steady, held-kept, entry-kept, same-steady}
 
 -- a segment s entered at d anew is held by no other entry of process p

@@ -6,10 +6,10 @@ use native.Mathlib.Omega.{arith}
 use Rattle.rules.specs.Layout.{Kind, process, slots, cellOf, Addr, at, live, serial, queue, entries, heldAt, usedAt, messageAt, holders}
 use Rattle.rules.specs.Seid.{indexOf}
 use Rattle.laws.proofs.Seids.{is-formed}
-use Rattle.kept.proofs.Fine.{Object, Own, Fine}
+use Rattle.laws.proofs.Object.{Object, no-process}
+use Rattle.kept.proofs.Fine.{Own, Fine}
 use Rattle.kept.proofs.Records.{by-record}
 use Rattle.kept.proofs.Counting.{named-is, named-counted, count-all}
-use Rattle.kept.proofs.Made.{no-process}
 use Rattle.kept.proofs.Readings.{own-same, Grown, Steady, held-kept, entry-kept, same-steady}
 
 module _ (h : List ℕ) (r q : Addr → ℕ) where

@@ -5,10 +5,10 @@ use Prim.Native.Nat.{ℕ, _≤_, _<_}
 use native.Mathlib.Omega.{arith}
 use Rattle.rules.specs.Layout.{Kind, process, slots, cellOf, Addr, at, serial, queue, entries, heldAt, usedAt, messageAt, holders}
 use Rattle.laws.proofs.Shape.{Held, Entry}
-use Rattle.kept.proofs.Fine.{Object, Own, EntryAt, Fine}
+use Rattle.laws.proofs.Object.{Object, no-process}
+use Rattle.kept.proofs.Fine.{Own, EntryAt, Fine}
 use Rattle.kept.proofs.Records.{by-slot, by-record}
 use Rattle.kept.proofs.Counting.{count-all}
-use Rattle.kept.proofs.Made.{no-process}
 use Rattle.kept.proofs.Readings.{own-same, Grown, held-kept, entry-kept, same-steady}
 
 module _ (h : List ℕ) (r q : Addr → ℕ) where

@@ -8,7 +8,8 @@ use Rattle.rules.specs.Layout.{Kind, process, segment, file, recordWords, slots
 use Rattle.rules.specs.Seid.{indexOf}
 use Rattle.laws.proofs.Seids.{is-formed}
 use Rattle.laws.proofs.Shape.{Held, Entry}
-use Rattle.kept.proofs.Fine.{Object, AliveObject, AliveProcess, Alive, Own, Fine}
+use Rattle.laws.proofs.Object.{Object}
+use Rattle.kept.proofs.Fine.{AliveObject, AliveProcess, Alive, Own, Fine}
 use Rattle.kept.proofs.Records.{words-some}
 use Rattle.kept.proofs.Counting.{count-all}
 use Rattle.kept.proofs.Made.{placed, object-words, live-record}

@@ -19,7 +19,7 @@ use Rattle.laws.proofs.Shape.{Good, good-of}
 use Rattle.laws.proofs.Stored.{length-store}
 use Rattle.laws.proofs.Written.{rd-write, conf-write, length-write}
 use Rattle.kept.proofs.Fine.{Fine, fine-of, fine-holds}
-use Rattle.kept.proofs.Refusals.{clear-first, never}
+use Rattle.laws.proofs.Refusals.{clear-first, never}
 use Rattle.kept.proofs.Records.{words-some}
 use Rattle.kept.proofs.Readings.{same-fine}
 use Rattle.kept.proofs.Keeps.{Keeps, Caller}

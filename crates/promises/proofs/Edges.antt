@@ -23,8 +23,8 @@ use Rattle.rules.specs.Step.{State, Call, step, badCode, ruleOf}
 use Rattle.laws.proofs.Tests.{refuted, both-ways, cond-false}
 use Rattle.laws.proofs.Seids.{class-some, is-formed}
 use Rattle.levels.proofs.Flow.{flows-says, flows-when, reflexive}
-use Rattle.kept.proofs.Refusals.{Clear}
-use Rattle.kept.proofs.Found.{slot-found}
+use Rattle.laws.proofs.Refusals.{Clear}
+use Rattle.laws.proofs.Slots.{slot-untaken}
 use Rattle.promises.proofs.Refusals.{Untouched, goes-on}
 use Rattle.promises.proofs.Stale.{stale-post}
 
@@ -165,7 +165,7 @@ edges = record {
   others = λ u g owner group x y. rw (others-420 u g owner group x y);
   modes-9 = refl;
   modes-11 = refl;
-  worn = λ h r k c i n e q. omega (arith, slot-found h r k c n .1, ap (λ (j : ℕ). r (at k j serial)) q);
+  worn = λ h r k c i n e q. omega (arith, slot-untaken h r k c n .not-worn, ap (λ (j : ℕ). r (at k j serial)) q);
   passed-over = second-taken;
   post-up = dropped-above;
 }

@@ -20,7 +20,7 @@ use Rattle.rules.specs.Step.{State, Call, step, next, run, badCode, ruleOf, who
 use Rattle.laws.proofs.Tests.{and-left, and-right, and-both, passed, both-ways, split, cond-true, cond-false}
 use Rattle.laws.proofs.Shape.{good-of}
 use Rattle.kept.proofs.Fine.{fine-of}
-use Rattle.kept.proofs.K16.{taken, taken-past, taken-length, taken-later}
+use Rattle.kept.proofs.Keep16.{taken, taken-past, taken-length, taken-later}
 use Rattle.kept.proofs.Kept.{Well, kept, conf-kept}
 use Rattle.promises.proofs.Refusals.{own, own-clear, goes-on, done, refused}
 use Rattle.promises.proofs.After.{its-caller, read-after}

@@ -30,18 +30,18 @@ use Rattle.rules.specs.Call18.{accessOf}
 use Rattle.rules.specs.Step.{Call, ruleOf}
 use Rattle.laws.proofs.Tests.{and-right, cond-both}
 use Rattle.laws.proofs.Written.{AllOf, nil, also, all-append, all-if, all-map, over-miss}
-use Rattle.kept.proofs.Fine.{Object}
-use Rattle.kept.proofs.Refusals.{Clear}
+use Rattle.laws.proofs.Object.{Object, no-process}
+use Rattle.laws.proofs.Refusals.{Clear}
 use Rattle.kept.proofs.Records.{InRecord, word-in, freed-in}
-use Rattle.kept.proofs.Made.{placed, no-process, object-words}
+use Rattle.kept.proofs.Made.{placed, object-words}
 use Rattle.kept.proofs.Keeps.{Caller}
-use Rattle.kept.proofs.Found.{free-slot, free-entry}
+use Rattle.kept.proofs.Found.{own-slot, free-entry}
 use Rattle.kept.proofs.Entries.{less-in}
 use Rattle.kept.proofs.Created.{made-in}
-use Rattle.kept.proofs.K01.{spawned-in}
-use Rattle.kept.proofs.K15.{queued-in, queued-past, queued-length}
-use Rattle.kept.proofs.K16.{taken-in}
-use Rattle.kept.proofs.Codes.{by-code, by-bits, by-status}
+use Rattle.kept.proofs.Keep01.{spawned-in}
+use Rattle.kept.proofs.Keep15.{queued-in, queued-past, queued-length}
+use Rattle.kept.proofs.Keep16.{taken-in}
+use Rattle.laws.proofs.Codes.{by-code, by-bits, by-status}
 
 -- ---- writes that leave process p as it is, but for its entries
 
@@ -146,7 +146,7 @@ module _ (h : List ℕ) (r : Addr → ℕ) (st : List ℕ) (k : Call) (p : ℕ) 
   unfolding spawn
   by-spawn ok =
       let q = freeSlot h r process (cellOf h process caller) in
-      let f = free-slot h r caller me process (ok .1 .1 .0) in
+      let f = own-slot h r caller me process (ok .1 .1 .0) in
       of-other p q (λ e. omega (arith, f .is-free, ap (λ (i : ℕ). r (at process i live)) e))
       (spawned-in r caller (k .a) (k .b) q (r (at process q serial) + 1))
 
@@ -166,7 +166,7 @@ module _ (h : List ℕ) (r : Addr → ℕ) (st : List ℕ) (k : Call) (p : ℕ) 
   unfolding releaseProcess buildSegment rendezvous releaseSegment setAccess create openFile close link unlink readBlock writeBlock receive accessOf
   later x y =
       let P : Rule → Type 0 = λ z. Clear (z .refusals) → Later r (over r (z .effects .words)) p in
-      by-code h r st k P (record {
+      by-code h k (λ f. P (f r st)) (record {
         call-1 = λ e ok. later-spared r p (by-spawn ok);
         call-2 = λ e ok. later-spared r p (of-released p h r (indexOf given) (x e));
         call-3 = λ e ok. later-spared r p (all-append _ (of-object p segment tt (freeSlot h r segment (cellOf h process caller)) (made-in segment tt _ _ _ _ _ _ _)) (of-entry p segment tt caller (freeEntry r segment caller) _ _ (free-entry r segment caller (ok .1 .1 .0) .in-record)));
@@ -178,12 +178,12 @@ module _ (h : List ℕ) (r : Addr → ℕ) (st : List ℕ) (k : Call) (p : ℕ) 
         call-9 = λ e ok. later-spared r p (of-given-up p h r file tt caller (k .a) _ (leb-false entries (k .a) (ok .0)));
         call-10 = λ e ok. later-spared r p (object-word p file tt (indexOf given) links _ nil);
         call-11 = λ e ok. later-spared r p (of-unlinked p r (indexOf given));
-        call-12 = λ e. by-bits h r st k P (λ v j o ok. later-spared r p (object-word p j o (indexOf v) (bits j) _ nil));
+        call-12 = λ e. by-bits h r k P (λ v j o ok. later-spared r p (object-word p j o (indexOf v) (bits j) _ nil));
         call-13 = λ e ok. later-spared r p nil;
         call-14 = λ e ok. later-spared r p (object-word p file tt _ size _ nil);
         call-15 = λ e. by-post;
         call-16 = λ e ok. later-spared r p (of-other p caller (y e) (taken-in r caller));
-        call-17 = λ e. by-status h r st k P (λ v j ok. later-spared r p nil);
+        call-17 = λ e. by-status h r k P (λ v j ok. later-spared r p nil);
         call-18 = λ e ok. later-spared r p nil;
         other = λ ok. later-spared r p nil;
       })

@@ -33,9 +33,9 @@ use Rattle.rules.specs.Call17.{statusOf}
 use Rattle.rules.specs.Call18.{accessOf}
 use Rattle.laws.proofs.Tests.{cond-true, cond-false, cond-both, split}
 use Rattle.laws.proofs.Claims.{tested}
-use Rattle.kept.proofs.Refusals.{Clear, numbered, clear}
-use Rattle.kept.proofs.K12.{bits-numbered}
-use Rattle.kept.proofs.Codes.{by-code, by-bits, by-status}
+use Rattle.laws.proofs.Refusals.{Clear, numbered, clear}
+use Rattle.kept.proofs.Keep12.{bits-numbered}
+use Rattle.laws.proofs.Codes.{by-code, by-bits, by-status}
 
 -- the refusals of a call in their order, those of all calls first; and what it does where none of them holds
 abbrev pub refusals : State → Call → List Refusal
@@ -112,7 +112,7 @@ module _ (s : State) (k : Call) where
   unfolding wholeRule spawn releaseProcess buildSegment rendezvous releaseSegment setAccess create openFile close link unlink readBlock writeBlock post receive accessOf
   all-numbered =
       let P : Rule → Type 0 = λ x. numbered (x .refusals) ≡ true in
-      by-code conf reading (s .store) k P (record {
+      by-code conf k (λ f. P (f reading (s .store))) (record {
         call-1 = λ e. refl;
         call-2 = λ e. refl;
         call-3 = λ e. refl;
@@ -124,12 +124,12 @@ module _ (s : State) (k : Call) where
         call-9 = λ e. refl;
         call-10 = λ e. refl;
         call-11 = λ e. refl;
-        call-12 = λ e. by-bits conf reading (s .store) k P (bits-numbered conf reading (k .caller) (k .b) (k .buffer));
+        call-12 = λ e. by-bits conf reading k P (bits-numbered conf reading (k .caller) (k .b) (k .buffer));
         call-13 = λ e. refl;
         call-14 = λ e. refl;
         call-15 = λ e. refl;
         call-16 = λ e. refl;
-        call-17 = λ e. by-status conf reading (s .store) k P for-status;
+        call-17 = λ e. by-status conf reading k P for-status;
         call-18 = λ e. refl;
         other = refl;
       })
@@ -152,7 +152,7 @@ module _ (s : State) (k : Call) where
   unfolding wholeRule spawn releaseProcess buildSegment rendezvous releaseSegment setAccess create openFile close link unlink writeBlock post accessOf
   own-buffer a b c =
       let P : Rule → Type 0 = λ x. x .effects .buffer ≡ k .buffer in
-      by-code conf reading (s .store) k P (record {
+      by-code conf k (λ f. P (f reading (s .store))) (record {
         call-1 = λ e. refl;
         call-2 = λ e. refl;
         call-3 = λ e. refl;
@@ -164,7 +164,7 @@ module _ (s : State) (k : Call) where
         call-9 = λ e. refl;
         call-10 = λ e. refl;
         call-11 = λ e. refl;
-        call-12 = λ e. by-bits conf reading (s .store) k P (λ v j o. refl);
+        call-12 = λ e. by-bits conf reading k P (λ v j o. refl);
         call-13 = λ e. absurd (a e);
         call-14 = λ e. refl;
         call-15 = λ e. refl;

@@ -22,15 +22,14 @@ use Rattle.rules.specs.Step.{State, Call, step, next, run, ruleOf, wholeRule}
 use Rattle.laws.proofs.Tests.{or-rest, split}
 use Rattle.laws.proofs.Seids.{class-seid, index-seid, serial-seid, class-inj}
 use Rattle.laws.proofs.Shape.{good-of}
-use Rattle.kept.proofs.Fine.{Object}
-use Rattle.kept.proofs.Refusals.{Clear}
+use Rattle.laws.proofs.Object.{Object, no-process}
+use Rattle.laws.proofs.Refusals.{Clear}
 use Rattle.kept.proofs.Records.{in-first, words-some}
-use Rattle.kept.proofs.Made.{no-process}
 use Rattle.kept.proofs.Keeps.{Caller}
-use Rattle.kept.proofs.Found.{free-slot, free-entry}
+use Rattle.kept.proofs.Found.{own-slot, free-entry}
 use Rattle.kept.proofs.Exchange.{entered-in}
 use Rattle.kept.proofs.Created.{made, made-in, made-word}
-use Rattle.kept.proofs.K01.{spawned-word}
+use Rattle.kept.proofs.Keep01.{spawned-word}
 use Rattle.kept.proofs.Kept.{Well, kept, conf-kept, run-kept, run-conf-kept, run-serials-kept}
 use Rattle.promises.proofs.Refusals.{own, own-clear, done}
 use Rattle.promises.proofs.After.{its-caller, read-after}
@@ -61,7 +60,7 @@ module _ (h : List ℕ) (r : Addr → ℕ) (k : Call) (me : Caller h r (k .calle
   handed : (j : Kind) (x : Rule) → noSlot h r j cell ≡ false → x .effects .first ≡ seid (class j) (free j) (r (at j (free j) serial) + 1)
       → over r (x .effects .words) (at j (free j) serial) ≡ r (at j (free j) serial) + 1 → Handed h r x
   handed j x room given left =
-      let f = free-slot h r (k .caller) me j room in
+      let f = own-slot h r (k .caller) me j room in
       record { kind = j; slot = free j; in-range = f .in-range; not-worn = f .not-worn; given = given; left = left }
 
   -- an object's serial, where its words are followed by an entry for it

@@ -35,8 +35,9 @@ use Rattle.laws.proofs.Tests.{and-both, passed, not-of, refuted, both-ways, or-
 use Rattle.laws.proofs.Seids.{present-is}
 use Rattle.laws.proofs.Shape.{good-of}
 use Rattle.laws.proofs.Written.{nil, also, rd-write, conf-write, over-miss}
-use Rattle.kept.proofs.Fine.{Object, fine-of}
-use Rattle.kept.proofs.Refusals.{Clear}
+use Rattle.laws.proofs.Object.{Object}
+use Rattle.kept.proofs.Fine.{fine-of}
+use Rattle.laws.proofs.Refusals.{Clear}
 use Rattle.kept.proofs.Records.{all-valid}
 use Rattle.kept.proofs.Made.{placed}
 use Rattle.kept.proofs.Found.{own-found}

@@ -14,16 +14,16 @@ use Rattle.rules.specs.Observer.{Closed}
 use Rattle.laws.proofs.Tests.{split, both-ways, refuted}
 use Rattle.laws.proofs.Written.{AllOf, nil, also, all-map, over-miss, rd-write}
 use Rattle.laws.proofs.Stored.{sets-both, stretch-apart}
-use Rattle.secrecy.proofs.Rules.{Ups, UpBytes, Good, good-effect, good-test, Hidden, Alike-effects, same-effect, hidden, Alike, alike-effect, alike-test}
+use Rattle.secrecy.proofs.Shown.{Ups, UpBytes, WritesUp, up-effect, up-test, Hidden, Alike-effects, same-effect, hidden, Alike, alike-effect, alike-test}
 use Rattle.secrecy.proofs.View.{Stretches}
 use Rattle.secrecy.proofs.Lists.{over-at}
 
 -- ---- refusals
 
 -- where no refusal answers, each of the tests is false
-granted : {h : List ℕ} {c : ℕ} {k : Rule} → Good h c k → firstRefusal (k .refusals) ≡ 0 → Ups h c (k .effects .words) × AllOf (UpBytes h c) (k .effects .bytes)
-granted (good-effect u b) e = (u, b)
-granted (good-test {b = b} {n = n} {rs = rs} z g) e = split _ b
+granted : {h : List ℕ} {c : ℕ} {k : Rule} → WritesUp h c k → firstRefusal (k .refusals) ≡ 0 → Ups h c (k .effects .words) × AllOf (UpBytes h c) (k .effects .bytes)
+granted (up-effect u b) e = (u, b)
+granted (up-test {b = b} {n = n} {rs = rs} z g) e = split _ b
     (λ t. absurd (eqb-false n 0 z (rw t at e)))
     (λ f. granted (g f) (rw f at e))
 
@@ -106,7 +106,7 @@ module _ (h : List ℕ) (C : ℕ → Bool) where
   }
 
   -- from outside the set nothing is seen of it
-  pub silent : {c : ℕ} {k : Rule} → Closed h C → C c ≡ false → Good h c k → (s : State) (buffer : List ℕ) → Sized h s → AgreeAt h C s (carriedOut h s buffer k .state)
+  pub silent : {c : ℕ} {k : Rule} → Closed h C → C c ≡ false → WritesUp h c k → (s : State) (buffer : List ℕ) → Sized h s → AgreeAt h C s (carriedOut h s buffer k .state)
   unfolding carriedOut
   silent {c} {k} cl out g s buffer z = split _ (eqb (firstRefusal (k .refusals)) 0)
       (λ e. let u = granted g (eqb-true _ 0 e) in rw e (hide-effect c (k .effects) cl out (u .0) (u .1) s z))
@@ -128,7 +128,7 @@ module _ (h : List ℕ) (C : ℕ → Bool) where
   same-answer (hidden o n) = (refl, refl, refl)
 
   -- two rules alike, carried out: one answer, one buffer, and states that agree
-  pub both : {c d : ℕ} {k l : Rule} → Alike h C k l → Good h c k → Good h d l → (s t : State) (buffer : List ℕ) → Sized h s → Sized h t → AgreeAt h C s t
+  pub both : {c d : ℕ} {k l : Rule} → Alike h C k l → WritesUp h c k → WritesUp h d l → (s t : State) (buffer : List ℕ) → Sized h s → Sized h t → AgreeAt h C s t
       → (carriedOut h s buffer k .answered ≡ carriedOut h t buffer l .answered) × (carriedOut h s buffer k .buffer ≡ carriedOut h t buffer l .buffer)
       × AgreeAt h C (carriedOut h s buffer k .state) (carriedOut h t buffer l .state)
   unfolding carriedOut

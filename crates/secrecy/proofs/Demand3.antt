@@ -15,7 +15,7 @@ use Rattle.rules.specs.Layout.{configuration}
 use Rattle.rules.specs.Step.{State, Call, run}
 use Rattle.rules.specs.Observer.{observer, Closed, Agree, remaining, replies}
 use Rattle.kept.proofs.Kept.{Well, kept}
-use Rattle.secrecy.proofs.Levels.{flows-trans}
+use Rattle.secrecy.proofs.CellFlow.{flows-trans}
 use Rattle.secrecy.proofs.Runs.{two-runs-from}
 
 pub two-runs : (C : ℕ → Bool) (s t : State) → Well s → Well t → let h : List ℕ = configuration (s .table) in Closed h C → Agree C s t

@@ -11,9 +11,10 @@ use Rattle.rules.specs.Rule.{Word, over, sameAddr}
 use Rattle.rules.specs.Find.{freed, zeros, oneLess, givenUp}
 use Rattle.rules.specs.Call02.{dropped, droppedTo, released, releaseProcess}
 use Rattle.laws.proofs.Tests.{split, cond-true, cond-false}
+use Rattle.laws.proofs.Object.{Object, no-process}
 use Rattle.laws.proofs.Places.{same-addr}
 use Rattle.laws.proofs.Written.{AllOf, nil, also, all-if, all-append}
-use Rattle.secrecy.proofs.Rules.{good-rules, alike-rules, Ups, Good, Alike}
+use Rattle.secrecy.proofs.Shown.{up-rules, alike-rules, Ups, WritesUp, Alike}
 use Rattle.secrecy.proofs.View
 use Rattle.secrecy.proofs.Lists.{all-tab, over-at}
 use Rattle.secrecy.proofs.Give.{up-freed, up-given, same-given}
@@ -23,20 +24,17 @@ use Rattle.secrecy.proofs.Give.{up-freed, up-given, same-given}
 abbrev Clears : Word → Type 0
 Clears x = x .at .kind ≡ process → x .value ≡ 0
 
-no-process : (k : Kind) → View.holdable k ≡ true → k ≡ process → ⊥
-no-process k e n = let z : false ≡ true = ap View.holdable (sym n) ∙ e in mathlib.Core.Bool.true≢false (sym z)
-
 clears-freed : (k : Kind) (i : ℕ) → AllOf Clears (freed k i)
 unfolding zeros
 clears-freed k i = also (λ e. refl) (all-tab _ _ _ _ (λ j lo hi e. refl))
 
-clears-dropped : (h : List ℕ) (r : Addr → ℕ) (k : Kind) (q d : ℕ) → View.holdable k ≡ true → AllOf Clears (dropped h r k q d)
+clears-dropped : (h : List ℕ) (r : Addr → ℕ) (k : Kind) (q d : ℕ) → Object k → AllOf Clears (dropped h r k q d)
 unfolding dropped givenUp oneLess
 clears-dropped h r k q d e =
     let other : (x : ℕ) → k ≡ process → x ≡ 0 = λ x n. absurd (no-process k e n) in
     search (all-if, also, nil, clears-freed, other) depth 8
 
-clears-to : (h : List ℕ) (r : Addr → ℕ) (k : Kind) (q n : ℕ) → View.holdable k ≡ true → AllOf Clears (droppedTo h r k q n)
+clears-to : (h : List ℕ) (r : Addr → ℕ) (k : Kind) (q n : ℕ) → Object k → AllOf Clears (droppedTo h r k q n)
 unfolding droppedTo
 clears-to h r k q zero e = nil
 clears-to h r k q (suc n) e = all-append _ (clears-to h r k q n e) (clears-dropped h (over r (droppedTo h r k q n)) k q n e)
@@ -67,11 +65,11 @@ view-over {r = r} {q = q} {ws = ws} c v =
 -- ---- the process that gives up its entries
 
 module _ {h : List ℕ} {p : ℕ} where
-  up-dropped : {r : Addr → ℕ} → View.Here h p r → (k : Kind) (d : ℕ) → View.holdable k ≡ true → leb entries d ≡ false → Ups h (cellOf h process p) (dropped h r k p d)
+  up-dropped : {r : Addr → ℕ} → View.Here h p r → (k : Kind) (d : ℕ) → Object k → leb entries d ≡ false → Ups h (cellOf h process p) (dropped h r k p d)
   unfolding dropped
   up-dropped v k d e l = search (all-if, nil, up-given v, View.held-in v)
 
-  up-to : {r : Addr → ℕ} → View.Here h p r → (k : Kind) (n : ℕ) → View.holdable k ≡ true → n ≤ entries → Ups h (cellOf h process p) (droppedTo h r k p n)
+  up-to : {r : Addr → ℕ} → View.Here h p r → (k : Kind) (n : ℕ) → Object k → n ≤ entries → Ups h (cellOf h process p) (droppedTo h r k p n)
   unfolding droppedTo
   up-to v k zero e l = nil
   up-to {r} v k (suc n) e l =
@@ -80,10 +78,10 @@ module _ {h : List ℕ} {p : ℕ} where
   up-released : {r : Addr → ℕ} → View.Here h p r → Ups h (cellOf h process p) (released h r p)
   unfolding released
   up-released {r} v =
-      all-append _ (up-to v file entries refl (omega arith))
-      (all-append _ (up-to (here-over (clears-to h r file p entries refl) v) segment entries refl (omega arith)) (up-freed v process p (v .there) refl))
+      all-append _ (up-to v file entries tt (omega arith))
+      (all-append _ (up-to (here-over (clears-to h r file p entries tt) v) segment entries tt (omega arith)) (up-freed v process p (v .there) refl))
 
-  same-dropped : {C : ℕ → Bool} {r q : Addr → ℕ} → View.View h p C r q → (k : Kind) (d : ℕ) → View.holdable k ≡ true → leb entries d ≡ false
+  same-dropped : {C : ℕ → Bool} {r q : Addr → ℕ} → View.View h p C r q → (k : Kind) (d : ℕ) → Object k → leb entries d ≡ false
       → dropped h q k p d ≡ dropped h r k p d
   unfolding dropped
   same-dropped {r = r} v k d e l = rw (View.same-held v k d e l)
@@ -91,7 +89,7 @@ module _ {h : List ℕ} {p : ℕ} where
       (λ z. rw z)
       (λ z. rw (same-given v k d (r (at process p (heldAt k d))) e (View.held-in (v .here) k d e l z))))
 
-  same-to : {C : ℕ → Bool} {r q : Addr → ℕ} → View.View h p C r q → (k : Kind) (n : ℕ) → View.holdable k ≡ true → n ≤ entries
+  same-to : {C : ℕ → Bool} {r q : Addr → ℕ} → View.View h p C r q → (k : Kind) (n : ℕ) → Object k → n ≤ entries
       → droppedTo h q k p n ≡ droppedTo h r k p n
   unfolding droppedTo
   same-to v k zero e l = refl
@@ -102,8 +100,8 @@ module _ {h : List ℕ} {p : ℕ} where
   same-released : {C : ℕ → Bool} {r q : Addr → ℕ} → View.View h p C r q → released h q p ≡ released h r p
   unfolding released
   same-released {r = r} v =
-      rw (same-to v file entries refl (omega arith))
-      (rw (same-to (view-over (clears-to h r file p entries refl) v) segment entries refl (omega arith)))
+      rw (same-to v file entries tt (omega arith))
+      (rw (same-to (view-over (clears-to h r file p entries tt) v) segment entries tt (omega arith)))
 
 -- ---- the caller, and the process of its cell that it releases
 
@@ -116,9 +114,9 @@ same-other : {h : List ℕ} {p : ℕ} {C : ℕ → Bool} {r q : Addr → ℕ} �
 same-other v o l e =
     same-released (record { here = record { shape = v .here .shape; there = l; reaching = v .here .reaching }; closed = v .closed; within = rw e (v .within); seen = v .seen })
 
-pub good02 : {h : List ℕ} {p : ℕ} {r : Addr → ℕ} → View.Here h p r → (a : ℕ) (buffer : List ℕ) → Good h (cellOf h process p) (releaseProcess h r p a buffer)
+pub up02 : {h : List ℕ} {p : ℕ} {r : Addr → ℕ} → View.Here h p r → (a : ℕ) (buffer : List ℕ) → WritesUp h (cellOf h process p) (releaseProcess h r p a buffer)
 unfolding releaseProcess
-good02 v a buffer = search (good-rules, up-other v, View.formed-in, View.same-cell) depth 12
+up02 v a buffer = search (up-rules, up-other v, View.formed-in, View.same-cell) depth 12
 
 pub alike02 : {h : List ℕ} {p : ℕ} {C : ℕ → Bool} {r q : Addr → ℕ} → View.View h p C r q → (a : ℕ) (buffer : List ℕ)
     → Alike h C (releaseProcess h r p a buffer) (releaseProcess h q p a buffer)

@@ -4,13 +4,13 @@ use mathlib.Core.List.{List}
 use Prim.Native.Nat.{ℕ}
 use Rattle.rules.specs.Layout.{process, cellOf, Addr}
 use Rattle.rules.specs.Call05.{releaseSegment}
-use Rattle.secrecy.proofs.Rules.{good-rules, alike-rules, Good, Alike}
+use Rattle.secrecy.proofs.Shown.{up-rules, alike-rules, WritesUp, Alike}
 use Rattle.secrecy.proofs.View
 use Rattle.secrecy.proofs.Give.{up-given, same-given}
 
-pub good05 : {h : List ℕ} {p : ℕ} {r : Addr → ℕ} → View.Here h p r → (a : ℕ) (buffer : List ℕ) → Good h (cellOf h process p) (releaseSegment h r p a buffer)
+pub up05 : {h : List ℕ} {p : ℕ} {r : Addr → ℕ} → View.Here h p r → (a : ℕ) (buffer : List ℕ) → WritesUp h (cellOf h process p) (releaseSegment h r p a buffer)
 unfolding releaseSegment
-good05 v a buffer = search (good-rules, up-given v, View.held-in v) depth 12
+up05 v a buffer = search (up-rules, up-given v, View.held-in v) depth 12
 
 pub alike05 : {h : List ℕ} {p : ℕ} {C : ℕ → Bool} {r q : Addr → ℕ} → View.View h p C r q → (a : ℕ) (buffer : List ℕ)
     → Alike h C (releaseSegment h r p a buffer) (releaseSegment h q p a buffer)

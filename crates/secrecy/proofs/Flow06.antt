@@ -4,12 +4,12 @@ use mathlib.Core.List.{List}
 use Prim.Native.Nat.{ℕ}
 use Rattle.rules.specs.Layout.{process, cellOf, Addr}
 use Rattle.rules.specs.Call06.{setAccess}
-use Rattle.secrecy.proofs.Rules.{good-rules, alike-rules, Good, Alike}
+use Rattle.secrecy.proofs.Shown.{up-rules, alike-rules, WritesUp, Alike}
 use Rattle.secrecy.proofs.View
 
-pub good06 : {h : List ℕ} {p : ℕ} {r : Addr → ℕ} → View.Here h p r → (a b : ℕ) (buffer : List ℕ) → Good h (cellOf h process p) (setAccess h r p a b buffer)
+pub up06 : {h : List ℕ} {p : ℕ} {r : Addr → ℕ} → View.Here h p r → (a b : ℕ) (buffer : List ℕ) → WritesUp h (cellOf h process p) (setAccess h r p a b buffer)
 unfolding setAccess
-good06 v a b buffer = search (good-rules, View.up-used v) depth 12
+up06 v a b buffer = search (up-rules, View.up-used v) depth 12
 
 pub alike06 : {h : List ℕ} {p : ℕ} {C : ℕ → Bool} {r q : Addr → ℕ} → View.View h p C r q → (a b : ℕ) (buffer : List ℕ)
     → Alike h C (setAccess h r p a b buffer) (setAccess h q p a b buffer)

@@ -4,12 +4,12 @@ use mathlib.Core.List.{List}
 use Prim.Native.Nat.{ℕ}
 use Rattle.rules.specs.Layout.{process, cellOf, Addr}
 use Rattle.rules.specs.Call07.{create}
-use Rattle.secrecy.proofs.Rules.{good-rules, alike-rules, Good, Alike}
+use Rattle.secrecy.proofs.Shown.{up-rules, alike-rules, WritesUp, Alike}
 use Rattle.secrecy.proofs.View
 
-pub good07 : {h : List ℕ} {p : ℕ} {r : Addr → ℕ} → View.Here h p r → (a b : ℕ) (buffer : List ℕ) → Good h (cellOf h process p) (create h r p a b buffer)
+pub up07 : {h : List ℕ} {p : ℕ} {r : Addr → ℕ} → View.Here h p r → (a b : ℕ) (buffer : List ℕ) → WritesUp h (cellOf h process p) (create h r p a b buffer)
 unfolding create
-good07 v a b buffer = search (good-rules, View.up-own v, View.up-held v, View.up-used v, View.free-in v, View.free-own v) depth 16
+up07 v a b buffer = search (up-rules, View.up-own v, View.up-held v, View.up-used v, View.free-in v, View.free-own v) depth 20
 
 pub alike07 : {h : List ℕ} {p : ℕ} {C : ℕ → Bool} {r q : Addr → ℕ} → View.View h p C r q → (a b : ℕ) (buffer : List ℕ)
     → Alike h C (create h r p a b buffer) (create h q p a b buffer)

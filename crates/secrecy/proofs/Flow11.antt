@@ -4,13 +4,13 @@ use mathlib.Core.List.{List}
 use Prim.Native.Nat.{ℕ}
 use Rattle.rules.specs.Layout.{process, cellOf, Addr}
 use Rattle.rules.specs.Call11.{unlinked, unlink}
-use Rattle.secrecy.proofs.Rules.{good-rules, alike-rules, Good, Alike}
+use Rattle.secrecy.proofs.Shown.{up-rules, alike-rules, WritesUp, Alike}
 use Rattle.secrecy.proofs.View
 use Rattle.secrecy.proofs.Give.{up-freed}
 
-pub good11 : {h : List ℕ} {p : ℕ} {r : Addr → ℕ} → View.Here h p r → (a : ℕ) (buffer : List ℕ) → Good h (cellOf h process p) (unlink h r p a buffer)
+pub up11 : {h : List ℕ} {p : ℕ} {r : Addr → ℕ} → View.Here h p r → (a : ℕ) (buffer : List ℕ) → WritesUp h (cellOf h process p) (unlink h r p a buffer)
 unfolding unlink unlinked
-good11 v a buffer = search (good-rules, View.up-own v, up-freed v, View.formed-in, View.same-cell) depth 12
+up11 v a buffer = search (up-rules, View.up-own v, up-freed v, View.formed-in, View.same-cell) depth 12
 
 pub alike11 : {h : List ℕ} {p : ℕ} {C : ℕ → Bool} {r q : Addr → ℕ} → View.View h p C r q → (a : ℕ) (buffer : List ℕ)
     → Alike h C (unlink h r p a buffer) (unlink h q p a buffer)

@@ -9,14 +9,14 @@ use lib.ListN.{length}
 use Rattle.rules.specs.Layout.{process, file, blockBytes, slots, blocks, stretch, cellOf, flows, Addr}
 use Rattle.rules.specs.Call13.{block, readBlock}
 use Rattle.laws.proofs.Tests.{tests}
-use Rattle.secrecy.proofs.Rules.{good-rules, alike-rules, Good, Alike}
+use Rattle.secrecy.proofs.Shown.{up-rules, alike-rules, WritesUp, Alike}
 use Rattle.secrecy.proofs.View
 use Rattle.secrecy.proofs.Lists.{part-same}
 
-pub good13 : {h : List ℕ} {p : ℕ} {r : Addr → ℕ} → View.Here h p r → (st : List ℕ) (a b : ℕ) (buffer : List ℕ)
-    → Good h (cellOf h process p) (readBlock h r st p a b buffer)
+pub up13 : {h : List ℕ} {p : ℕ} {r : Addr → ℕ} → View.Here h p r → (st : List ℕ) (a b : ℕ) (buffer : List ℕ)
+    → WritesUp h (cellOf h process p) (readBlock h r st p a b buffer)
 unfolding readBlock
-good13 v st a b buffer = search good-rules depth 12
+up13 v st a b buffer = search up-rules depth 12
 
 same-block : {h : List ℕ} {p : ℕ} {C : ℕ → Bool} {r q : Addr → ℕ} → View.View h p C r q → (s t : List ℕ) → length s ≡ length t → View.Stretches h C s t
     → (f b : ℕ) → f < slots h file → flows h (cellOf h file f) (cellOf h process p) ≡ true → leb (blocks h) b ≡ false → block h t f b ≡ block h s f b

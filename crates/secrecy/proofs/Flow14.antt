@@ -18,7 +18,7 @@ use Rattle.laws.proofs.Tests.{tests, passed}
 use Rattle.laws.proofs.Seids.{is-present}
 use Rattle.laws.proofs.Shape.{file-record}
 use Rattle.laws.proofs.Written.{AllOf, nil, also}
-use Rattle.secrecy.proofs.Rules.{good-rules, alike-rules, UpBytes, Good, Alike}
+use Rattle.secrecy.proofs.Shown.{up-rules, alike-rules, UpBytes, WritesUp, Alike}
 use Rattle.secrecy.proofs.View
 
 -- what is held for writing is of the own cell
@@ -26,7 +26,7 @@ written-own : {h : List ℕ} {p : ℕ} {r : Addr → ℕ} → View.Here h p r �
     → eqb (r (at process p (heldAt file d))) 0 ≡ false → not (writes (r (at process p (usedAt file d)))) ≡ false
     → cellOf h file (indexOf (r (at process p (heldAt file d)))) ≡ cellOf h process p
 written-own {h} {p} {r} v w d l n m =
-    View.entry-at h r w p file d (v .there) refl l .writes-own (eqb-false (r (at process p (heldAt file d))) 0 n) (passed (writes (r (at process p (usedAt file d)))) m)
+    View.entry-at h r w p file d (v .there) tt l .writes-own (eqb-false (r (at process p (heldAt file d))) 0 n) (passed (writes (r (at process p (usedAt file d)))) m)
 
 size-fits : {h : List ℕ} {p : ℕ} {r : Addr → ℕ} → View.Here h p r → Holds (recordsOk h r) → (s : ℕ) → indexOf s < slots h file → not (present r file s) ≡ false
     → r (at file (indexOf s) size) ≤ blocks h
@@ -44,10 +44,10 @@ up-block {h} {p} v f n b buffer l e m i k =
     let bytes : UpBytes h (cellOf h process p) (bytesAt f (b * blockBytes) buffer) = record { there = l; inside = omega (arith, tests); up = own } in
     also zeros (also bytes nil)
 
-pub good14 : {h : List ℕ} {p : ℕ} {r : Addr → ℕ} → View.Here h p r → Holds (recordsOk h r) → (a b : ℕ) (buffer : List ℕ)
-    → Good h (cellOf h process p) (writeBlock h r p a b buffer)
+pub up14 : {h : List ℕ} {p : ℕ} {r : Addr → ℕ} → View.Here h p r → Holds (recordsOk h r) → (a b : ℕ) (buffer : List ℕ)
+    → WritesUp h (cellOf h process p) (writeBlock h r p a b buffer)
 unfolding writeBlock
-good14 v w a b buffer = search (good-rules, View.up-own v, up-block v, View.held-in v, written-own v w, size-fits v w) depth 12
+up14 v w a b buffer = search (up-rules, View.up-own v, up-block v, View.held-in v, written-own v w, size-fits v w) depth 12
 
 pub alike14 : {h : List ℕ} {p : ℕ} {C : ℕ → Bool} {r q : Addr → ℕ} → View.View h p C r q → (a b : ℕ) (buffer : List ℕ)
     → Alike h C (writeBlock h r p a b buffer) (writeBlock h q p a b buffer)

@@ -12,7 +12,7 @@ use Rattle.rules.specs.Rule.{effect}
 use Rattle.rules.specs.Call15.{queued, post}
 use Rattle.laws.proofs.Tests.{split, passed, and-right}
 use Rattle.laws.proofs.Written.{AllOf, nil, also, all-if}
-use Rattle.secrecy.proofs.Rules.{good-rules, alike-rules, Up, Ups, Good, Hidden, Alike-effects, same-effect, hidden, Alike}
+use Rattle.secrecy.proofs.Shown.{up-rules, alike-rules, Up, Ups, WritesUp, Hidden, Alike-effects, same-effect, hidden, Alike}
 use Rattle.secrecy.proofs.View
 
 up-queued : (h : List ℕ) (c me q : ℕ) (buffer : List ℕ) (n : ℕ) → q < slots h process → flows h c (cellOf h process q) ≡ true → n < messages
@@ -29,9 +29,9 @@ up-posted : (h : List ℕ) (c me q : ℕ) (buffer : List ℕ) (b : Bool) (n : �
     → Ups h c (cond (b && ltb n messages) (queued me q buffer n) [])
 up-posted h c me q buffer b n l f = all-if _ (b && ltb n messages) _ _ (λ e. up-queued h c me q buffer n l f (ltb-true n messages (and-right b (ltb n messages) e))) (λ e. nil)
 
-pub good15 : {h : List ℕ} {p : ℕ} {r : Addr → ℕ} → View.Here h p r → (a : ℕ) (buffer : List ℕ) → Good h (cellOf h process p) (post h r p a buffer)
+pub up15 : {h : List ℕ} {p : ℕ} {r : Addr → ℕ} → View.Here h p r → (a : ℕ) (buffer : List ℕ) → WritesUp h (cellOf h process p) (post h r p a buffer)
 unfolding post
-good15 v a buffer = search (good-rules, up-posted, passed, View.formed-in) depth 12
+up15 v a buffer = search (up-rules, up-posted, passed, View.formed-in) depth 12
 
 hid-queued : (h : List ℕ) (C : ℕ → Bool) (me q : ℕ) (buffer : List ℕ) (n : ℕ) → C (cellOf h process q) ≡ false → AllOf (Hidden h C) (queued me q buffer n)
 unfolding queued

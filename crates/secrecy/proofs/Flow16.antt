@@ -10,7 +10,7 @@ use Rattle.rules.specs.Rule.{Word}
 use Rattle.rules.specs.Find.{zeros}
 use Rattle.rules.specs.Call16.{movedUp, receive}
 use Rattle.laws.proofs.Written.{all-append}
-use Rattle.secrecy.proofs.Rules.{good-rules, alike-rules, Ups, Good, Alike}
+use Rattle.secrecy.proofs.Shown.{up-rules, alike-rules, Ups, WritesUp, Alike}
 use Rattle.secrecy.proofs.View
 use Rattle.secrecy.proofs.Lists.{all-tab, tab-same}
 use Rattle.secrecy.proofs.Give.{up-zeros}
@@ -19,9 +19,9 @@ up-moved : {h : List ℕ} {p : ℕ} {r : Addr → ℕ} → View.Here h p r → U
 unfolding movedUp
 up-moved v = all-append _ (all-tab _ _ _ _ (λ j lo hi. View.up-me v j (lt-ltb j (recordWords process) (omega arith)))) (up-zeros v process _ _ _ (v .there) refl (omega arith))
 
-pub good16 : {h : List ℕ} {p : ℕ} {r : Addr → ℕ} → View.Here h p r → (buffer : List ℕ) → Good h (cellOf h process p) (receive h r p buffer)
+pub up16 : {h : List ℕ} {p : ℕ} {r : Addr → ℕ} → View.Here h p r → (buffer : List ℕ) → WritesUp h (cellOf h process p) (receive h r p buffer)
 unfolding receive
-good16 v buffer = search (good-rules, View.up-me v, up-moved v) depth 12
+up16 v buffer = search (up-rules, View.up-me v, up-moved v) depth 12
 
 same-moved : {h : List ℕ} {p : ℕ} {C : ℕ → Bool} {r q : Addr → ℕ} → View.View h p C r q → movedUp q p ≡ movedUp r p
 unfolding movedUp

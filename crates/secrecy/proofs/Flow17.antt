@@ -5,12 +5,12 @@ use Prim.Native.Nat.{ℕ}
 use Rattle.rules.specs.Layout.{process, cellOf, Addr}
 use Rattle.rules.specs.Call17.{told, status}
 use Rattle.laws.proofs.Tests.{passed}
-use Rattle.secrecy.proofs.Rules.{good-rules, alike-rules, Good, Alike}
+use Rattle.secrecy.proofs.Shown.{up-rules, alike-rules, WritesUp, Alike}
 use Rattle.secrecy.proofs.View
 
-pub good17 : {h : List ℕ} {p : ℕ} {r : Addr → ℕ} → View.Here h p r → (a : ℕ) (buffer : List ℕ) → Good h (cellOf h process p) (status h r p a buffer)
+pub up17 : {h : List ℕ} {p : ℕ} {r : Addr → ℕ} → View.Here h p r → (a : ℕ) (buffer : List ℕ) → WritesUp h (cellOf h process p) (status h r p a buffer)
 unfolding status
-good17 v a buffer = search good-rules depth 12
+up17 v a buffer = search up-rules depth 12
 
 pub alike17 : {h : List ℕ} {p : ℕ} {C : ℕ → Bool} {r q : Addr → ℕ} → View.View h p C r q → (a : ℕ) (buffer : List ℕ)
     → Alike h C (status h r p a buffer) (status h q p a buffer)

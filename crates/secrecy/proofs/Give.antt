@@ -10,13 +10,14 @@ use Rattle.rules.specs.Layout.{Kind, process, segment, file, recordWords, slots
 use Rattle.rules.specs.Seid.{indexOf}
 use Rattle.rules.specs.Find.{inOwnCell, freed, zeros, kept, oneLess, givenUp}
 use Rattle.laws.proofs.Tests.{split}
+use Rattle.laws.proofs.Object.{Object}
 use Rattle.laws.proofs.Written.{nil, also, all-if}
 use Rattle.secrecy.proofs.Lists.{all-tab}
-use Rattle.secrecy.proofs.Rules.{Ups}
-use Rattle.secrecy.proofs.View.{common, holdable, Here, View, up-own, up-held, up-used, same-below, own-flows}
+use Rattle.secrecy.proofs.Shown.{Ups}
+use Rattle.secrecy.proofs.View.{common, Here, View, up-own, up-held, up-used, same-below, own-flows}
 
-holders-fit : (k : Kind) → holdable k ≡ true → ltb (holders k) (recordWords k) ≡ true
-holders-fit process e = e
+holders-fit : (k : Kind) → Object k → ltb (holders k) (recordWords k) ≡ true
+holders-fit process e = absurd e
 holders-fit segment e = refl
 holders-fit file e = refl
 
@@ -33,7 +34,7 @@ module _ {h : List ℕ} {p : ℕ} {r : Addr → ℕ} (v : Here h p r) where
       two segment = omega arith
       two file = omega arith
 
-  pub up-given : (k : Kind) (d s : ℕ) → holdable k ≡ true → leb entries d ≡ false → indexOf s < slots h k → Ups h (cellOf h process p) (givenUp h r k p d s)
+  pub up-given : (k : Kind) (d s : ℕ) → Object k → leb entries d ≡ false → indexOf s < slots h k → Ups h (cellOf h process p) (givenUp h r k p d s)
   unfolding givenUp oneLess
   up-given k d s e m l = search (also, nil, all-if, eqb-true, up-held v, up-used v, up-own v, up-freed, holders-fit) depth 8
 
@@ -43,11 +44,11 @@ module _ {h : List ℕ} {p : ℕ} {C : ℕ → Bool} {r q : Addr → ℕ} (v : V
   same-kept segment i l e = refl
   same-kept file i l e = rw (same-below v file i links l refl (own-flows (v .here) (cellOf h file i) e))
 
-  same-less : (k : Kind) (i : ℕ) → holdable k ≡ true → i < slots h k → cellOf h k i ≡ cellOf h process p → oneLess q k i ≡ oneLess r k i
+  same-less : (k : Kind) (i : ℕ) → Object k → i < slots h k → cellOf h k i ≡ cellOf h process p → oneLess q k i ≡ oneLess r k i
   unfolding oneLess
   same-less k i o l e = rw (same-kept k i l e, same-below v k i (holders k) l (holders-fit k o) (own-flows (v .here) (cellOf h k i) e))
 
-  pub same-given : (k : Kind) (d s : ℕ) → holdable k ≡ true → indexOf s < slots h k → givenUp h q k p d s ≡ givenUp h r k p d s
+  pub same-given : (k : Kind) (d s : ℕ) → Object k → indexOf s < slots h k → givenUp h q k p d s ≡ givenUp h r k p d s
   unfolding givenUp
   same-given k d s o l = split _ (inOwnCell h p k s)
       (λ e. rw (same-less k (indexOf s) o l (eqb-true _ _ e)))

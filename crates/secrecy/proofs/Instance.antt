@@ -27,8 +27,8 @@ use Rattle.rules.specs.Observer.{observer, Closed, Agree, stays, remaining, rep
 use Rattle.laws.proofs.Claims.{holds}
 use Rattle.laws.proofs.Written.{AllOf, nil, also}
 use Rattle.kept.proofs.Kept.{Well}
-use Rattle.secrecy.proofs.Levels.{flows-trans}
-use Rattle.secrecy.proofs.Rules.{Up, Ups, UpBytes}
+use Rattle.secrecy.proofs.CellFlow.{flows-trans}
+use Rattle.secrecy.proofs.Shown.{Up, Ups, UpBytes}
 use Rattle.secrecy.proofs.Apply.{Sized, hide-effect}
 use Rattle.secrecy.proofs.Steps.{from-configuration}
 use Rattle.secrecy.proofs.Demand3.{one-observer}

@@ -1,7 +1,7 @@
 -- Demand 3: what a set of cells closed downwards sees of a run hangs on nothing that may not flow to it.
-pub mod Levels
+pub mod CellFlow
 pub mod Unwind
-pub mod Rules
+pub mod Shown
 pub mod Lists
 pub mod View
 pub mod Give

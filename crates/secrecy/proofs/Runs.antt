@@ -12,7 +12,7 @@ use Rattle.rules.specs.Step.{State, Call, Reply, step, next, reply, run}
 use Rattle.rules.specs.Observer.{Closed, Agree, stays, remaining, replies}
 use Rattle.secrecy.proofs.Unwind.{push, pushed, runs, trace, views, Unwinds, two-runs}
 use Rattle.secrecy.proofs.Apply.{AgreeAt, agree-sym, agree-trans}
-use Rattle.secrecy.proofs.Steps.{Fine, at-configuration, from-configuration, conf-next, struck-out, remains}
+use Rattle.secrecy.proofs.Steps.{WellUnder, at-configuration, from-configuration, conf-next, struck-out, remains}
 
 -- a call is its own label where it stays
 label-if : Bool → Call → Option Call
@@ -62,15 +62,15 @@ abbrev Well : State → Type 0
 Well s = Holds (wellFormed (s .table) (length (s .store)))
 
 module _ (kept : (s : State) (k : Call) → Well s → Well (step s k .state)) where
-  fine-next : (h : List ℕ) (s : State) (k : Call) → Fine h s → Fine h (next s k)
-  fine-next h s k f = record { formed = kept s k (f .formed); configured = conf-next h s f k }
+  well-next : (h : List ℕ) (s : State) (k : Call) → WellUnder h s → WellUnder h (next s k)
+  well-next h s k f = record { formed = kept s k (f .formed); configured = conf-next h s f k }
 
-  unwinds : (h : List ℕ) (C : ℕ → Bool) → Closed h C → Unwinds next (label h C) reply (Fine h) (AgreeAt h C)
+  unwinds : (h : List ℕ) (C : ℕ → Bool) → Closed h C → Unwinds next (label h C) reply (WellUnder h) (AgreeAt h C)
   unfolding label
   unwinds h C cl = record {
     sym~ = agree-sym h C;
     trans~ = agree-trans h C;
-    keep = fine-next h;
+    keep = well-next h;
     silent = λ s k f e. struck-out h s f k C cl (none-struck (stays h C k) k e);
     alike = λ s t k j l f g a e d.
         let x = some-stays (stays h C k) k l e in
@@ -79,19 +79,19 @@ module _ (kept : (s : State) (k : Call) → Well s → Well (step s k .state)) w
         rw (← kj) (remains h C cl s t f g a k (x .0));
   }
 
-  fine-run : (h : List ℕ) (ks : List Call) (s : State) → Fine h s → Fine h (run s ks)
+  well-run : (h : List ℕ) (ks : List Call) (s : State) → WellUnder h s → WellUnder h (run s ks)
   unfolding run
-  fine-run h [] s f = f
-  fine-run h (k ∷ ks) s f = fine-run h ks (next s k) (fine-next h s k f)
+  well-run h [] s f = f
+  well-run h (k ∷ ks) s f = well-run h ks (next s k) (well-next h s k f)
 
   pub two-runs-from : (C : ℕ → Bool) (s t : State) → Well s → Well t → let h : List ℕ = configuration (s .table) in Closed h C → Agree C s t
       → (ks js : List Call) → remaining h C ks ≡ remaining h C js → (replies h C s ks ≡ replies h C t js) × Agree C (run s ks) (run t js)
   two-runs-from C s t ws wt cl a ks js e =
       let h : List ℕ = configuration (s .table) in
-      let f : Fine h s = record { formed = ws; configured = refl } in
-      let g : Fine h t = record { formed = wt; configured = sym (a .configurations) } in
-      let x = two-runs next (label h C) reply (Fine h) (AgreeAt h C) (unwinds h C cl) ks js s t f g (at-configuration h C s t refl a)
+      let f : WellUnder h s = record { formed = ws; configured = refl } in
+      let g : WellUnder h t = record { formed = wt; configured = sym (a .configurations) } in
+      let x = two-runs next (label h C) reply (WellUnder h) (AgreeAt h C) (unwinds h C cl) ks js s t f g (at-configuration h C s t refl a)
       (trace-is h C ks s ∙ e ∙ sym (trace-is h C js t)) in (
         sym (views-is h C ks s) ∙ x .0 ∙ views-is h C js t,
-        from-configuration h C (run s ks) (run t js) (fine-run h ks s f .configured) (fine-run h js t g .configured) (rw (runs-is ks s, runs-is js t) at (x .1)),
+        from-configuration h C (run s ks) (run t js) (well-run h ks s f .configured) (well-run h js t g .configured) (rw (runs-is ks s, runs-is js t) at (x .1)),
       )

@@ -1,6 +1,6 @@
 -- What the calls share: the words that a caller may write, and the words that two readings alike for its cell have in common.
 use mathlib.Core.Path.{_≡_, refl, sym}
-use mathlib.Core.Bool.{Bool, true, false, _||_, not, true≢false}
+use mathlib.Core.Bool.{Bool, true, false, _||_, not}
 use mathlib.Core.List.{List}
 use Prim.Native.Nat.{ℕ, _+_, _*_, _≤_, _<_}
 use native.Mathlib.Omega.{arith}
@@ -8,18 +8,19 @@ use lib.Dec.{ltb, leb, eqb}
 use lib.ListN.{getD}
 use borrow.Author.Tests.{ltb-true, leb-false, eqb-true, eqb-false, lt-ltb, lt-leb}
 use Rattle.rules.specs.Claim.{Holds}
-use Rattle.rules.specs.Layout.{Kind, process, segment, file, recordWords, slots, cells, cellSlots, firstSlot, cellOf, flows, Addr, at, Valid, live, serial, owner, group, entries, heldAt, usedAt, bits, stretch}
+use Rattle.rules.specs.Layout.{Kind, process, segment, file, recordWords, slots, cells, cellOf, flows, Addr, at, Valid, live, serial, owner, group, entries, heldAt, usedAt, bits, stretch}
 use Rattle.rules.specs.Seid.{class, indexOf, formed, seidAt, orSelf, present}
 use Rattle.rules.specs.WellFormed.{recordsOk}
 use Rattle.rules.specs.Observer.{Closed}
 use Rattle.rules.specs.Find.{freeSlot, noSlot, freeEntry, rightsAt}
 use Rattle.laws.proofs.Tests.{tests, or-left, passed}
-use Rattle.laws.proofs.Search.{lowest-ge, lowest-same}
+use Rattle.laws.proofs.Search.{lowest-same}
+use Rattle.laws.proofs.Object.{Object}
 use Rattle.laws.proofs.Seids.{is-formed}
-use Rattle.laws.proofs.Cells.{cell-run, run-end}
 use Rattle.laws.proofs.Shape.{Shape, in-run, Entry, descriptor, designator}
-use Rattle.secrecy.proofs.Levels.{flows-refl}
-use Rattle.secrecy.proofs.Rules.{Up}
+use Rattle.laws.proofs.Slots.{InRun, run-slot, run-cell, free-slot, same-slot}
+use Rattle.secrecy.proofs.CellFlow.{flows-refl}
+use Rattle.secrecy.proofs.Shown.{Up}
 
 -- ---- places in a record. (A test such as `ltb j 8` computes at a numeral, so that `search` closes it by refl.)
 
@@ -34,19 +35,13 @@ bits-common process = refl
 bits-common segment = refl
 bits-common file = refl
 
--- an entry holds a file or a segment, not a process
-abbrev pub holdable : Kind → Bool
-holdable process = false
-holdable segment = true
-holdable file = true
-
-held-fits : (k : Kind) (d : ℕ) → holdable k ≡ true → leb entries d ≡ false → heldAt k d < recordWords process
-held-fits process d e l = absurd (true≢false (sym e))
+held-fits : (k : Kind) (d : ℕ) → Object k → leb entries d ≡ false → heldAt k d < recordWords process
+held-fits process d e l = absurd e
 held-fits segment d e l = omega (arith, tests)
 held-fits file d e l = omega (arith, tests)
 
-used-fits : (k : Kind) (d : ℕ) → holdable k ≡ true → leb entries d ≡ false → usedAt k d < recordWords process
-used-fits process d e l = absurd (true≢false (sym e))
+used-fits : (k : Kind) (d : ℕ) → Object k → leb entries d ≡ false → usedAt k d < recordWords process
+used-fits process d e l = absurd e
 used-fits segment d e l = omega (arith, tests)
 used-fits file d e l = omega (arith, tests)
 
@@ -70,7 +65,7 @@ pub record Reached (h : List ℕ) (k : Kind) (c i : ℕ) : Type 0 where
 
 -- every process reaches what it holds
 abbrev pub Reaching : List ℕ → (Addr → ℕ) → Type 0
-Reaching h r = (p : ℕ) (k : Kind) (d : ℕ) → p < slots h process → holdable k ≡ true → leb entries d ≡ false → eqb (r (at process p (heldAt k d))) 0 ≡ false
+Reaching h r = (p : ℕ) (k : Kind) (d : ℕ) → p < slots h process → Object k → leb entries d ≡ false → eqb (r (at process p (heldAt k d))) 0 ≡ false
     → Reached h k (cellOf h process p) (indexOf (r (at process p (heldAt k d))))
 
 -- process p has a slot
@@ -92,9 +87,9 @@ Stretches h C s t = (f i : ℕ) → f < slots h file → i < stretch h → C (ce
 
 -- so it is in a well-formed table
 module _ (h : List ℕ) (r : Addr → ℕ) (w : Holds (recordsOk h r)) where
-  pub entry-at : (p : ℕ) (k : Kind) (d : ℕ) → p < slots h process → holdable k ≡ true → leb entries d ≡ false
+  pub entry-at : (p : ℕ) (k : Kind) (d : ℕ) → p < slots h process → Object k → leb entries d ≡ false
       → Entry h r k (cellOf h process p) (r (at process p (heldAt k d))) (r (at process p (usedAt k d)))
-  entry-at p process d pp e l = absurd (true≢false (sym e))
+  entry-at p process d pp e l = absurd e
   entry-at p segment d pp e l = designator h r w p d pp (leb-false entries d l)
   entry-at p file d pp e l = descriptor h r w p d pp (leb-false entries d l)
 
@@ -102,6 +97,15 @@ module _ (h : List ℕ) (r : Addr → ℕ) (w : Holds (recordsOk h r)) where
   is-reaching p k d pp e l n =
       let x = entry-at p k d pp e l .held (eqb-false (r (at process p (heldAt k d))) 0 n) in
       record { there = is-formed (class k) (slots h k) (r (at process p (heldAt k d))) (x .form) .index-in; flow = x .flow }
+
+-- two readings alike for a set that holds the cell c have the same free slot there
+pub seen-slot : (h : List ℕ) → Shape h → (C : ℕ → Bool) (r q : Addr → ℕ) → ((a : Addr) → Valid h a → C (cellOf h (a .kind) (a .slot)) ≡ true → r a ≡ q a)
+    → (c : ℕ) → c < cells h → C c ≡ true → (k : Kind) → freeSlot h q k c ≡ freeSlot h r k c
+seen-slot h sh C r q seen c l m k = same-slot h r q k c (λ i x.
+    let there = run-slot h sh k c i l x in
+    let within : C (cellOf h k i) ≡ true = rw (run-cell h sh k c i l x) m in
+    let same : (j : ℕ) → ltb j 8 ≡ true → q (at k i j) ≡ r (at k i j) = λ j o. sym (seen (at k i j) (there, ltb-true j (recordWords k) (common k j o)) within) in
+    (same live refl, same serial refl))
 
 module _ {h : List ℕ} {p : ℕ} {r : Addr → ℕ} (v : Here h p r) where
   own-cell : cellOf h process p < cells h
@@ -113,32 +117,27 @@ module _ {h : List ℕ} {p : ℕ} {r : Addr → ℕ} (v : Here h p r) where
   pub own-flows : (c : ℕ) → c ≡ cellOf h process p → flows h c (cellOf h process p) ≡ true
   own-flows c e = rw e own-flow
 
-  pub held-in : (k : Kind) (d : ℕ) → holdable k ≡ true → leb entries d ≡ false → eqb (r (at process p (heldAt k d))) 0 ≡ false
+  pub held-in : (k : Kind) (d : ℕ) → Object k → leb entries d ≡ false → eqb (r (at process p (heldAt k d))) 0 ≡ false
       → indexOf (r (at process p (heldAt k d))) < slots h k
   held-in k d e l n = v .reaching p k d (v .there) e l n .there
 
-  pub held-flows : (k : Kind) (d : ℕ) → holdable k ≡ true → leb entries d ≡ false → eqb (r (at process p (heldAt k d))) 0 ≡ false
+  pub held-flows : (k : Kind) (d : ℕ) → Object k → leb entries d ≡ false → eqb (r (at process p (heldAt k d))) 0 ≡ false
       → flows h (cellOf h k (indexOf (r (at process p (heldAt k d))))) (cellOf h process p) ≡ true
   held-flows k d e l n = v .reaching p k d (v .there) e l n .flow
 
   -- ---- the slots of the own cell, and the free one
 
-  pub run-in : (k : Kind) (i : ℕ) → firstSlot h k (cellOf h process p) ≤ i → i < firstSlot h k (cellOf h process p) + cellSlots h k (cellOf h process p) → i < slots h k
-  run-in k i lo hi = omega (arith, run-end h k (cellOf h process p) own-cell, v .shape .sums k)
+  pub run-in : (k : Kind) (i : ℕ) → InRun h k (cellOf h process p) i → i < slots h k
+  run-in k i = run-slot h (v .shape) k (cellOf h process p) i own-cell
 
-  pub run-own : (k : Kind) (i : ℕ) → firstSlot h k (cellOf h process p) ≤ i → i < firstSlot h k (cellOf h process p) + cellSlots h k (cellOf h process p)
-      → cellOf h k i ≡ cellOf h process p
-  run-own k i lo hi = cell-run h k i (cellOf h process p) own-cell lo hi
-
-  free-ge : (k : Kind) → firstSlot h k (cellOf h process p) ≤ freeSlot h r k (cellOf h process p)
-  unfolding freeSlot
-  free-ge k = lowest-ge _ (cellSlots h k (cellOf h process p)) (firstSlot h k (cellOf h process p))
+  pub run-own : (k : Kind) (i : ℕ) → InRun h k (cellOf h process p) i → cellOf h k i ≡ cellOf h process p
+  run-own k i = run-cell h (v .shape) k (cellOf h process p) i own-cell
 
   pub free-in : (k : Kind) → noSlot h r k (cellOf h process p) ≡ false → freeSlot h r k (cellOf h process p) < slots h k
-  free-in k e = run-in k (freeSlot h r k (cellOf h process p)) (free-ge k) (leb-false _ _ e)
+  free-in k e = free-slot h r (v .shape) (cellOf h process p) own-cell k e .in-range
 
   pub free-own : (k : Kind) → noSlot h r k (cellOf h process p) ≡ false → cellOf h k (freeSlot h r k (cellOf h process p)) ≡ cellOf h process p
-  free-own k e = run-own k (freeSlot h r k (cellOf h process p)) (free-ge k) (leb-false _ _ e)
+  free-own k e = free-slot h r (v .shape) (cellOf h process p) own-cell k e .in-cell
 
   -- ---- writes
 
@@ -148,10 +147,10 @@ module _ {h : List ℕ} {p : ℕ} {r : Addr → ℕ} (v : Here h p r) where
   pub up-me : (j : ℕ) → ltb j (recordWords process) ≡ true → Up h (cellOf h process p) (at process p j)
   up-me j m = record { valid = (v .there, ltb-true j (recordWords process) m); up = own-flow }
 
-  pub up-held : (k : Kind) (d : ℕ) → holdable k ≡ true → leb entries d ≡ false → Up h (cellOf h process p) (at process p (heldAt k d))
+  pub up-held : (k : Kind) (d : ℕ) → Object k → leb entries d ≡ false → Up h (cellOf h process p) (at process p (heldAt k d))
   up-held k d e l = record { valid = (v .there, held-fits k d e l); up = own-flow }
 
-  pub up-used : (k : Kind) (d : ℕ) → holdable k ≡ true → leb entries d ≡ false → Up h (cellOf h process p) (at process p (usedAt k d))
+  pub up-used : (k : Kind) (d : ℕ) → Object k → leb entries d ≡ false → Up h (cellOf h process p) (at process p (usedAt k d))
   up-used k d e l = record { valid = (v .there, used-fits k d e l); up = own-flow }
 
 module _ {h : List ℕ} {p : ℕ} {C : ℕ → Bool} {r q : Addr → ℕ} (v : View h p C r q) where
@@ -160,10 +159,10 @@ module _ {h : List ℕ} {p : ℕ} {C : ℕ → Bool} {r q : Addr → ℕ} (v : V
   pub same-me : (j : ℕ) → ltb j (recordWords process) ≡ true → q (at process p j) ≡ r (at process p j)
   same-me j l = sym (v .seen (at process p j) (v .here .there, ltb-true j (recordWords process) l) (v .within))
 
-  pub same-held : (k : Kind) (d : ℕ) → holdable k ≡ true → leb entries d ≡ false → q (at process p (heldAt k d)) ≡ r (at process p (heldAt k d))
+  pub same-held : (k : Kind) (d : ℕ) → Object k → leb entries d ≡ false → q (at process p (heldAt k d)) ≡ r (at process p (heldAt k d))
   same-held k d e l = sym (v .seen (at process p (heldAt k d)) (v .here .there, held-fits k d e l) (v .within))
 
-  pub same-used : (k : Kind) (d : ℕ) → holdable k ≡ true → leb entries d ≡ false → q (at process p (usedAt k d)) ≡ r (at process p (usedAt k d))
+  pub same-used : (k : Kind) (d : ℕ) → Object k → leb entries d ≡ false → q (at process p (usedAt k d)) ≡ r (at process p (usedAt k d))
   same-used k d e l = sym (v .seen (at process p (usedAt k d)) (v .here .there, used-fits k d e l) (v .within))
 
   pub same-seid : seidAt q process p ≡ seidAt r process p
@@ -198,13 +197,9 @@ module _ {h : List ℕ} {p : ℕ} {C : ℕ → Bool} {r q : Addr → ℕ} (v : V
 
   -- ---- searches
 
-  pub same-free-entry : (k : Kind) → holdable k ≡ true → freeEntry q k p ≡ freeEntry r k p
+  pub same-free-entry : (k : Kind) → Object k → freeEntry q k p ≡ freeEntry r k p
   unfolding freeEntry
   same-free-entry k e = lowest-same _ _ entries 0 (λ d lo hi. rw (same-held k d e (lt-leb entries d hi)))
 
   pub same-free-slot : (k : Kind) → freeSlot h q k (cellOf h process p) ≡ freeSlot h r k (cellOf h process p)
-  unfolding freeSlot
-  same-free-slot k = lowest-same _ _ (cellSlots h k (cellOf h process p)) (firstSlot h k (cellOf h process p)) (λ i lo hi.
-      let l = run-in (v .here) k i lo hi in
-      let f = own-flows (v .here) (cellOf h k i) (run-own (v .here) k i lo hi) in
-      rw (same-below k i live l (common k live refl) f, same-below k i serial l (common k serial refl) f))
+  same-free-slot k = seen-slot h (v .here .shape) C r q (v .seen) (cellOf h process p) (own-cell (v .here)) (v .within) k

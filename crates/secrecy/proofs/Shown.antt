@@ -5,9 +5,17 @@ use mathlib.Core.List.{List, [], _∷_}
 use Prim.Native.Nat.{ℕ, _+_, _≤_, _<_}
 use lib.Dec.{eqb}
 use lib.ListN.{length}
-use Rattle.rules.specs.Layout.{file, slots, cellOf, flows, Addr, Valid, stretch}
+use Rattle.rules.specs.Layout.{segment, file, slots, cellOf, flows, Addr, Valid, stretch}
 use Rattle.rules.specs.Rule.{Refusal, _⇒_, Word, Bytes, Effect, Rule, rule}
+use Rattle.laws.proofs.Object.{Object}
 use Rattle.laws.proofs.Written.{AllOf, nil, also, all-if}
+
+-- an entry's kind, as `search` meets it
+pub object-file : Object file
+object-file = tt
+
+pub object-segment : Object segment
+object-segment = tt
 
 -- ---- up
 
@@ -26,16 +34,16 @@ pub record UpBytes (h : List ℕ) (c : ℕ) (x : Bytes) : Type 0 where
   pub up : flows h c (cellOf h file (x .file)) ≡ true
 
 -- a rule that writes nothing but such words and bytes, where it does not refuse
-pub data Good (h : List ℕ) (c : ℕ) : Rule → Type 0 where
-  good-effect : {e : Effect} → Ups h c (e .words) → AllOf (UpBytes h c) (e .bytes) → Good h c (rule [] e)
-  good-test : {b : Bool} {n : ℕ} {rs : List Refusal} {e : Effect} → eqb n 0 ≡ false → (b ≡ false → Good h c (rule rs e)) → Good h c (rule ((b ⇒ n) ∷ rs) e)
+pub data WritesUp (h : List ℕ) (c : ℕ) : Rule → Type 0 where
+  up-effect : {e : Effect} → Ups h c (e .words) → AllOf (UpBytes h c) (e .bytes) → WritesUp h c (rule [] e)
+  up-test : {b : Bool} {n : ℕ} {rs : List Refusal} {e : Effect} → eqb n 0 ≡ false → (b ≡ false → WritesUp h c (rule rs e)) → WritesUp h c (rule ((b ⇒ n) ∷ rs) e)
 
-pub good-if : (h : List ℕ) (c : ℕ) (b : Bool) (k l : Rule) → (b ≡ true → Good h c k) → (b ≡ false → Good h c l) → Good h c (cond b k l)
-good-if h c true k l g j = g refl
-good-if h c false k l g j = j refl
+pub up-if : (h : List ℕ) (c : ℕ) (b : Bool) (k l : Rule) → (b ≡ true → WritesUp h c k) → (b ≡ false → WritesUp h c l) → WritesUp h c (cond b k l)
+up-if h c true k l g j = g refl
+up-if h c false k l g j = j refl
 
 -- what `search` walks a rule with, up to the single writes
-pub ruleset good-rules = (good-if, good-test, good-effect, nil, also, all-if)
+pub ruleset up-rules = (up-if, up-test, up-effect, nil, also, all-if, object-file, object-segment)
 
 -- ---- alike
 
@@ -62,4 +70,4 @@ alike-if h C true k l m n g j = g refl
 alike-if h C false k l m n g j = j refl
 
 -- what `search` walks two rules with, up to the single tests and effects
-pub ruleset alike-rules = (alike-if, alike-test, alike-effect, same-effect)
+pub ruleset alike-rules = (alike-if, alike-test, alike-effect, same-effect, object-file, object-segment)

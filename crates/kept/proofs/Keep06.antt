@@ -14,8 +14,8 @@ use Rattle.rules.specs.Seid.{indexOf}
 use Rattle.laws.proofs.Tests.{passed}
 use Rattle.laws.proofs.Shape.{Entry}
 use Rattle.laws.proofs.Written.{nil}
-use Rattle.kept.proofs.Fine.{Object}
-use Rattle.kept.proofs.Refusals.{clear}
+use Rattle.laws.proofs.Object.{Object}
+use Rattle.laws.proofs.Refusals.{clear}
 use Rattle.kept.proofs.Records.{word-in, word-at, word-past, elsewhere, by-slot}
 use Rattle.kept.proofs.Made.{placed}
 use Rattle.kept.proofs.Readings.{live-process}

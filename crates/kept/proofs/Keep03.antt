@@ -10,9 +10,9 @@ use Rattle.rules.specs.Rights.{mayRead, mayWrite, access, validAccess}
 use Rattle.rules.specs.Find.{freeSlot, freeEntry}
 use Rattle.rules.specs.Call03.{buildSegment}
 use Rattle.laws.proofs.Tests.{or-left, or-right, passed}
-use Rattle.kept.proofs.Refusals.{clear}
+use Rattle.laws.proofs.Refusals.{clear}
 use Rattle.kept.proofs.Keeps.{KeptBy, Caller}
-use Rattle.kept.proofs.Found.{free-slot, free-entry}
+use Rattle.kept.proofs.Found.{own-slot, free-entry}
 use Rattle.kept.proofs.Created.{created}
 
 access-valid : (x y : Bool) → validAccess (access x y) ≡ true
@@ -28,5 +28,5 @@ keeps h r p me a b c buffer e =
     let ok = clear (buildSegment h r p a b c buffer .refusals) refl e in
     let mine : ℕ = cellOf h process p in
     created h r p me segment tt (freeSlot h r segment mine) (freeEntry r segment p) (access (mayRead (b / 64)) (mayWrite (b / 64))) b c a
-    (free-slot h r p me segment (ok .1 .1 .1 .0)) (free-entry r segment p (ok .1 .1 .0))
+    (own-slot h r p me segment (ok .1 .1 .1 .0)) (free-entry r segment p (ok .1 .1 .0))
     (ltb-false maxBits b (or-left (ltb maxBits b) (ltb 1 c) (ok .0))) (ltb-false 1 c (or-right (ltb maxBits b) (ltb 1 c) (ok .0)), passed _ (ok .1 .0)) (access-valid _ _)

@@ -8,7 +8,7 @@ use Rattle.rules.specs.Layout.{maxLinks, file, Addr, at, links}
 use Rattle.rules.specs.Seid.{indexOf, orSelf}
 use Rattle.rules.specs.Call10.{link}
 use Rattle.laws.proofs.Tests.{passed}
-use Rattle.kept.proofs.Refusals.{clear}
+use Rattle.laws.proofs.Refusals.{clear}
 use Rattle.kept.proofs.Keeps.{KeptBy, Caller}
 use Rattle.kept.proofs.Found.{found}
 use Rattle.kept.proofs.Objects.{alive-now, keeps-word}

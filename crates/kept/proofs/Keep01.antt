@@ -14,11 +14,12 @@ use Rattle.rules.specs.Find.{freeSlot}
 use Rattle.rules.specs.Call01.{spawn, spawned}
 use Rattle.laws.proofs.Tests.{or-left, or-right}
 use Rattle.laws.proofs.Written.{AllOf, nil}
-use Rattle.kept.proofs.Refusals.{clear}
+use Rattle.laws.proofs.Refusals.{clear}
 use Rattle.kept.proofs.Records.{InRecord, word-in, same-record}
 use Rattle.kept.proofs.Keeps.{Keeps, KeptBy, Caller}
 use Rattle.kept.proofs.Begun.{keeps-begun}
-use Rattle.kept.proofs.Found.{own-index, own-found, FreeSlot, free-slot}
+use Rattle.laws.proofs.Slots.{FreeSlot}
+use Rattle.kept.proofs.Found.{own-index, own-found, own-slot}
 
 pub spawned-in : (r : Addr → ℕ) (p a b q s : ℕ) → AllOf (InRecord process q) (spawned r p a b q s)
 spawned-in r p a b q s =
@@ -57,5 +58,5 @@ unfolding spawn
 keeps h r p me a b buffer e =
     let ok = clear (spawn h r p a b buffer .refusals) refl e in
     let mine : ℕ = cellOf h process p in
-    spawns h r p me a b (freeSlot h r process mine) (free-slot h r p me process (ok .1 .1 .0))
+    spawns h r p me a b (freeSlot h r process mine) (own-slot h r p me process (ok .1 .1 .0))
     (ltb-false maxOwner a (or-left (ltb maxOwner a) (ltb maxOwner b) (ok .0))) (ltb-false maxOwner b (or-right (ltb maxOwner a) (ltb maxOwner b) (ok .0)))

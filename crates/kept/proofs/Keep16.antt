@@ -12,7 +12,7 @@ use Rattle.rules.specs.Rule.{Word, over, _≔_, sameAddr}
 use Rattle.rules.specs.Find.{zeros}
 use Rattle.rules.specs.Call16.{receive, movedUp}
 use Rattle.laws.proofs.Written.{AllOf, all-append, hit, miss, over-append}
-use Rattle.kept.proofs.Refusals.{clear}
+use Rattle.laws.proofs.Refusals.{clear}
 use Rattle.kept.proofs.Records.{InRecord, word-in, apart-word, tab-in, tab-past, tab-at}
 use Rattle.kept.proofs.Keeps.{Keeps, KeptBy, Caller}
 use Rattle.kept.proofs.Mail.{keeps-mail}

@@ -13,8 +13,9 @@ use Rattle.rules.specs.Rule.{Word, over}
 use Rattle.rules.specs.Find.{givenUp, freed}
 use Rattle.rules.specs.Call02.{dropped, droppedTo, released, releaseProcess}
 use Rattle.laws.proofs.Written.{over-append}
-use Rattle.kept.proofs.Fine.{Object, Fine}
-use Rattle.kept.proofs.Refusals.{clear}
+use Rattle.laws.proofs.Object.{Object}
+use Rattle.kept.proofs.Fine.{Fine}
+use Rattle.laws.proofs.Refusals.{clear}
 use Rattle.kept.proofs.Records.{by-slot, elsewhere, freed-in, freed-serial, freed-word}
 use Rattle.kept.proofs.Made.{placed, place-apart, freed-record}
 use Rattle.kept.proofs.Keeps.{Keeps, KeptBy, Caller, keeps-none, keeps-then, keeps-process}

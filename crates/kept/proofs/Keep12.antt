@@ -8,8 +8,8 @@ use borrow.Author.Tests.{ltb-false}
 use Rattle.rules.specs.Layout.{maxBits, Kind, process, segment, file, Addr, bits}
 use Rattle.rules.specs.Seid.{indexOf}
 use Rattle.rules.specs.Call12.{setBitsOf}
-use Rattle.kept.proofs.Fine.{Object}
-use Rattle.kept.proofs.Refusals.{numbered, clear}
+use Rattle.laws.proofs.Object.{Object}
+use Rattle.laws.proofs.Refusals.{numbered, clear}
 use Rattle.kept.proofs.Made.{object-words}
 use Rattle.kept.proofs.Keeps.{KeptBy, Caller}
 use Rattle.kept.proofs.Found.{found}

@@ -9,7 +9,7 @@ use Rattle.rules.specs.Seid.{indexOf}
 use Rattle.rules.specs.Call14.{writeBlock}
 use Rattle.laws.proofs.Tests.{passed}
 use Rattle.laws.proofs.Seids.{is-formed, is-present}
-use Rattle.kept.proofs.Refusals.{clear}
+use Rattle.laws.proofs.Refusals.{clear}
 use Rattle.kept.proofs.Keeps.{KeptBy, Caller}
 use Rattle.kept.proofs.Objects.{alive-now, keeps-word}
 

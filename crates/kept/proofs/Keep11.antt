@@ -13,7 +13,7 @@ use Rattle.rules.specs.Rule.{_≔_}
 use Rattle.rules.specs.Find.{freed}
 use Rattle.rules.specs.Call11.{unlink, unlinked}
 use Rattle.laws.proofs.Tests.{passed, and-right, both-ways, cond-both}
-use Rattle.kept.proofs.Refusals.{clear}
+use Rattle.laws.proofs.Refusals.{clear}
 use Rattle.kept.proofs.Records.{elsewhere, freed-in, freed-serial, freed-word}
 use Rattle.kept.proofs.Made.{freed-record}
 use Rattle.kept.proofs.Keeps.{Keeps, KeptBy, Caller, keeps-object}

@@ -15,7 +15,7 @@ use Rattle.laws.proofs.Tests.{and-left, and-right, passed, cond-both}
 use Rattle.laws.proofs.Seids.{is-formed, is-present}
 use Rattle.laws.proofs.Shape.{Held}
 use Rattle.laws.proofs.Written.{AllOf, nil}
-use Rattle.kept.proofs.Refusals.{clear}
+use Rattle.laws.proofs.Refusals.{clear}
 use Rattle.kept.proofs.Records.{InRecord, word-in, same-record, by-slot}
 use Rattle.kept.proofs.Keeps.{Keeps, KeptBy, Caller, keeps-none}
 use Rattle.kept.proofs.Found.{own-index, own-found}

@@ -9,7 +9,7 @@ use Rattle.rules.specs.Modes.{writes}
 use Rattle.rules.specs.Find.{inOwnCell, flowsToCaller, freeEntry}
 use Rattle.rules.specs.Call08.{openFile}
 use Rattle.laws.proofs.Tests.{or-left, or-right, passed}
-use Rattle.kept.proofs.Refusals.{clear}
+use Rattle.laws.proofs.Refusals.{clear}
 use Rattle.kept.proofs.Keeps.{KeptBy, Caller}
 use Rattle.kept.proofs.Found.{found, free-entry, in-own}
 use Rattle.kept.proofs.Entries.{filled}
