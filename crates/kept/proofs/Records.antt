@@ -12,7 +12,7 @@ use Rattle.rules.specs.Layout.{Kind, process, segment, file, recordWords, slots
 use Rattle.rules.specs.Seid.{class}
 use Rattle.rules.specs.Rule.{Word, _≔_, sameAddr, over}
 use Rattle.rules.specs.Find.{zeros, freed}
-use Rattle.laws.proofs.Written.{AllOf, nil, also, all-map, Valids, hit, miss, over-append, over-miss}
+use Rattle.laws.proofs.Written.{AllOf, nil, also, all-map, Valids, hit, miss, over-append, over-miss, over-at}
 
 -- ---- one record or another
 
@@ -59,13 +59,6 @@ in-valid h k i l x w = (rw (w .0, w .1) l, rw (w .0) (w .2))
 pub all-valid : (h : List ℕ) (k : Kind) (i : ℕ) {ws : List Word} → i < slots h k → AllOf (InRecord k i) ws → Valids h ws
 all-valid h k i l a = all-map (in-valid h k i l) a
 
--- what is written over one word hangs on that word alone
-over-local : (ws : List Word) (r q : Addr → ℕ) (a : Addr) → r a ≡ q a → over r ws a ≡ over q ws a
-unfolding over
-over-local [] r q a e = e
-over-local (x ∷ ws) r q a e =
-    over-local ws (λ b. cond (sameAddr b (x .at)) (x .value) (r b)) (λ b. cond (sameAddr b (x .at)) (x .value) (q b)) a (rw e)
-
 -- within a record, places are told apart by their words
 pub same-record : (k : Kind) (i j n : ℕ) → sameAddr (at k i j) (at k i n) ≡ eqb j n
 unfolding sameAddr
@@ -93,7 +86,7 @@ module _ (k l : Kind) (i m : ℕ) (ne : l ≡ k → m ≡ i → ⊥) {ws vs : Li
   in-first j = rw (over-append r ws vs) (elsewhere l m b (over r ws) k i j (λ x y. ne (sym x) (sym y)))
 
   pub in-second : (j : ℕ) → over r (ws ++ vs) (at l m j) ≡ over r vs (at l m j)
-  in-second j = rw (over-append r ws vs) (over-local vs (over r ws) r (at l m j) (elsewhere k i a r l m j ne))
+  in-second j = rw (over-append r ws vs) (over-at vs (over r ws) r (at l m j) (elsewhere k i a r l m j ne))
 
   pub in-neither : (g : Kind) (n j : ℕ) → (g ≡ k → n ≡ i → ⊥) → (g ≡ l → n ≡ m → ⊥) → over r (ws ++ vs) (at g n j) ≡ r (at g n j)
   in-neither g n j x y = rw (over-append r ws vs) (elsewhere l m b (over r ws) g n j y ∙ elsewhere k i a r g n j x)

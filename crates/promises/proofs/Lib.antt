@@ -5,6 +5,7 @@ pub mod Stale
 pub mod Edges
 pub mod Listing
 pub mod Outcomes
+pub mod Writes
 pub mod Queue
 pub mod Mail
 pub mod Fresh

@@ -12,11 +12,10 @@ use Rattle.rules.specs.Rule.{Word, Bytes, Effect, Rule, firstRefusal, write, st
 use Rattle.rules.specs.Step.{State, carriedOut}
 use Rattle.rules.specs.Observer.{Closed}
 use Rattle.laws.proofs.Tests.{split, both-ways, refuted}
-use Rattle.laws.proofs.Written.{AllOf, nil, also, all-map, over-miss, rd-write}
+use Rattle.laws.proofs.Written.{AllOf, nil, also, all-map, over-miss, rd-write, over-at}
 use Rattle.laws.proofs.Stored.{sets-both, stretch-apart}
 use Rattle.secrecy.proofs.Shown.{Ups, UpBytes, WritesUp, up-effect, up-test, Hidden, Alike-effects, same-effect, hidden, Alike, alike-effect, alike-test}
 use Rattle.secrecy.proofs.View.{Stretches}
-use Rattle.secrecy.proofs.Lists.{over-at}
 
 -- ---- refusals
 

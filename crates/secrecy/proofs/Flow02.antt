@@ -13,10 +13,9 @@ use Rattle.rules.specs.Call02.{dropped, droppedTo, released, releaseProcess}
 use Rattle.laws.proofs.Tests.{split, cond-true, cond-false}
 use Rattle.laws.proofs.Object.{Object, no-process}
 use Rattle.laws.proofs.Places.{same-addr}
-use Rattle.laws.proofs.Written.{AllOf, nil, also, all-if, all-append}
+use Rattle.laws.proofs.Written.{AllOf, nil, also, all-if, all-append, all-tab, over-at}
 use Rattle.secrecy.proofs.Shown.{up-rules, alike-rules, Ups, WritesUp, Alike}
 use Rattle.secrecy.proofs.View
-use Rattle.secrecy.proofs.Lists.{all-tab, over-at}
 use Rattle.secrecy.proofs.Give.{up-freed, up-given, same-given}
 
 -- ---- entries are given up one after the other, each on what those before it leave: no word of a process becomes anything but 0

@@ -9,10 +9,10 @@ use Rattle.rules.specs.Layout.{process, cellOf, Addr, recordWords, messages, me
 use Rattle.rules.specs.Rule.{Word}
 use Rattle.rules.specs.Find.{zeros}
 use Rattle.rules.specs.Call16.{movedUp, receive}
-use Rattle.laws.proofs.Written.{all-append}
+use Rattle.laws.proofs.Written.{all-append, all-tab}
 use Rattle.secrecy.proofs.Shown.{up-rules, alike-rules, Ups, WritesUp, Alike}
 use Rattle.secrecy.proofs.View
-use Rattle.secrecy.proofs.Lists.{all-tab, tab-same}
+use Rattle.secrecy.proofs.Lists.{tab-same}
 use Rattle.secrecy.proofs.Give.{up-zeros}
 
 up-moved : {h : List ℕ} {p : ℕ} {r : Addr → ℕ} → View.Here h p r → Ups h (cellOf h process p) (movedUp r p)

@@ -11,8 +11,7 @@ use Rattle.rules.specs.Seid.{indexOf}
 use Rattle.rules.specs.Find.{inOwnCell, freed, zeros, kept, oneLess, givenUp}
 use Rattle.laws.proofs.Tests.{split}
 use Rattle.laws.proofs.Object.{Object}
-use Rattle.laws.proofs.Written.{nil, also, all-if}
-use Rattle.secrecy.proofs.Lists.{all-tab}
+use Rattle.laws.proofs.Written.{nil, also, all-if, all-tab}
 use Rattle.secrecy.proofs.Shown.{Ups}
 use Rattle.secrecy.proofs.View.{common, Here, View, up-own, up-held, up-used, same-below, own-flows}
 

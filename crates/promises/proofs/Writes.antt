@@ -1,0 +1,215 @@
+-- What each call writes, word by word, said once: `writes`, at the end. What no call changes follows from it.
+use mathlib.Core.Path.{_≡_, refl, sym, ap, _∙_}
+use mathlib.Core.Bool.{false, _&&_, not}
+use mathlib.Core.List.{List, [], _∷_, _++_}
+use Prim.Native.Nat.{ℕ, zero, suc, _+_, _*_, _-_, _≤_, _<_}
+use native.Mathlib.Omega.{arith}
+use lib.Dec.{ltb, eqb}
+use borrow.Author.Tests.{ltb-true, leb-false}
+use Rattle.rules.specs.Layout.{Kind, process, segment, file, recordWords, cells, cellOf, Addr, at, live, serial, owner, group, queue, entries, heldAt, usedAt, messages, messageWords, messagesAt, messageAt, bits, size, holders, links, opens}
+use Rattle.rules.specs.Seid.{indexOf, orSelf, present, seidAt}
+use Rattle.rules.specs.Rule.{Word, _≔_, Rule, over}
+use Rattle.rules.specs.Find.{inOwnCell, entered, oneMore, zeros, freed, kept, oneLess, givenUp, freeSlot, noSlot, freeEntry}
+use Rattle.rules.specs.Call01.{spawn}
+use Rattle.rules.specs.Call02.{dropped, droppedTo, released, releaseProcess}
+use Rattle.rules.specs.Call03.{buildSegment}
+use Rattle.rules.specs.Call04.{rendezvous}
+use Rattle.rules.specs.Call05.{releaseSegment}
+use Rattle.rules.specs.Call06.{setAccess}
+use Rattle.rules.specs.Call07.{create}
+use Rattle.rules.specs.Call08.{openFile}
+use Rattle.rules.specs.Call09.{close}
+use Rattle.rules.specs.Call10.{link}
+use Rattle.rules.specs.Call11.{unlinked, unlink}
+use Rattle.rules.specs.Call13.{readBlock}
+use Rattle.rules.specs.Call14.{writeBlock}
+use Rattle.rules.specs.Call15.{queued, post}
+use Rattle.rules.specs.Call16.{movedUp, receive}
+use Rattle.rules.specs.Call18.{accessOf}
+use Rattle.rules.specs.Step.{Call, ruleOf}
+use Rattle.laws.proofs.Tests.{and-right}
+use Rattle.laws.proofs.Written.{AllOf, nil, also, all-append, all-if, all-tab}
+use Rattle.laws.proofs.Object.{Object}
+use Rattle.laws.proofs.Refusals.{Clear}
+use Rattle.laws.proofs.Shape.{in-run}
+use Rattle.laws.proofs.Codes.{by-code, by-bits, by-status}
+use Rattle.kept.proofs.Keeps.{Caller}
+use Rattle.kept.proofs.Found.{free-entry}
+
+-- a word of some entry of a kind: descriptors first, then designators
+abbrev pub EntryWord : Kind → ℕ → Type 0
+EntryWord process n = ⊥
+EntryWord file n = (8 ≤ n) × (n < 40)
+EntryWord segment n = (40 ≤ n) × (n < messagesAt)
+
+-- a queue's length, or a word of its messages
+abbrev pub MailWord : ℕ → Type 0
+MailWord n = (n ≡ queue → ⊥) → (messagesAt ≤ n) × (n < messageAt messages 0)
+
+-- the process that a call acts on: its caller, or the one that call 2 releases
+pub data Acting (r : Addr → ℕ) (k : Call) : ℕ → Type 0 where
+  itself : Acting r k (k .caller)
+  released-one : k .code ≡ 2 → Acting r k (indexOf (orSelf r (k .caller) (k .a)))
+
+-- the calls that fill an entry, or change how it is used
+abbrev pub Fills : Kind → ℕ → Type 0
+Fills process n = ⊥
+Fills segment n = Unit {0}
+Fills file n = (n ≡ 7 → ⊥) → n ≡ 8
+
+pub data Wrote (h : List ℕ) (r : Addr → ℕ) (k : Call) : Word → Type 0 where
+  -- a word of a record made in a free slot of a cell: its serial is one more
+  made : {j : Kind} {c n v : ℕ} → c < cells h → noSlot h r j c ≡ false → (n ≡ serial → v ≡ r (at j (freeSlot h r j c) serial) + 1)
+      → Wrote h r k (at j (freeSlot h r j c) n ≔ v)
+  -- an entry of the caller's filled, or used otherwise; an entry given up
+  filled : (j : Kind) {n v : ℕ} → Fills j (k .code) → EntryWord j n → Wrote h r k (at process (k .caller) n ≔ v)
+  emptied : (j : Kind) {q n : ℕ} → Acting r k q → EntryWord j n → Wrote h r k (at process q n ≔ 0)
+  -- an object's holders counted, or the object freed; the process that call 2 releases cleared
+  counted : {j : Kind} {i v : ℕ} → Object j → Wrote h r k (at j i (holders j) ≔ v)
+  freed-word : {j : Kind} {i n : ℕ} → Object j → (n ≡ serial → ⊥) → Wrote h r k (at j i n ≔ 0)
+  cleared : {n : ℕ} → k .code ≡ 2 → (n ≡ serial → ⊥) → Wrote h r k (at process (indexOf (orSelf r (k .caller) (k .a))) n ≔ 0)
+  -- a file's links and size; bits
+  linked : {i v : ℕ} → Wrote h r k (at file i links ≔ v)
+  sized : {i v : ℕ} → Wrote h r k (at file i size ≔ v)
+  set-bits : {j : Kind} {i v : ℕ} → k .code ≡ 12 → Object j → Wrote h r k (at j i (bits j) ≔ v)
+  -- a queue's length and messages: the receiver's of a post, the caller's at a receive
+  posted : {n v : ℕ} → k .code ≡ 15 → MailWord n → Wrote h r k (at process (indexOf (orSelf r (k .caller) (k .a))) n ≔ v)
+  received : {n v : ℕ} → k .code ≡ 16 → MailWord n → Wrote h r k (at process (k .caller) n ≔ v)
+
+-- ---- the parts that the calls share
+
+held-word : (j : Kind) → Object j → (d : ℕ) → d < entries → EntryWord j (heldAt j d) × EntryWord j (usedAt j d)
+held-word process o d l = absurd o
+held-word segment o d l = ((omega arith, omega arith), (omega arith, omega arith))
+held-word file o d l = ((omega arith, omega arith), (omega arith, omega arith))
+
+module _ (h : List ℕ) (r : Addr → ℕ) (k : Call) where
+  abbrev given : ℕ
+  given = orSelf r (k .caller) (k .a)
+
+  abbrev Writes : List Word → Type 0
+  Writes ws = AllOf (Wrote h r k) ws
+
+  -- (what is read may have changed since the call began: q is what it holds by then)
+  of-filled : (j : Kind) → Object j → Fills j (k .code) → (d s u : ℕ) → d < entries → Writes (entered j (k .caller) d s u)
+  of-filled j o f d s u l = let w = held-word j o d l in also (filled j f (w .0)) (also (filled j f (w .1)) nil)
+
+  of-emptied : (j : Kind) → Object j → (p : ℕ) → Acting r k p → (d : ℕ) → d < entries → Writes (entered j p d 0 0)
+  of-emptied j o p a d l = let w = held-word j o d l in also (emptied j a (w .0)) (also (emptied j a (w .1)) nil)
+
+  of-freed : (j : Kind) → Object j → (i : ℕ) → Writes (freed j i)
+  unfolding zeros
+  of-freed j o i = also (freed-word {n = live} o (λ e. omega arith)) (all-tab (Wrote h r k) 2 (recordWords j - 2) _ (λ n lo hi. freed-word {n = n} o (λ e. omega arith)))
+
+  of-cleared : k .code ≡ 2 → Writes (freed process (indexOf given))
+  unfolding zeros
+  of-cleared e = also (cleared {n = live} e (λ x. omega arith)) (all-tab (Wrote h r k) 2 (recordWords process - 2) _ (λ n lo hi. cleared {n = n} e (λ x. omega arith)))
+
+  of-less : (q : Addr → ℕ) (j : Kind) → Object j → (i : ℕ) → Writes (oneLess q j i)
+  unfolding oneLess
+  of-less q j o i = all-if (Wrote h r k) (eqb (q (at j i (holders j))) 1 && not (kept q j i)) (freed j i) ((at j i (holders j) ≔ q (at j i (holders j)) - 1) ∷ []) (λ e. of-freed j o i) (λ e. also (counted o) nil)
+
+  of-more : (q : Addr → ℕ) (p : ℕ) (j : Kind) → Object j → (s : ℕ) → Writes (oneMore h q p j s)
+  of-more q p j o s = all-if (Wrote h r k) (inOwnCell h p j s) _ [] (λ e. also (counted o) nil) (λ e. nil)
+
+  of-given-up : (q : Addr → ℕ) (j : Kind) → Object j → (p : ℕ) → Acting r k p → (d s : ℕ) → d < entries → Writes (givenUp h q j p d s)
+  unfolding givenUp
+  of-given-up q j o p a d s l =
+      all-append _ (of-emptied j o p a d l) (all-if (Wrote h r k) (inOwnCell h p j s) (oneLess q j (indexOf s)) [] (λ e. of-less q j o (indexOf s)) (λ e. nil))
+
+  of-dropped : (q : Addr → ℕ) (j : Kind) → Object j → (p : ℕ) → Acting r k p → (d : ℕ) → d < entries → Writes (dropped h q j p d)
+  unfolding dropped
+  of-dropped q j o p a d l = all-if (Wrote h r k) (eqb (q (at process p (heldAt j d))) 0) [] _ (λ e. nil) (λ e. of-given-up q j o p a d _ l)
+
+  of-dropped-to : (q : Addr → ℕ) (j : Kind) → Object j → (p : ℕ) → Acting r k p → (n : ℕ) → n ≤ entries → Writes (droppedTo h q j p n)
+  unfolding droppedTo
+  of-dropped-to q j o p a zero l = nil
+  of-dropped-to q j o p a (suc n) l =
+      all-append _ (of-dropped-to q j o p a n (omega arith)) (of-dropped (over q (droppedTo h q j p n)) j o p a n (omega arith))
+
+  of-released : k .code ≡ 2 → Writes (released h r (indexOf given))
+  unfolding released
+  of-released e =
+      let a = released-one e in
+      all-append _ (of-dropped-to r file tt _ a entries (omega arith))
+      (all-append _ (of-dropped-to (over r (droppedTo h r file (indexOf given) entries)) segment tt _ a entries (omega arith)) (of-cleared e))
+
+  of-unlinked : (i : ℕ) → Writes (unlinked r i)
+  unfolding unlinked
+  of-unlinked i = all-if (Wrote h r k) (eqb (r (at file i links)) 1 && eqb (r (at file i opens)) 0) _ _ (λ e. of-freed file tt i) (λ e. also linked nil)
+
+  -- ---- a record made: the caller's cell has room
+
+  module _ (me : Caller h r (k .caller)) where
+    mine : cellOf h process (k .caller) < cells h
+    mine = in-run h (me .shape) process (k .caller) (me .in-range) .0
+
+    new-word : (j : Kind) → noSlot h r j (cellOf h process (k .caller)) ≡ false → (n v : ℕ) → (n ≡ serial → ⊥)
+        → Wrote h r k (at j (freeSlot h r j (cellOf h process (k .caller))) n ≔ v)
+    new-word j room n v x = made mine room (λ e. absurd (x e))
+
+    new-serial : (j : Kind) → noSlot h r j (cellOf h process (k .caller)) ≡ false
+        → Wrote h r k (at j (freeSlot h r j (cellOf h process (k .caller))) serial ≔ r (at j (freeSlot h r j (cellOf h process (k .caller))) serial) + 1)
+    new-serial j room = made mine room (λ e. refl)
+
+    -- the words of any list that begins with live and serial and goes on with others
+    of-spawned : Clear (spawn h r (k .caller) (k .a) (k .b) (k .buffer) .refusals) → Writes (spawn h r (k .caller) (k .a) (k .b) (k .buffer) .effects .words)
+    unfolding spawn
+    of-spawned ok =
+        let w = new-word process (ok .1 .1 .0) in
+        also (w 0 _ (λ e. omega arith)) (also (new-serial process (ok .1 .1 .0)) (also (w 2 _ (λ e. omega arith)) (also (w 3 _ (λ e. omega arith)) (also (w 4 _ (λ e. omega arith)) nil))))
+
+    of-object : (j : Kind) → noSlot h r j (cellOf h process (k .caller)) ≡ false → (u g b x y : ℕ)
+        → let i : ℕ = freeSlot h r j (cellOf h process (k .caller)) in
+        Writes ((at j i 0 ≔ 1) ∷ (at j i 1 ≔ r (at j i serial) + 1) ∷ (at j i 2 ≔ u) ∷ (at j i 3 ≔ g) ∷ (at j i 4 ≔ b) ∷ (at j i 5 ≔ x) ∷ (at j i 6 ≔ y) ∷ (at j i 7 ≔ 1) ∷ [])
+    of-object j room u g b x y =
+        let w = new-word j room in
+        also (w 0 _ (λ e. omega arith)) (also (new-serial j room) (also (w 2 _ (λ e. omega arith)) (also (w 3 _ (λ e. omega arith)) (also (w 4 _ (λ e. omega arith))
+        (also (w 5 _ (λ e. omega arith)) (also (w 6 _ (λ e. omega arith)) (also (w 7 _ (λ e. omega arith)) nil)))))))
+
+    -- ---- mail
+
+    of-posted : k .code ≡ 15 → Writes (post h r (k .caller) (k .a) (k .buffer) .effects .words)
+    unfolding post queued
+    of-posted e =
+        let q = indexOf given in
+        all-if (Wrote h r k) (present r process given && ltb (r (at process q queue)) messages) _ [] (λ t.
+        let l = ltb-true (r (at process q queue)) messages (and-right (present r process given) _ t) in
+        also (posted e (λ x. absurd (x refl))) (also (posted e (λ x. (omega arith, omega arith))) (also (posted e (λ x. (omega arith, omega arith)))
+        (also (posted e (λ x. (omega arith, omega arith))) (also (posted e (λ x. (omega arith, omega arith))) nil)))))
+        (λ t. nil)
+
+    of-received : k .code ≡ 16 → Writes (receive h r (k .caller) (k .buffer) .effects .words)
+    unfolding receive movedUp zeros
+    of-received e = also (received e (λ x. absurd (x refl)))
+        (all-append _ (all-tab (Wrote h r k) messagesAt (messageWords * (messages - 1)) _ (λ n lo hi. received {n = n} e (λ x. (omega arith, omega arith))))
+        (all-tab (Wrote h r k) (messageAt (messages - 1) 0) messageWords _ (λ n lo hi. received {n = n} e (λ x. (omega arith, omega arith)))))
+
+-- ---- every call
+
+pub writes : (h : List ℕ) (r : Addr → ℕ) (st : List ℕ) (k : Call) → Caller h r (k .caller) → Clear (ruleOf h r st k .refusals) → AllOf (Wrote h r k) (ruleOf h r st k .effects .words)
+unfolding releaseProcess buildSegment rendezvous releaseSegment setAccess create openFile close link unlink readBlock writeBlock accessOf
+writes h r st k me =
+    let p = k .caller in
+    let P : Rule → Type 0 = λ x. Clear (x .refusals) → AllOf (Wrote h r k) (x .effects .words) in
+    by-code h k (λ f. P (f r st)) (record {
+      call-1 = λ e. of-spawned h r k me;
+      call-2 = λ e ok. of-released h r k e;
+      call-3 = λ e ok. all-append _ (of-object h r k me segment (ok .1 .1 .1 .0) _ _ _ _ _) (of-filled h r k segment tt tt (freeEntry r segment p) _ _ (free-entry r segment p (ok .1 .1 .0) .in-record));
+      call-4 = λ e ok. all-append _ (of-filled h r k segment tt tt (freeEntry r segment p) _ _ (free-entry r segment p (ok .1 .1 .1 .1 .1 .1 .1 .0) .in-record)) (of-more h r k r p segment tt _);
+      call-5 = λ e ok. of-given-up h r k r segment tt p itself (k .a) _ (leb-false entries (k .a) (ok .0));
+      call-6 = λ e ok. let l = leb-false entries (k .a) (ok .1 .0) in also (filled segment tt (omega arith, omega arith)) nil;
+      call-7 = λ e ok. all-append _ (of-object h r k me file (ok .1 .1 .1 .0) _ _ _ _ _) (of-filled h r k file tt (λ n. absurd (n e)) (freeEntry r file p) _ _ (free-entry r file p (ok .1 .1 .0) .in-record));
+      call-8 = λ e ok. all-append _ (of-filled h r k file tt (λ n. e) (freeEntry r file p) _ _ (free-entry r file p (ok .1 .1 .1 .1 .1 .1 .0) .in-record)) (of-more h r k r p file tt _);
+      call-9 = λ e ok. of-given-up h r k r file tt p itself (k .a) _ (leb-false entries (k .a) (ok .0));
+      call-10 = λ e ok. also linked nil;
+      call-11 = λ e ok. of-unlinked h r k (indexOf (orSelf r p (k .a)));
+      call-12 = λ e. by-bits h r k P (λ s j o ok. also (set-bits e o) nil);
+      call-13 = λ e ok. nil;
+      call-14 = λ e ok. also sized nil;
+      call-15 = λ e ok. of-posted h r k me e;
+      call-16 = λ e ok. of-received h r k me e;
+      call-17 = λ e. by-status h r k P (λ s j ok. nil);
+      call-18 = λ e ok. nil;
+      other = λ ok. nil;
+    })
