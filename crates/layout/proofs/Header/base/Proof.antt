@@ -1,0 +1,70 @@
+-- `Header::base` meets its contract, kind by kind.
+use native.Mathlib.Omega.{arith}
+use borrow.Author.Needs.{needs}
+use Rattle.layout.proofs.Header.base.Statement.{statement}
+use Rattle.layout.proofs.Header.base.Tie as tie
+
+wide-requires : tie.Need-wide-requires
+wide-requires c κs = search needs
+
+mul-processes : tie.Need-mul-processes
+mul-processes c = search needs
+
+add-processes : tie.Need-add-processes
+add-processes c = search needs
+
+wide-requires-2 : tie.Need-wide-requires-2
+wide-requires-2 c κs = search needs
+
+mul-segments : tie.Need-mul-segments
+mul-segments c = search needs
+
+add-segments : tie.Need-add-segments
+add-segments c = search needs
+
+wide-requires-3 : tie.Need-wide-requires-3
+wide-requires-3 c κs = search needs
+
+mul-files : tie.Need-mul-files
+mul-files c = search needs
+
+add-files : tie.Need-add-files
+add-files c = search needs
+
+enum-told : tie.Need-enum-told
+enum-told c = search needs
+
+enum-told-2 : tie.Need-enum-told-2
+enum-told-2 c = search needs
+
+enum-told-3 : tie.Need-enum-told-3
+enum-told-3 c = search needs
+
+returns : tie.Need-returns
+returns c = rw (c .enum-told .given .1) (omega (arith, c .before .before .before .before .wide .ensures, c .before .before .before .wide2 .ensures, c .before .before .wide3 .ensures), omega (arith, c .before .before .before .before .wide .ensures, c .before .before .before .wide2 .ensures, c .before .before .wide3 .ensures, c .before .before .before .before .before .good))
+
+returns-2 : tie.Need-returns-2
+returns-2 c = rw (c .enum-told2 .given .1) (omega (arith, c .before .before .before .before .wide .ensures, c .before .before .before .wide2 .ensures, c .before .before .wide3 .ensures), omega (arith, c .before .before .before .before .wide .ensures, c .before .before .before .wide2 .ensures, c .before .before .wide3 .ensures, c .before .before .before .before .before .good))
+
+returns-3 : tie.Need-returns-3
+returns-3 c = rw (c .enum-told3 .given .1) (omega (arith, c .before .before .before .before .wide .ensures, c .before .before .before .wide2 .ensures, c .before .before .wide3 .ensures), omega (arith, c .before .before .before .before .wide .ensures, c .before .before .before .wide2 .ensures, c .before .before .wide3 .ensures, c .before .before .before .before .before .good))
+
+pub base-spec : {M : Type 1} → statement M
+base-spec =
+    tie.close
+    (tie.spec
+    wide-requires
+    mul-processes
+    add-processes
+    wide-requires-2
+    mul-segments
+    add-segments
+    wide-requires-3
+    mul-files
+    add-files
+    enum-told
+    enum-told-2
+    enum-told-3
+    returns
+    returns-2
+    returns-3)

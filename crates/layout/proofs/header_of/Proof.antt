@@ -1,0 +1,36 @@
+-- `layout::header_of` meets its contract: the header's words, each as the rules have it.
+use native.Mathlib.Omega.{arith}
+use borrow.Author.Needs.{needs}
+use Rattle.rules.specs.Layout.{cells, slots, blocks}
+use Rattle.layout.proofs.header_of.Statement.{statement}
+use Rattle.layout.proofs.header_of.Tie as tie
+
+word-requires : tie.Need-word-requires
+word-requires c κs = search needs
+
+word-requires-2 : tie.Need-word-requires-2
+word-requires-2 c κs = search needs
+
+word-requires-3 : tie.Need-word-requires-3
+word-requires-3 c κs = search needs
+
+word-requires-4 : tie.Need-word-requires-4
+word-requires-4 c κs = search needs
+
+word-requires-5 : tie.Need-word-requires-5
+word-requires-5 c κs = search needs
+
+returns : tie.Need-returns
+unfolding cells slots blocks
+returns c = λ i. record { cells = c .before .before .before .before .word .ensures i; processes = c .before .before .before .word2 .ensures i; segments = c .before .before .word3 .ensures i; files = c .before .word4 .ensures i; blocks = c .word5 .ensures i }
+
+pub header-of-spec : {M : Type 1} → statement M
+header-of-spec =
+    tie.close
+    (tie.spec
+    word-requires
+    word-requires-2
+    word-requires-3
+    word-requires-4
+    word-requires-5
+    returns)

@@ -1,0 +1,38 @@
+-- The header's numbers, and where the records lie by them.
+use mathlib.Core.List.{List}
+use Prim.Native.Nat.{ℕ, _+_, _*_}
+use lib.ListN.{getD}
+use Rattle.rules.specs.Layout.{Kind, process, segment, file, headerWords, cellWords, recordWords, cells, slots, blocks, Addr}
+use Rattle.layout.specs.declared.Header.{Header}
+
+-- those of a table, or of its configuration
+abbrev pub headerOf : List ℕ → Header
+headerOf h =
+    record {
+      cells = cells h;
+      processes = slots h process;
+      segments = slots h segment;
+      files = slots h file;
+      blocks = blocks h;
+    }
+
+abbrev pub slotsOf : Header → Kind → ℕ
+slotsOf n process = n .processes
+slotsOf n segment = n .segments
+slotsOf n file = n .files
+
+-- where the records of a kind begin, a record begins, and a word of one lies
+abbrev pub baseOf : Header → Kind → ℕ
+baseOf n process = headerWords + cellWords * n .cells
+baseOf n segment = headerWords + cellWords * n .cells + recordWords process * n .processes
+baseOf n file = headerWords + cellWords * n .cells + recordWords process * n .processes + recordWords segment * n .segments
+
+abbrev pub recordOf : Header → Kind → ℕ → ℕ
+recordOf n k i = baseOf n k + recordWords k * i
+
+abbrev pub placeOf : Header → Addr → ℕ
+placeOf n a = recordOf n (a .kind) (a .slot) + a .word
+
+-- what a table holds there
+abbrev pub heldIn : Header → List ℕ → Addr → ℕ
+heldIn n t a = getD t (placeOf n a) 0

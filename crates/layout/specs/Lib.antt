@@ -1,0 +1,3 @@
+-- The code's kinds and headers, as the rules have them.
+pub mod Kinds
+pub mod Header
