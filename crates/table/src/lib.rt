@@ -11,24 +11,25 @@ mod setup;
 mod shape;
 
 ghost use mathlib.Core.Path.{_≡_};
+ghost use mathlib.Core.Bool.{cond};
 ghost use Rattle.rules.specs.Claim.{test};
-ghost use Rattle.rules.specs.Layout.{configuration, rd};
+ghost use Rattle.rules.specs.Layout.{flowMatrix, configuration, rd};
 ghost use Rattle.rules.specs.WellFormed.{recordsOk, wellFormed};
-ghost use Rattle.rules.specs.SetUp.{setUpAnswer, setUpTable};
+ghost use Rattle.rules.specs.SetUp.{canSetUp, setUpAnswer, setUpTable};
 ghost use Rattle.table.specs.Shape.{Shaped};
 use header::Header;
 use kind::Kind;
+use rules::MAX_CELLS;
 use rules::MAX_SLOTS;
 use rules::XB_PARAM;
 use rules::XOK;
 
-// The records, once the shape is right. What each test asks of the cells is found once: the flow matrix and the cell of every slot. The processes are gone
-// through once; what they hold is counted on the way and then compared with what segments and files say.
-fn records_ok(t: &[u32], n: Header) -> bool
-    requires { ⌜ Shaped (now t) n ⌝ }
+// The records, once the shape is right; flow says which cell may flow to which. The cell of every slot is found once. The processes are gone through once;
+// what they hold is counted on the way and then compared with what segments and files say.
+fn records_ok(t: &[u32], n: Header, flow: &[[bool; MAX_CELLS]; MAX_CELLS]) -> bool
+    requires { ⌜ Shaped (now t) n × (now flow ≡ flowMatrix (configuration (now t))) ⌝ }
     ensures { λ r. ⌜ r ≡ test (recordsOk (configuration (now (t .entry))) (rd (configuration (now (t .entry))) (now (t .entry)))) ⌝ }
 {
-    let flow = levels::flow_matrix(t);
     let cells = runs::slot_cells(t, n, Kind::Process);
     let segment_cells = runs::slot_cells(t, n, Kind::Segment);
     let file_cells = runs::slot_cells(t, n, Kind::File);
@@ -40,7 +41,7 @@ fn records_ok(t: &[u32], n: Header) -> bool
         &cells,
         &segment_cells,
         &file_cells,
-        &flow,
+        flow,
         &mut references,
         &mut opens,
     ) {
@@ -50,15 +51,27 @@ fn records_ok(t: &[u32], n: Header) -> bool
         & objects::objects_ok(t, n, Kind::File, &opens)
 }
 
-// Whether the table is well formed, for a store of that many bytes.
-pub fn check(t: &[u32], store_bytes: usize) -> bool
+// Whether the table is well formed, for a store of that many bytes. Which cell may flow to which, once the cells are right, is left in flow: a call that asks it
+// again makes no second matrix.
+pub fn judge(t: &[u32], store_bytes: usize, flow: &mut [[bool; MAX_CELLS]; MAX_CELLS]) -> bool
     ensures { λ r. ⌜ r ≡ test (wellFormed (now (t .entry)) «store_bytes») ⌝ }
+    ensures { λ _. ⌜ now (flow .exit) ≡ cond (test (canSetUp (now (t .entry)) «store_bytes»)) (flowMatrix (configuration (now (t .entry)))) (now (flow .entry)) ⌝ }
 {
     if !shape::can_set_up(t, store_bytes) {
         return false;
     }
     let n = header::read_header(t);
-    records_ok(t, n)
+    let m = levels::flow_matrix(t);
+    *flow = m;
+    records_ok(t, n, flow)
+}
+
+// The same for one who asks nothing more.
+pub fn check(t: &[u32], store_bytes: usize) -> bool
+    ensures { λ r. ⌜ r ≡ test (wellFormed (now (t .entry)) «store_bytes») ⌝ }
+{
+    let mut flow = [[false; MAX_CELLS]; MAX_CELLS];
+    judge(t, store_bytes, &mut flow)
 }
 
 // Sets the table up by the header and the cells that stand in it, for a store of that many bytes; or refuses them, and changes nothing.

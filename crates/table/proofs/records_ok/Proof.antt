@@ -8,9 +8,6 @@ use Rattle.table.proofs.Object.{tally-none}
 use Rattle.table.proofs.Formed.{wrong-process, right-processes}
 use Rattle.table.proofs.records_ok.Tie as tie
 
-flow-matrix-requires : tie.Need-flow-matrix-requires
-flow-matrix-requires c κs = search needs
-
 slot-cells-requires : tie.Need-slot-cells-requires
 slot-cells-requires c κs = search needs
 
@@ -27,7 +24,11 @@ slice-aggregate-processes-ok-2 : tie.Need-slice-aggregate-processes-ok-2
 slice-aggregate-processes-ok-2 c = search needs
 
 processes-ok-requires : tie.Need-processes-ok-requires
-processes-ok-requires c κs = ((c .before .before .before .before .before .before .before .before .before .before .before .pre, c .before .before .before .before .before .before .before .before .slot-cells .ensures, c .before .before .before .before .before .before .before .slot-cells2 .ensures, c .before .before .before .before .before .before .slot-cells3 .ensures, c .before .before .before .before .before .before .before .before .before .flow-matrix .ensures), (tally-none _ _ _, tally-none _ _ _))
+processes-ok-requires c κs =
+    let s = c .before .before .before .before .before .before .before .before .before in (
+      (s .pre .0, c .before .before .before .before .before .before .before .slot-cells .ensures, c .before .before .before .before .before .before .slot-cells2 .ensures, c .before .before .before .before .before .slot-cells3 .ensures, s .pre .1),
+      (tally-none _ _ _, tally-none _ _ _),
+    )
 
 returns : tie.Need-returns
 returns c = sym (wrong-process _ _ (sym (c .before .before .before .processes-ok .ensures .0) ∙ failed _ (c .if1 .taken)))
@@ -36,13 +37,13 @@ slice-aggregate-objects-ok : tie.Need-slice-aggregate-objects-ok
 slice-aggregate-objects-ok c = search needs
 
 objects-ok-requires : tie.Need-objects-ok-requires
-objects-ok-requires c κs = (c .before .before .before .before .before .before .before .before .before .before .before .before .before .before .before .before .pre, c .before .before .before .before .processes-ok .ensures .1 .0 (passed _ (c .before .if1 .left)))
+objects-ok-requires c κs = (c .before .before .before .before .before .before .before .before .before .before .before .before .before .before .pre .0, c .before .before .before .before .processes-ok .ensures .1 .0 (passed _ (c .before .if1 .left)))
 
 slice-aggregate-objects-ok-2 : tie.Need-slice-aggregate-objects-ok-2
 slice-aggregate-objects-ok-2 c = search needs
 
 objects-ok-requires-2 : tie.Need-objects-ok-requires-2
-objects-ok-requires-2 c κs = (c .before .before .before .before .before .before .before .before .before .before .before .before .before .before .before .before .before .before .pre, c .before .before .before .before .before .before .processes-ok .ensures .1 .1 (passed _ (c .before .before .before .if1 .left)))
+objects-ok-requires-2 c κs = (c .before .before .before .before .before .before .before .before .before .before .before .before .before .before .before .before .pre .0, c .before .before .before .before .before .before .processes-ok .ensures .1 .1 (passed _ (c .before .before .before .if1 .left)))
 
 returns-2 : tie.Need-returns-2
 returns-2 c = ap₂ _&&_ (c .before .before .objects-ok .ensures) (c .objects-ok2 .ensures) ∙ right-processes _ _ (sym (c .before .before .before .before .before .before .before .processes-ok .ensures .0) ∙ passed _ (c .before .before .before .before .if1 .left))
@@ -51,7 +52,6 @@ pub records-ok-spec : {M : Type 1} → statement M
 records-ok-spec =
     tie.close
     (tie.spec
-    flow-matrix-requires
     slot-cells-requires
     slot-cells-requires-2
     slot-cells-requires-3
