@@ -20,13 +20,12 @@ use Rattle.rules.specs.Rule.{store}
 use Rattle.rules.specs.Find.{inOwnCell, freeSlot, noSlot}
 use Rattle.rules.specs.Call15.{textBytes, post}
 use Rattle.rules.specs.Step.{State, Call, step, badCode, ruleOf}
-use Rattle.laws.proofs.Tests.{refuted, both-ways, cond-false}
-use Rattle.laws.proofs.Seids.{class-some, is-formed}
+use Rattle.laws.proofs.Tests.{refuted, both-ways}
 use Rattle.levels.proofs.Flow.{flows-says, flows-when, reflexive}
 use Rattle.laws.proofs.Refusals.{Clear}
 use Rattle.laws.proofs.Slots.{slot-untaken}
 use Rattle.promises.proofs.Refusals.{Untouched, goes-on}
-use Rattle.promises.proofs.Stale.{stale-post}
+use Rattle.promises.proofs.Stale.{for-itself, stale-post}
 
 -- ---- levels
 
@@ -98,8 +97,7 @@ module _ (s : State) (k : Call) (x : AbsentAbove s k) where
   its-rule = rw (x .is-post)
 
   its-seid : orSelf r (k .caller) (k .a) ≡ k .a
-  unfolding orSelf
-  its-seid = cond-false (eqb (k .a) 0) _ _ (ne-eqb (k .a) 0 (class-some (k .a) (class process) (omega arith) (is-formed _ _ (k .a) (x .form) .class-is)))
+  its-seid = for-itself h r (k .caller) process (k .a) (x .form)
 
   -- none of its refusals holds
   nothing-refused : Clear (post h r (k .caller) (k .a) (k .buffer) .refusals)

@@ -10,4 +10,6 @@ pub mod Queue
 pub mod Mail
 pub mod Fresh
 pub mod Judged
+pub mod Released
 pub mod Single
+pub mod Gone

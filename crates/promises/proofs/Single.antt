@@ -9,7 +9,7 @@ use lib.Dec.{eqb}
 use lib.ListN.{length}
 use borrow.Author.Tests.{eqb-true}
 use Rattle.rules.specs.Claim.{Holds}
-use Rattle.rules.specs.Layout.{maxSerial, Kind, process, segment, file, cells, slots, configuration, firstSlot, cellOf, Addr, at, rd, serial, entries}
+use Rattle.rules.specs.Layout.{maxSerial, Kind, process, segment, file, cells, slots, configuration, firstSlot, cellOf, Addr, at, rd, live, serial, entries, heldAt, usedAt}
 use Rattle.rules.specs.Seid.{class, seid, classOf, indexOf, serialOf}
 use Rattle.rules.specs.Errors.{XOK}
 use Rattle.rules.specs.Rule.{Rule, over}
@@ -22,14 +22,16 @@ use Rattle.rules.specs.Step.{State, Call, step, next, run, ruleOf, wholeRule}
 use Rattle.laws.proofs.Tests.{or-rest, split}
 use Rattle.laws.proofs.Seids.{class-seid, index-seid, serial-seid, class-inj}
 use Rattle.laws.proofs.Shape.{good-of}
+use Rattle.laws.proofs.Written.{nil, also, over-append, over-miss}
 use Rattle.laws.proofs.Object.{Object, no-process}
 use Rattle.laws.proofs.Refusals.{Clear}
-use Rattle.kept.proofs.Records.{in-first, words-some}
+use Rattle.kept.proofs.Records.{elsewhere, in-first, words-some}
+use Rattle.kept.proofs.Made.{placed}
 use Rattle.kept.proofs.Keeps.{Caller}
 use Rattle.kept.proofs.Found.{own-slot, free-entry}
 use Rattle.kept.proofs.Exchange.{entered-in}
 use Rattle.kept.proofs.Created.{made, made-in, made-word}
-use Rattle.kept.proofs.Keep01.{spawned-word}
+use Rattle.kept.proofs.Keep01.{spawned-in, spawned-word}
 use Rattle.kept.proofs.Kept.{Well, kept, conf-kept, run-kept, run-conf-kept, run-serials-kept}
 use Rattle.promises.proofs.Refusals.{own, own-clear, done}
 use Rattle.promises.proofs.After.{its-caller, read-after}
@@ -41,14 +43,15 @@ creates n = eqb n 1 || (eqb n 3 || eqb n 7)
 
 -- ---- one creating call
 
--- the slot that a rule takes, the seid that it gives, and the serial that it leaves in the slot
-record Handed (h : List ℕ) (r : Addr → ℕ) (x : Rule) : Type 0 where
-  kind : Kind
-  slot : ℕ
-  in-range : slot < slots h kind
-  not-worn : r (at kind slot serial) < maxSerial
-  given : x .effects .first ≡ seid (class kind) slot (r (at kind slot serial) + 1)
-  left : over r (x .effects .words) (at kind slot serial) ≡ r (at kind slot serial) + 1
+-- the slot that a rule takes, the seid that it gives, and the serial that it leaves in the slot; no other slot comes to life or goes
+pub record Handed (h : List ℕ) (r : Addr → ℕ) (x : Rule) : Type 0 where
+  pub kind : Kind
+  pub slot : ℕ
+  pub in-range : slot < slots h kind
+  pub not-worn : r (at kind slot serial) < maxSerial
+  pub given : x .effects .first ≡ seid (class kind) slot (r (at kind slot serial) + 1)
+  pub left : over r (x .effects .words) (at kind slot serial) ≡ r (at kind slot serial) + 1
+  pub beside : (j : Kind) (i : ℕ) → (j ≡ kind → i ≡ slot → ⊥) → over r (x .effects .words) (at j i live) ≡ r (at j i live)
 
 module _ (h : List ℕ) (r : Addr → ℕ) (k : Call) (me : Caller h r (k .caller)) where
   abbrev cell : ℕ
@@ -58,10 +61,11 @@ module _ (h : List ℕ) (r : Addr → ℕ) (k : Call) (me : Caller h r (k .calle
   free j = freeSlot h r j (cellOf h process (k .caller))
 
   handed : (j : Kind) (x : Rule) → noSlot h r j cell ≡ false → x .effects .first ≡ seid (class j) (free j) (r (at j (free j) serial) + 1)
-      → over r (x .effects .words) (at j (free j) serial) ≡ r (at j (free j) serial) + 1 → Handed h r x
-  handed j x room given left =
+      → over r (x .effects .words) (at j (free j) serial) ≡ r (at j (free j) serial) + 1
+      → ((l : Kind) (i : ℕ) → (l ≡ j → i ≡ free j → ⊥) → over r (x .effects .words) (at l i live) ≡ r (at l i live)) → Handed h r x
+  handed j x room given left beside =
       let f = own-slot h r (k .caller) me j room in
-      record { kind = j; slot = free j; in-range = f .in-range; not-worn = f .not-worn; given = given; left = left }
+      record { kind = j; slot = free j; in-range = f .in-range; not-worn = f .not-worn; given = given; left = left; beside = beside }
 
   -- an object's serial, where its words are followed by an entry for it
   object-serial : (j : Kind) → Object j → (i d : ℕ) → d < entries → (s u g b x y v a : ℕ) → over r (made j i s u g b x y ++ entered j (k .caller) d v a) (at j i serial) ≡ s
@@ -69,16 +73,30 @@ module _ (h : List ℕ) (r : Addr → ℕ) (k : Call) (me : Caller h r (k .calle
       in-first j process i (k .caller) (λ e f. no-process j o (sym e)) (made-in j o i s u g b x y) (entered-in r j o (k .caller) d v a l) r serial
       ∙ made-word j o i s u g b x y r serial
 
-  by-rule : (st : List ℕ) → creates (k .code) ≡ true → Clear (ruleOf h r st k .refusals) → Handed h r (ruleOf h r st k)
+  -- an entry for it, written after it, leaves every other slot as it was
+  object-beside : (j : Kind) → Object j → (i d : ℕ) → d < entries → (s u g b x y v a : ℕ) (l : Kind) (m : ℕ) → (l ≡ j → m ≡ i → ⊥)
+      → over r (made j i s u g b x y ++ entered j (k .caller) d v a) (at l m live) ≡ r (at l m live)
+  object-beside j o i d dl s u g b x y v a l m n =
+      let z = placed j o d dl in
+      let entry = over-miss (at l m live) (also (not-live l m (k .caller) (heldAt j d) (omega arith)) (also (not-live l m (k .caller) (usedAt j d) (omega arith)) nil)) in
+      rw (over-append r (made j i s u g b x y) (entered j (k .caller) d v a)) (entry _ ∙ elsewhere j i (made-in j o i s u g b x y) r l m live n)
+    where
+      not-live : (l : Kind) (m p w : ℕ) → live < w → at l m live ≡ at process p w → ⊥
+      not-live l m p w low e = let same : live ≡ w = ap (λ (b : Addr). b .word) e in omega arith
+
+  pub by-rule : (st : List ℕ) → creates (k .code) ≡ true → Clear (ruleOf h r st k .refusals) → Handed h r (ruleOf h r st k)
   unfolding ruleOf spawn buildSegment create
   by-rule st t = split _ (eqb (k .code) 1)
-      (λ e. rw (eqb-true (k .code) 1 e) (λ ok. handed process _ (ok .1 .1 .0) refl (spawned-word r (k .caller) (k .a) (k .b) (free process) _ serial)))
+      (λ e. rw (eqb-true (k .code) 1 e) (λ ok. handed process _ (ok .1 .1 .0) refl (spawned-word r (k .caller) (k .a) (k .b) (free process) _ serial)
+      (λ l m. elsewhere process (free process) (spawned-in r (k .caller) (k .a) (k .b) (free process) _) r l m live)))
       (λ n. split _ (eqb (k .code) 3)
       (λ e. rw (eqb-true (k .code) 3 e) (λ ok. handed segment _ (ok .1 .1 .1 .0) refl
-      (object-serial segment tt (free segment) (freeEntry r segment (k .caller)) (free-entry r segment (k .caller) (ok .1 .1 .0) .in-record) _ _ _ _ _ _ _ _)))
+      (object-serial segment tt (free segment) (freeEntry r segment (k .caller)) (free-entry r segment (k .caller) (ok .1 .1 .0) .in-record) _ _ _ _ _ _ _ _)
+      (object-beside segment tt (free segment) (freeEntry r segment (k .caller)) (free-entry r segment (k .caller) (ok .1 .1 .0) .in-record) _ _ _ _ _ _ _ _)))
       (λ m. rw (eqb-true (k .code) 7 (or-rest (eqb (k .code) 3) (eqb (k .code) 7) (or-rest (eqb (k .code) 1) _ t n) m))
       (λ ok. handed file _ (ok .1 .1 .1 .0) refl
-      (object-serial file tt (free file) (freeEntry r file (k .caller)) (free-entry r file (k .caller) (ok .1 .1 .0) .in-record) _ _ _ _ _ _ _ _))))
+      (object-serial file tt (free file) (freeEntry r file (k .caller)) (free-entry r file (k .caller) (ok .1 .1 .0) .in-record) _ _ _ _ _ _ _ _)
+      (object-beside file tt (free file) (freeEntry r file (k .caller)) (free-entry r file (k .caller) (ok .1 .1 .0) .in-record) _ _ _ _ _ _ _ _))))
 
 -- ---- two of them
 

@@ -31,8 +31,8 @@ use Rattle.rules.specs.Call15.{post}
 use Rattle.rules.specs.Call17.{status, statusOf}
 use Rattle.rules.specs.Call18.{accessOf}
 use Rattle.rules.specs.Step.{State, Call, step, ruleOf, badCode, wholeRule}
-use Rattle.laws.proofs.Tests.{and-both, passed, not-of, refuted, both-ways, or-rest, split, cond-both}
-use Rattle.laws.proofs.Seids.{present-is}
+use Rattle.laws.proofs.Tests.{and-both, passed, not-of, refuted, both-ways, or-rest, split, cond-both, cond-false}
+use Rattle.laws.proofs.Seids.{class-pos, class-some, is-formed, present-is}
 use Rattle.laws.proofs.Shape.{good-of}
 use Rattle.laws.proofs.Written.{nil, also, rd-write, conf-write, over-miss}
 use Rattle.laws.proofs.Object.{Object}
@@ -71,6 +71,11 @@ givesUpEntry file = 9
 
 either : {P : Type 0} (a b : Bool) → a || b ≡ true → (a ≡ true → P) → (b ≡ true → P) → P
 either {P} a b t f g = split P a f (λ e. g (or-rest a b t e))
+
+-- an identifier of any kind is not 0: it stands for itself
+pub for-itself : (h : List ℕ) (r : Addr → ℕ) (p : ℕ) (j : Kind) (v : ℕ) → formed h j v ≡ true → orSelf r p v ≡ v
+unfolding orSelf
+for-itself h r p j v form = cond-false (eqb v 0) _ _ (ne-eqb v 0 (class-some v (class j) (class-pos j) (is-formed _ _ v form .class-is)))
 
 module _ (s : State) (k : Call) where
   abbrev h : List ℕ
