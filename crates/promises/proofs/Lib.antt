@@ -8,6 +8,7 @@ pub mod Outcomes
 pub mod Writes
 pub mod Queue
 pub mod Mail
+pub mod Delivered
 pub mod Fresh
 pub mod Judged
 pub mod Released
