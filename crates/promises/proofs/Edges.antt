@@ -1,31 +1,33 @@
 -- The edges that document 01 marks P, under one statement: `edges`, at the end.
-use mathlib.Core.Path.{_≡_, refl, ap}
-use mathlib.Core.Bool.{true, false, cond, _&&_}
-use mathlib.Core.List.{List, [], _∷_}
+use mathlib.Core.Path.{_≡_, refl}
+use mathlib.Core.Bool.{true, false}
+use mathlib.Core.List.{List, [], _∷_, _++_}
 use Prim.Native.Nat.{ℕ, _<_, _≤_}
 use native.Mathlib.Omega.{arith}
-use lib.Dec.{eqb}
-use lib.ListN.{length}
+use lib.ListN.{length, replicate}
 use borrow.Author.Tests.{eq-eqb, ne-eqb}
-use Rattle.rules.specs.Words.{allBelow, sumBelow, lowest}
+use Rattle.rules.specs.Words.{allBelow, someBelow, sumBelow, countBelow, lowest, tabFrom, part, word4}
 use Rattle.rules.specs.Claim.{Holds}
-use Rattle.rules.specs.Level.{Level, level, has, within, flowsTo}
-use Rattle.rules.specs.Layout.{maxSerial, Kind, process, slots, cellWord, configuration, firstSlot, cellOf, flows, Addr, at, rd, live, serial}
-use Rattle.rules.specs.Seid.{class, seid, indexOf, formed, orSelf, present}
-use Rattle.rules.specs.Modes.{validModes}
+use Rattle.rules.specs.Level.{Level, level, has, within, equals, flowsTo}
+use Rattle.rules.specs.Layout.{maxSerial, Kind, process, file, cells, slots, blocks, cellWord, levelOf, configuration, firstSlot, cellOf, flows, Addr, at, rd, live, serial}
+use Rattle.rules.specs.Seid.{class, seid, classOf, indexOf, serialOf, isSeid, formed, seidAt, orSelf, present}
+use Rattle.rules.specs.Modes.{validModes, reads, writes}
 use Rattle.rules.specs.Rights.{rights, mayRead, mayWrite, access}
-use Rattle.rules.specs.WellFormed.{wellFormed}
+use Rattle.rules.specs.WellFormed.{headerOk, cellOk, levelsDistinct, sumsMatch, configured, lengthsExact, recordOk, heldOk, currentOk, entryOk, parentOk, heldOnce, messageOk, processOk, ownEntry, ownEntries, segmentSize, segmentOk, fileOk, recordsOk, wellFormed}
 use Rattle.rules.specs.Errors.{XOK}
-use Rattle.rules.specs.Rule.{store}
-use Rattle.rules.specs.Find.{inOwnCell, freeSlot, noSlot}
+use Rattle.rules.specs.Rule.{_≔_, write, store}
+use Rattle.rules.specs.Find.{inOwnCell, freeSlot, freeEntry}
+use Rattle.rules.specs.Call07.{create}
 use Rattle.rules.specs.Call15.{textBytes, post}
-use Rattle.rules.specs.Step.{State, Call, step, badCode, ruleOf}
+use Rattle.rules.specs.SetUp.{canSetUp, firstProcesses, freshTable, setUpTable}
+use Rattle.rules.specs.Step.{State, Call, answer, step, next, badCaller, badCode, ruleOf, carriedOut, wholeRule}
 use Rattle.laws.proofs.Tests.{refuted, both-ways}
-use Rattle.levels.proofs.Flow.{flows-says, flows-when, reflexive}
 use Rattle.laws.proofs.Refusals.{Clear}
-use Rattle.laws.proofs.Slots.{slot-untaken}
+use Rattle.levels.proofs.Flow.{flows-says, flows-when, reflexive}
+use Rattle.kept.proofs.Kept.{Well}
 use Rattle.promises.proofs.Refusals.{Untouched, goes-on}
 use Rattle.promises.proofs.Stale.{for-itself, stale-post}
+use Rattle.promises.proofs.Single.{creates, worn-passed-over}
 
 -- ---- levels
 
@@ -53,16 +55,25 @@ others-420 u g owner group x y = rw (ne-eqb u owner x, ne-eqb g group y)
 
 -- ---- slots
 
--- one cell of two process slots, neither live; the serial of slot 0 is 65535, that of slot 1 is 0
+-- one cell of one process and two file slots; the serial of the first file slot is 65535, that of the second 0
 abbrev pub two-slots : List ℕ
-two-slots = 1 ∷ 2 ∷ 0 ∷ 0 ∷ 1 ∷ 0 ∷ 0 ∷ 0 ∷ 0 ∷ 0 ∷ 0 ∷ 2 ∷ 0 ∷ 0 ∷ 0 ∷ 0 ∷ []
+two-slots = (1 ∷ 1 ∷ 0 ∷ 2 ∷ 1 ∷ 0 ∷ 0 ∷ 0 ∷ []) ++ (0 ∷ 0 ∷ 0 ∷ 1 ∷ 0 ∷ 2 ∷ 0 ∷ 0 ∷ [])
 
-abbrev pub first-worn : Addr → ℕ
-first-worn a = cond (eqb (a .slot) 0 && eqb (a .word) serial) maxSerial 0
+abbrev pub first-worn : State
+first-worn = record {
+  table = write two-slots (setUpTable (two-slots ++ replicate 120 0) 1024) ((at file 0 serial ≔ maxSerial) ∷ []);
+  store = replicate 1024 0;
+}
 
-second-taken : freeSlot two-slots first-worn process 0 ≡ 1
-unfolding freeSlot lowest cellWord firstSlot sumBelow
-second-taken = refl
+-- the process creates a file, bits 420, to read and write
+abbrev pub creation : Call
+creation = record { caller = 0; code = 7; a = 420; b = 3; c = 0; buffer = [] }
+
+-- the second slot is taken, and the first stays as it is
+second-taken : (step first-worn creation .answered ≡ answer XOK (seid (class file) 1 1) 0)
+    × (rd two-slots (next first-worn creation .table) (at file 0 live) ≡ 0) × (rd two-slots (next first-worn creation .table) (at file 0 serial) ≡ maxSerial)
+unfolding allBelow someBelow sumBelow countBelow lowest tabFrom part word4 within equals flowsTo cells slots blocks cellWord levelOf configuration firstSlot cellOf flows rd seid classOf indexOf serialOf isSeid seidAt orSelf present validModes reads writes headerOk cellOk levelsDistinct sumsMatch configured lengthsExact recordOk heldOk currentOk entryOk parentOk heldOnce messageOk processOk ownEntry ownEntries segmentSize segmentOk fileOk recordsOk wellFormed freeSlot freeEntry create canSetUp firstProcesses freshTable setUpTable ruleOf badCaller badCode carriedOut wholeRule step
+second-taken = (refl, refl, refl)
 
 -- ---- a post up
 
@@ -140,9 +151,11 @@ pub record Edges : Type 0 where
   -- "modes 9 invalid, 11 valid"
   pub modes-9 : validModes 9 ≡ false
   pub modes-11 : validModes 11 ≡ true
-  -- "free serial 65535 is passed over": the slot that creation takes never has it; and where only the first of two slots has, the second is taken
-  pub worn : (h : List ℕ) (r : Addr → ℕ) (k : Kind) (c i : ℕ) → noSlot h r k c ≡ false → r (at k i serial) ≡ 65535 → freeSlot h r k c ≡ i → ⊥
-  pub passed-over : freeSlot two-slots first-worn process 0 ≡ 1
+  -- "free serial 65535 is passed over": the slot that a creating call takes never has it; and where the first of two slots has, the second is taken
+  pub worn : (s : State) (k : Call) → Well s → creates (k .code) ≡ true → step s k .answered .error ≡ XOK → (j : Kind) (i : ℕ)
+      → rd (configuration (s .table)) (s .table) (at j i serial) ≡ 65535 → classOf (step s k .answered .first) ≡ class j
+      → indexOf (step s k .answered .first) ≡ i → ⊥
+  pub passed-over : step first-worn creation .answered ≡ answer XOK (seid (class file) 1 1) 0
   -- "post up to an absent process is XOK with nothing changed"
   pub post-up : (s : State) (k : Call) → AbsentAbove s k → OnlyXOK s k
 
@@ -163,7 +176,7 @@ edges = record {
   others = λ u g owner group x y. rw (others-420 u g owner group x y);
   modes-9 = refl;
   modes-11 = refl;
-  worn = λ h r k c i n e q. omega (arith, slot-untaken h r k c n .not-worn, ap (λ (j : ℕ). r (at k j serial)) q);
-  passed-over = second-taken;
+  worn = worn-passed-over;
+  passed-over = second-taken .0;
   post-up = dropped-above;
 }

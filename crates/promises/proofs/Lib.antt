@@ -2,7 +2,6 @@
 pub mod Refusals
 pub mod After
 pub mod Stale
-pub mod Edges
 pub mod Listing
 pub mod Outcomes
 pub mod Writes
@@ -14,3 +13,4 @@ pub mod Judged
 pub mod Released
 pub mod Single
 pub mod Gone
+pub mod Edges

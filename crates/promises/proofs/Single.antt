@@ -124,6 +124,18 @@ module _ (s : State) (k : Call) (w : Well s) (c : creates (k .code) ≡ true) (o
       ≡ rd (configuration (s .table)) (s .table) (at (created .kind) (created .slot) serial) + 1
   counted = read-after s k w ok (at (created .kind) (created .slot) serial) (created .in-range, omega (arith, words-some (created .kind))) ∙ created .left
 
+-- "free serial 65535 is passed over": no creating call answers a seid of a slot that is worn
+pub worn-passed-over : (s : State) (k : Call) → Well s → creates (k .code) ≡ true → step s k .answered .error ≡ XOK → (j : Kind) (i : ℕ)
+    → rd (configuration (s .table)) (s .table) (at j i serial) ≡ maxSerial → classOf (step s k .answered .first) ≡ class j
+    → indexOf (step s k .answered .first) ≡ i → ⊥
+worn-passed-over s k w c ok j i worn kind slot =
+    let x = created s k w c ok in
+    let a = answered s k w c ok in
+    let few = small s w (x .kind) (x .slot) (x .in-range) in
+    let j-is : j ≡ x .kind = class-inj j (x .kind) (sym kind ∙ ap classOf a ∙ class-seid (class (x .kind)) (x .slot) _ few (omega (arith, x .not-worn))) in
+    let i-is : i ≡ x .slot = sym slot ∙ ap indexOf a ∙ index-seid (class (x .kind)) (x .slot) _ few (omega (arith, x .not-worn)) in
+    omega (arith, x .not-worn, rw (j-is, i-is) at worn)
+
 -- a seid of a serial that its slot has reached is not handed out, whatever calls come before
 not-again : (s : State) → Well s → (j : Kind) (i n : ℕ) → i < slots (configuration (s .table)) j → n ≤ rd (configuration (s .table)) (s .table) (at j i serial) → n ≤ maxSerial
     → (between : List Call) (k : Call) → creates (k .code) ≡ true → step (run s between) k .answered .error ≡ XOK
