@@ -1,0 +1,3 @@
+-- What is so of the code that a host links.
+pub mod Made
+pub mod Demand3

@@ -1,0 +1,68 @@
+-- A host's run: calls made one after the other to the exported `monitor_call`, on one table and one store. Of each call its contract is known, and nothing
+-- else: `Learnt` is what Rattle makes of the `ensures` in crates/monitor/src/lib.rt. Such a run is the rules' run: `ends-at`, `all-got`.
+use mathlib.Core.Path.{_≡_, refl, ap, ap₂, _∙_}
+use mathlib.Core.Bool.{Bool, cond}
+use mathlib.Core.List.{List, [], _∷_}
+use Prim.Native.Nat.{ℕ}
+use contract.Lifetimes.{Lfts}
+use denote.Triple.Clauses.{Lasts, atExit}
+use borrow.Fn.Kinds.{Dens, resT, endedOf}
+use Rattle.rules.specs.Step.{State, Call, Reply, next, reply, run}
+use Rattle.rules.specs.Observer.{stays, replies}
+use Rattle.calls.specs.Did.{stateOf, callOf, ruleAnswer}
+use Rattle.monitor.proofs.monitor_call.Kinds.{ps, r}
+use Rattle.monitor.proofs.monitor_call.Reads.{Learnt}
+
+-- one call: what it is lent and told, what it answers, and what it leaves of each slice, as the contract allows
+pub record Done : Type 0 where
+  pub lifetimes : Lfts 3
+  pub lent : Dens lifetimes ps
+  pub answer : resT r lifetimes .Denot
+  pub last : Lasts (endedOf 3 ps r) lifetimes lent
+  pub allowed : Learnt lifetimes lent answer (atExit (endedOf 3 ps r) lifetimes lent last)
+
+module _ (d : Done) where
+  -- the state that it finds, and the call that it is
+  abbrev pub found : State
+  found = stateOf (d .lent .0 .now) (d .lent .1 .0 .now)
+
+  abbrev pub made : Call
+  made = let x = d .lent .1 .1 in callOf (x .0) (x .1 .0) (x .1 .1 .0) (x .1 .1 .1 .0) (x .1 .1 .1 .1 .0) (x .1 .1 .1 .1 .1 .0 .now)
+
+  -- the state that it leaves, and what its caller gets
+  abbrev pub left : State
+  left = stateOf (d .last .0) (d .last .1 .0)
+
+  abbrev pub got : Reply
+  got = record { answered = ruleAnswer (d .answer); buffer = d .last .1 .1 .1 .1 .1 .1 .1 .0 }
+
+-- a run from one state to another: its calls, and what each caller got; every call finds what the one before it left
+pub data Made : State → List Call → List Reply → State → Type 0 where
+  none : {s : State} → Made s [] [] s
+  more : {ks : List Call} {ys : List Reply} {u : State} (d : Done) → Made (left d) ks ys u → Made (found d) (made d ∷ ks) (got d ∷ ys) u
+
+-- what those calls got whose callers' slots lie in the cells of C
+pub gotBy : List ℕ → (ℕ → Bool) → List Call → List Reply → List Reply
+gotBy h C [] ys = []
+gotBy h C (k ∷ ks) [] = []
+gotBy h C (k ∷ ks) (y ∷ ys) = cond (stays h C k) (y ∷ gotBy h C ks ys) (gotBy h C ks ys)
+
+-- ---- such a run is the rules' run
+
+-- one call is a step
+step-left : (d : Done) → left d ≡ next (found d) (made d)
+step-left d = ap₂ stateOf (d .allowed .table) (d .allowed .store)
+
+step-got : (d : Done) → got d ≡ reply (found d) (made d)
+unfolding reply
+step-got d = λ i. record { answered = d .allowed .answered i; buffer = d .allowed .buffer i }
+
+pub ends-at : {s u : State} {ks : List Call} {ys : List Reply} → Made s ks ys u → u ≡ run s ks
+unfolding run
+ends-at none = refl
+ends-at (more {ks = ks} d m) = ends-at m ∙ ap (λ (x : State). run x ks) (step-left d)
+
+pub all-got : (h : List ℕ) (C : ℕ → Bool) {s u : State} {ks : List Call} {ys : List Reply} → Made s ks ys u → gotBy h C ks ys ≡ replies h C s ks
+unfolding gotBy replies
+all-got h C none = refl
+all-got h C (more {ks = ks} d m) = rw (all-got h C m, step-left d, step-got d)
