@@ -3,7 +3,6 @@ pub mod Refusals
 pub mod After
 pub mod Stale
 pub mod Listing
-pub mod Outcomes
 pub mod Writes
 pub mod Queue
 pub mod Mail

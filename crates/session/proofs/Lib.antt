@@ -6,4 +6,3 @@ pub mod Due
 pub mod Ways
 pub mod Playing
 pub mod Whole
-pub mod Outcomes
