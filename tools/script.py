@@ -20,10 +20,17 @@ import os
 import re
 import sys
 
-CALLS = [
-    "spawn", "release-process", "build", "rendezvous", "release-segment", "set-access", "create", "open", "close",
-    "link", "unlink", "set-bits", "read", "write", "post", "receive", "status", "access",
-]
+ROOT = os.path.join(os.path.dirname(os.path.abspath(__file__)), "..")
+CODES = os.path.join(ROOT, "host/src/code.rs")  # the table of the calls' names and codes
+
+
+def calls():
+    with open(CODES) as text:
+        table = re.findall(r'^    \w+ = (\d+), "([a-z-]+)",', text.read(), re.MULTILINE)
+    return {name: int(code) for code, name in table}
+
+
+CALLS = calls()
 CLASSES = {"p": 4, "s": 5, "f": 129}
 
 
@@ -65,7 +72,7 @@ def buffer(words):
 def call(words):
     at = words.index(":") if ":" in words else len(words)
     caller, name, *args = words[:at]
-    code = CALLS.index(name) + 1 if name in CALLS else int(name)
+    code = CALLS[name] if name in CALLS else int(name)
     bytes_ = buffer(words[at + 1:])
     return numbers([caller, str(code)] + (args + ["0"] * 3)[:3]) + groups(len(bytes_)) + bytes_
 
@@ -89,12 +96,11 @@ def script(path):
 
 
 def check():
-    root = os.path.join(os.path.dirname(os.path.abspath(__file__)), "..")
     wrong = 0
-    for path in sorted(glob.glob(os.path.join(root, "crates/*/example.txt"))):
+    for path in sorted(glob.glob(os.path.join(ROOT, "crates/*/example.txt"))):
         with open(os.path.join(os.path.dirname(path), "stdin"), "rb") as stdin:
             if stdin.read() != script(path):
-                print("not the script of its example.txt:", os.path.relpath(stdin.name, root))
+                print("not the script of its example.txt:", os.path.relpath(stdin.name, ROOT))
                 wrong += 1
     return wrong > 0
 

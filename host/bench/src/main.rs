@@ -6,6 +6,7 @@
 //!
 //!   cargo run --release --bin bench [single|mixed|check|replay]..
 
+use monitor::Code;
 use plain::{Kind, Request};
 use std::env;
 use std::fs::{self, File};
@@ -21,28 +22,6 @@ const ROUNDS: usize = 101;
 const BLOCK: Duration = Duration::from_micros(200);
 const LONG_ROUNDS: usize = 21;
 const PLAIN_REPLAY: &str = "--plain-replay";
-
-const NAMES: [&str; 19] = [
-    "",
-    "spawn",
-    "release process",
-    "build segment",
-    "rendezvous",
-    "release segment",
-    "set access",
-    "create file",
-    "open",
-    "close",
-    "link",
-    "unlink",
-    "set bits",
-    "read block",
-    "write block",
-    "post",
-    "receive",
-    "status",
-    "access",
-];
 
 fn main() {
     let asked: Vec<String> = env::args().skip(1).collect();
@@ -97,7 +76,7 @@ fn configured(cells: u32, slots: u32, blocks: u32) -> World {
     }
     (0..)
         .map(|seed| tables::busy(&mut Rng::new(seed), &words))
-        .find(|world| (1..=18).all(|code| examples(world, code).len() == 2))
+        .find(|world| Code::ALL.iter().all(|code| examples(world, code.number()).len() == 2))
         .expect("some table has them all")
 }
 
@@ -182,11 +161,11 @@ fn check(world: &World) -> Ratio {
 fn single_calls(name: &str, world: &World) {
     heading(&format!("Single calls, {name} table"));
     let mut all = Vec::new();
-    for code in 1..=18 {
-        for (outcome, call) in examples(world, code) {
+    for &code in Code::ALL {
+        for (outcome, call) in examples(world, code.number()) {
             let ratio = single_call(world, &call);
             all.push(ratio.median);
-            line(&format!("{code} {}, {outcome}", NAMES[code as usize]), ratio);
+            line(&format!("{} {code}, {outcome}", code.number()), ratio);
         }
     }
     all.sort_by(f64::total_cmp);
@@ -230,7 +209,7 @@ fn plain_call(world: &mut World, request: &Request, buffer: &mut [u8]) -> u32 {
 
 fn proved_call(world: &mut World, request: &Request, buffer: &mut [u8]) -> u32 {
     let &Request { caller, code, a, b, c } = request;
-    monitor::call(&mut world.table, &mut world.store, caller, code, [a, b, c], buffer).error.number()
+    monitor::call(&mut world.table, &mut world.store, caller, code, [a, b, c], buffer).error
 }
 
 fn single_call(world: &World, call: &Call) -> Ratio {

@@ -6,7 +6,7 @@ pub struct Archive;
 
 impl Monitor for Archive {
     fn setup(&self, table: &mut [u32], store_bytes: usize) -> u32 {
-        monitor::setup(table, store_bytes).number()
+        monitor::setup(table, store_bytes).map_or_else(|error| error.number(), |()| 0)
     }
 
     fn check(&self, table: &[u32], store_bytes: usize) -> u32 {
@@ -16,6 +16,6 @@ impl Monitor for Archive {
     fn call(&self, table: &mut [u32], store: &mut [u8], request: &plain::Request, buffer: &mut [u8]) -> [u32; 3] {
         let &plain::Request { caller, code, a, b, c } = request;
         let answer = monitor::call(table, store, caller, code, [a, b, c], buffer);
-        [answer.error.number(), answer.first, answer.second]
+        [answer.error, answer.first, answer.second]
     }
 }

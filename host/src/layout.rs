@@ -1,0 +1,134 @@
+//! The table's sizes, places and limits in words, and the buffers' in bytes: document 01's numbers, said once. A test compares
+//! each of them with the library, and with monitor.h.
+
+/// Cells, at most.
+pub const MAX_CELLS: usize = 16;
+/// Slots of each kind, at most.
+pub const MAX_SLOTS: usize = 64;
+/// Blocks of a file, at most.
+pub const MAX_BLOCKS: usize = 64;
+
+/// The words of the header.
+pub const HEADER_WORDS: usize = 8;
+/// The words of a cell.
+pub const CELL_WORDS: usize = 8;
+/// The words of a process record.
+pub const PROCESS_WORDS: usize = 104;
+/// The words of a segment record.
+pub const SEGMENT_WORDS: usize = 8;
+/// The words of a file record.
+pub const FILE_WORDS: usize = 8;
+
+/// The bytes of a block.
+pub const BLOCK_BYTES: usize = 512;
+/// The bytes of a message's text, as it is posted.
+pub const TEXT_BYTES: usize = 12;
+/// The bytes of a message as it is received: its sender, then its text.
+pub const MESSAGE_BYTES: usize = 16;
+/// The bytes of a status.
+pub const STATUS_BYTES: usize = 16;
+
+/// The descriptors of a process, and as many designators.
+pub const ENTRIES: usize = 16;
+/// The words of a descriptor or designator: what it holds, and with which modes or access.
+pub const ENTRY_WORDS: usize = 2;
+/// The messages that a process can have waiting.
+pub const QUEUE: usize = 8;
+/// The words of a waiting message.
+pub const MESSAGE_WORDS: usize = 4;
+
+/// The words of a table.
+pub const fn table_words(cells: usize, processes: usize, segments: usize, files: usize) -> usize {
+    HEADER_WORDS + CELL_WORDS * cells + PROCESS_WORDS * processes + SEGMENT_WORDS * segments + FILE_WORDS * files
+}
+
+/// The bytes of a store.
+pub const fn store_bytes(files: usize, blocks: usize) -> usize {
+    files * blocks * BLOCK_BYTES
+}
+
+/// Words of the header.
+pub mod header {
+    /// The number of cells.
+    pub const CELLS: usize = 0;
+    /// The number of process slots.
+    pub const PROCESSES: usize = 1;
+    /// The number of segment slots.
+    pub const SEGMENTS: usize = 2;
+    /// The number of file slots.
+    pub const FILES: usize = 3;
+    /// B, the blocks of each file.
+    pub const BLOCKS: usize = 4;
+}
+
+/// Words of a cell, from its first.
+pub mod cell {
+    /// The security category.
+    pub const SECURITY: usize = 0;
+    /// The integrity category.
+    pub const INTEGRITY: usize = 1;
+    /// The set of compartments.
+    pub const COMPARTMENTS: usize = 2;
+    /// The cell's process slots.
+    pub const PROCESSES: usize = 3;
+    /// The cell's segment slots.
+    pub const SEGMENTS: usize = 4;
+    /// The cell's file slots.
+    pub const FILES: usize = 5;
+    /// The owner of its first process.
+    pub const OWNER: usize = 6;
+    /// The group of its first process.
+    pub const GROUP: usize = 7;
+}
+
+/// Words that stand at one place in the records of all kinds.
+pub mod record {
+    /// 1 if the slot is live, else 0.
+    pub const LIVE: usize = 0;
+    /// The uses of the slot so far.
+    pub const SERIAL: usize = 1;
+    /// The owner.
+    pub const OWNER: usize = 2;
+    /// The group.
+    pub const GROUP: usize = 3;
+}
+
+/// Words of a process record.
+pub mod process {
+    use super::{ENTRIES, ENTRY_WORDS};
+
+    /// The parent's seid.
+    pub const PARENT: usize = 4;
+    /// The messages that are waiting.
+    pub const QUEUED: usize = 5;
+    /// The first descriptor: a file seid and modes.
+    pub const DESCRIPTORS: usize = 8;
+    /// The first designator: a segment seid and an access.
+    pub const DESIGNATORS: usize = DESCRIPTORS + ENTRIES * ENTRY_WORDS;
+    /// The oldest message: its sender and three words of text.
+    pub const MESSAGES: usize = DESIGNATORS + ENTRIES * ENTRY_WORDS;
+}
+
+/// Words of a segment record.
+pub mod segment {
+    /// The owner bits.
+    pub const BITS: usize = 4;
+    /// 1 if others may rendezvous, else 0.
+    pub const SHARABLE: usize = 5;
+    /// The size in bytes.
+    pub const SIZE: usize = 6;
+    /// The designators of its own cell that hold it.
+    pub const REFERENCES: usize = 7;
+}
+
+/// Words of a file record.
+pub mod file {
+    /// The owner bits.
+    pub const BITS: usize = 4;
+    /// The links.
+    pub const LINKS: usize = 5;
+    /// The size in blocks.
+    pub const SIZE: usize = 6;
+    /// The descriptors of its own cell that hold it.
+    pub const OPENS: usize = 7;
+}

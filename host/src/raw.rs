@@ -1,0 +1,86 @@
+//! The library's functions over lent slices.
+
+use crate::error::Error;
+
+/// The C boundary, as in monitor.h. Nothing compares these declarations with the library: the tests do.
+mod c {
+    use super::Answer;
+
+    unsafe extern "C" {
+        pub fn monitor_setup(table: *mut u32, words: usize, store_bytes: usize) -> u32;
+        pub fn monitor_check(table: *const u32, words: usize, store_bytes: usize) -> u32;
+        pub fn monitor_call(
+            table: *mut u32,
+            words: usize,
+            store: *mut u8,
+            bytes: usize,
+            caller: u32,
+            code: u32,
+            a: u32,
+            b: u32,
+            c: u32,
+            buffer: *mut u8,
+            length: usize,
+        ) -> Answer;
+    }
+}
+
+/// What a call answers, as it comes over the boundary.
+#[derive(Clone, Copy, Debug, Default, PartialEq, Eq)]
+#[repr(C)]
+pub struct Answer {
+    /// 0, or the number of the refusal.
+    pub error: u32,
+    /// The first result; 0 in a refusal.
+    pub first: u32,
+    /// The second result; 0 in a refusal.
+    pub second: u32,
+}
+
+impl Answer {
+    /// The two results, or the refusal.
+    pub fn result(self) -> Result<(u32, u32), Error> {
+        Error::told(self.error)?;
+        Ok((self.first, self.second))
+    }
+}
+
+/// Makes the table of the header and cell words that stand in it. Refused with XbParam, it has changed nothing.
+pub fn setup(table: &mut [u32], store_bytes: usize) -> Result<(), Error> {
+    // SAFETY: pointer and length are those of a slice that is lent to this call alone; any length and contents are allowed.
+    Error::told(unsafe { c::monitor_setup(table.as_mut_ptr(), table.len(), store_bytes) })
+}
+
+/// Whether a table is well formed beside a store of that length.
+pub fn well_formed(table: &[u32], store_bytes: usize) -> bool {
+    // SAFETY: pointer and length are those of a slice; the library only reads it.
+    unsafe { c::monitor_check(table.as_ptr(), table.len(), store_bytes) == 0 }
+}
+
+/// One call by the process in slot `caller`, with its code and its arguments a, b and c: any numbers.
+pub fn call(
+    table: &mut [u32],
+    store: &mut [u8],
+    caller: u32,
+    code: u32,
+    [a, b, c]: [u32; 3],
+    buffer: &mut [u8],
+) -> Answer {
+    // SAFETY: the pointers and lengths are those of three slices that are lent to this call alone, so they do not overlap; any
+    // lengths and contents are allowed.
+    unsafe {
+        c::monitor_call(
+            table.as_mut_ptr(),
+            table.len(),
+            store.as_mut_ptr(),
+            store.len(),
+            caller,
+            code,
+            a,
+            b,
+            c,
+            buffer.as_mut_ptr(),
+            buffer.len(),
+        )
+    }
+}
