@@ -1,27 +1,40 @@
 //! A safe Rust face for the proved monitor.
 //!
 //! The library behind it (`libmonitor.a`) is proved against document 01: for every table, store, caller, code, argument and buffer
-//! it says which answer comes back and which words and bytes are left. So nothing here has anything to test: these functions only
-//! pass slices over the C boundary, and give numbers their names.
+//! it says which answer comes back and which words and bytes are left. So nothing here has anything to test: this crate lends
+//! slices over the C boundary, and gives numbers their names.
+//!
+//! [`Monitor`] owns a table and a store and has a method for each call:
 //!
 //! ```
-//! use monitor::{Cell, Code, Error, Hall, Level};
+//! use monitor::{Bits, Caller, Cell, Error, Hall, Level, Modes, Monitor};
 //!
-//! // One cell with two process slots, no segments, one file of one block.
+//! // One cell with two process slots, no segments, one file of one block. Its first process is in slot 0.
 //! let cell = Cell { level: Level::new(1, 0, 0), processes: 2, files: 1, ..Cell::default() };
-//! let hall = Hall { blocks: 1, cells: vec![cell] };
+//! let mut monitor = Monitor::set_up(&Hall { blocks: 1, cells: vec![cell] })?;
+//! let desk = Caller(0);
+//!
+//! let (file, descriptor) = monitor.create_file(desk, Bits(0o644), Modes::ReadWrite)?;
+//! monitor.write_block(desk, descriptor, 0, &[b'*'; 512])?;
+//! assert_eq!(file.to_string(), "file 0 (use 1)");
+//! assert_eq!(monitor.create_file(desk, Bits(0o644), Modes::ReadWrite), Err(Error::XnoSpace));
+//! # Ok::<(), Error>(())
+//! ```
+//!
+//! [`setup`], [`well_formed`] and [`call`] are the library's functions over slices, for hosts that keep their own memory or hand
+//! calls through by their numbers:
+//!
+//! ```
+//! use monitor::{Cell, Code, Error, Hall};
+//!
+//! let hall = Hall { blocks: 1, cells: vec![Cell { processes: 1, files: 1, ..Cell::default() }] };
 //! let (mut table, mut store) = (hall.table(), hall.store());
 //! monitor::setup(&mut table, store.len())?;
-//!
-//! // Process 0 creates a file, bits 420 (rw-r--r--), open for reading and writing.
 //! let create = Code::CreateFile.number();
-//! let answer = monitor::call(&mut table, &mut store, 0, create, [420, 3, 0], &mut []);
-//! assert_eq!(answer.result(), Ok((2164260865, 0)));
-//!
-//! // There is no second file slot.
-//! let answer = monitor::call(&mut table, &mut store, 0, create, [420, 3, 0], &mut []);
+//! let answer = monitor::call(&mut table, &mut store, 0, create, [0o644, 3, 0], &mut []);
+//! assert_eq!((answer.error, answer.first, answer.second), (0, 2164260865, 0));
+//! let answer = monitor::call(&mut table, &mut store, 0, create, [0o644, 3, 0], &mut []);
 //! assert_eq!(answer.result(), Err(Error::XnoSpace));
-//! assert!(monitor::well_formed(&table, store.len()));
 //! # Ok::<(), Error>(())
 //! ```
 
@@ -31,6 +44,7 @@ mod code;
 mod error;
 mod hall;
 pub mod layout;
+mod owner;
 mod raw;
 mod rights;
 mod seid;
@@ -39,6 +53,7 @@ mod told;
 pub use code::Code;
 pub use error::Error;
 pub use hall::{Cell, Hall, Level};
+pub use owner::{Caller, Descriptor, Designator, Monitor};
 pub use raw::{Answer, call, setup, well_formed};
 pub use rights::{Access, Bits, Modes};
 pub use seid::{Kind, Seid};

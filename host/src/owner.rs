@@ -1,0 +1,267 @@
+//! A monitor that owns its table and store, with a method for each call.
+
+use crate::code::Code;
+use crate::error::Error;
+use crate::hall::Hall;
+use crate::layout::{BLOCK_BYTES, MESSAGE_BYTES, STATUS_BYTES, TEXT_BYTES};
+use crate::raw::{self, Answer};
+use crate::rights::{Access, Bits, Modes};
+use crate::seid::Seid;
+use crate::told::{Message, Status};
+use std::fmt;
+
+/// The process that makes a call, by its slot. A slot that a new process has taken is the new process.
+#[derive(Clone, Copy, Debug, PartialEq, Eq, PartialOrd, Ord, Hash)]
+pub struct Caller(pub u32);
+
+/// A place among the files that a process has open.
+#[derive(Clone, Copy, Debug, PartialEq, Eq, PartialOrd, Ord, Hash)]
+pub struct Descriptor(pub u32);
+
+/// A place among the segments that a process holds.
+#[derive(Clone, Copy, Debug, PartialEq, Eq, PartialOrd, Ord, Hash)]
+pub struct Designator(pub u32);
+
+/// A table and a store in use, and the calls on them.
+///
+/// ```
+/// use monitor::{Bits, Caller, Cell, Error, Hall, Level, Modes, Monitor};
+///
+/// let cell = |security| Cell { level: Level::new(security, 0, 0), processes: 2, files: 1, ..Cell::default() };
+/// let hall = Hall { blocks: 1, cells: vec![cell(1), cell(3)] };
+/// let mut monitor = Monitor::set_up(&hall)?;
+/// let [desk, auditor] = [0, 1].map(|cell| Caller(hall.first_process(cell)));
+///
+/// let (ledger, descriptor) = monitor.create_file(desk, Bits(0o644), Modes::ReadWrite)?;
+/// monitor.write_block(desk, descriptor, 0, &[b'*'; 512])?;
+/// let reading = monitor.open(auditor, ledger, Modes::Read)?;
+/// let mut block = [0; 512];
+/// monitor.read_block(auditor, reading, 0, &mut block)?;
+/// assert_eq!(block, [b'*'; 512]);
+/// assert_eq!(monitor.open(auditor, ledger, Modes::Write), Err(Error::XnoAcc));
+/// # Ok::<(), Error>(())
+/// ```
+///
+/// # One call at a time
+///
+/// Two calls at once on one table would be the host's fault, and safe code cannot make it: every call borrows the monitor for
+/// itself alone (`&mut self`), and so it does from another thread.
+///
+/// ```compile_fail,E0499
+/// # let mut monitor = monitor::Monitor::set_up(&monitor::Hall::default()).unwrap();
+/// let (one, other) = (&mut monitor, &mut monitor);
+/// one.receive(monitor::Caller(0));
+/// other.receive(monitor::Caller(1));
+/// ```
+///
+/// A monitor is `Send`: it is its two lists and nothing else, so it may be made on one thread and used on another, or by several
+/// behind a `Mutex`, which then makes their calls one after another. Calls on different monitors have nothing in common.
+///
+/// # Memory
+///
+/// Set-up allocates the table and the store; no call allocates. What a call does takes a bounded stack and ends.
+#[derive(Clone, PartialEq, Eq)]
+pub struct Monitor {
+    table: Box<[u32]>,
+    store: Box<[u8]>,
+}
+
+impl Monitor {
+    /// A fresh table and a store of zeros: the first process of each cell is live, and nothing else. A bad configuration is
+    /// refused with XbParam.
+    pub fn set_up(hall: &Hall) -> Result<Monitor, Error> {
+        let (mut table, store) = (hall.table(), hall.store());
+        raw::setup(&mut table, store.len())?;
+        Ok(Monitor { table: table.into(), store: store.into() })
+    }
+
+    /// A table and a store that stood elsewhere. One that is not well formed is refused with XbTab.
+    pub fn from_parts(table: impl Into<Box<[u32]>>, store: impl Into<Box<[u8]>>) -> Result<Monitor, Error> {
+        let (table, store) = (table.into(), store.into());
+        if !raw::well_formed(&table, store.len()) {
+            return Err(Error::XbTab);
+        }
+        Ok(Monitor { table, store })
+    }
+
+    /// The table and the store, to be kept elsewhere.
+    pub fn into_parts(self) -> (Box<[u32]>, Box<[u8]>) {
+        (self.table, self.store)
+    }
+
+    /// The table's words, as [`layout`](crate::layout) places them.
+    pub fn table(&self) -> &[u32] {
+        &self.table
+    }
+
+    /// The store's bytes.
+    pub fn store(&self) -> &[u8] {
+        &self.store
+    }
+
+    /// The table and the store, to be changed. A table that is no longer well formed is not dangerous: every call refuses it
+    /// with XbTab.
+    pub fn parts_mut(&mut self) -> (&mut [u32], &mut [u8]) {
+        (&mut self.table, &mut self.store)
+    }
+
+    /// Whether the table is well formed. After set-up and calls alone it always is.
+    pub fn well_formed(&self) -> bool {
+        raw::well_formed(&self.table, self.store.len())
+    }
+
+    /// Any call, by its numbers: for hosts that hand calls through.
+    pub fn call(&mut self, caller: Caller, code: u32, arguments: [u32; 3], buffer: &mut [u8]) -> Answer {
+        raw::call(&mut self.table, &mut self.store, caller.0, code, arguments, buffer)
+    }
+
+    fn ask(&mut self, caller: Caller, code: Code, a: u32, b: u32, c: u32) -> Result<(u32, u32), Error> {
+        self.ask_with(caller, code, [a, b, c], &mut [])
+    }
+
+    fn ask_with(
+        &mut self,
+        caller: Caller,
+        code: Code,
+        arguments: [u32; 3],
+        buffer: &mut [u8],
+    ) -> Result<(u32, u32), Error> {
+        self.call(caller, code.number(), arguments, buffer).result()
+    }
+
+    /// A new process of the caller's cell, whose child it is. Only owner 0 may give another owner or group than its own.
+    pub fn spawn(&mut self, caller: Caller, owner: u16, group: u16) -> Result<Seid, Error> {
+        let (seid, _) = self.ask(caller, Code::Spawn, owner.into(), group.into(), 0)?;
+        Ok(seid.into())
+    }
+
+    /// Ends a process of the caller's cell and owner, or the caller ([`Seid::CALLER`]): all that it holds is given up.
+    pub fn release_process(&mut self, caller: Caller, process: Seid) -> Result<(), Error> {
+        self.ask(caller, Code::ReleaseProcess, process.into(), 0, 0)?;
+        Ok(())
+    }
+
+    /// A new segment of the caller's cell; its size is a multiple of 512 from 512 to 65024.
+    pub fn build_segment(
+        &mut self,
+        caller: Caller,
+        size: u32,
+        bits: Bits,
+        sharable: bool,
+    ) -> Result<(Seid, Designator), Error> {
+        let (seid, place) = self.ask(caller, Code::BuildSegment, size, bits.0.into(), sharable.into())?;
+        Ok((seid.into(), Designator(place)))
+    }
+
+    /// Takes up a sharable segment; to write, one of the caller's cell.
+    pub fn rendezvous(&mut self, caller: Caller, segment: Seid, access: Access) -> Result<Designator, Error> {
+        let (place, _) = self.ask(caller, Code::Rendezvous, segment.into(), access.number(), 0)?;
+        Ok(Designator(place))
+    }
+
+    /// Gives up a segment; one that no designator of its own cell holds any more is gone.
+    pub fn release_segment(&mut self, caller: Caller, designator: Designator) -> Result<(), Error> {
+        self.ask(caller, Code::ReleaseSegment, designator.0, 0, 0)?;
+        Ok(())
+    }
+
+    /// Sets what the caller may do with a segment that it holds, within the segment's bits.
+    pub fn set_access(&mut self, caller: Caller, designator: Designator, access: Access) -> Result<(), Error> {
+        self.ask(caller, Code::SetAccess, designator.0, access.number(), 0)?;
+        Ok(())
+    }
+
+    /// A new file of the caller's cell, open for the caller. Its bits are not judged here.
+    pub fn create_file(&mut self, caller: Caller, bits: Bits, modes: Modes) -> Result<(Seid, Descriptor), Error> {
+        let (seid, place) = self.ask(caller, Code::CreateFile, bits.0.into(), modes.number(), 0)?;
+        Ok((seid.into(), Descriptor(place)))
+    }
+
+    /// Opens a file; to write, one of the caller's cell.
+    pub fn open(&mut self, caller: Caller, file: Seid, modes: Modes) -> Result<Descriptor, Error> {
+        let (place, _) = self.ask(caller, Code::Open, file.into(), modes.number(), 0)?;
+        Ok(Descriptor(place))
+    }
+
+    /// Closes a file; one that has no links and that no descriptor of its own cell holds any more is gone.
+    pub fn close(&mut self, caller: Caller, descriptor: Descriptor) -> Result<(), Error> {
+        self.ask(caller, Code::Close, descriptor.0, 0, 0)?;
+        Ok(())
+    }
+
+    /// Adds a link to a file of the caller's cell and owner, which keeps it.
+    pub fn link(&mut self, caller: Caller, file: Seid) -> Result<(), Error> {
+        self.ask(caller, Code::Link, file.into(), 0, 0)?;
+        Ok(())
+    }
+
+    /// Takes a link from a file of the caller's cell and owner; without links and opens it is gone.
+    pub fn unlink(&mut self, caller: Caller, file: Seid) -> Result<(), Error> {
+        self.ask(caller, Code::Unlink, file.into(), 0, 0)?;
+        Ok(())
+    }
+
+    /// Sets the bits of a file or segment of the caller's cell and owner. They are judged anew at each use.
+    pub fn set_bits(&mut self, caller: Caller, object: Seid, bits: Bits) -> Result<(), Error> {
+        self.ask(caller, Code::SetBits, object.into(), bits.0.into(), 0)?;
+        Ok(())
+    }
+
+    /// Reads a block; a refusal leaves the buffer as it was.
+    pub fn read_block(
+        &mut self,
+        caller: Caller,
+        descriptor: Descriptor,
+        block: u32,
+        into: &mut [u8; BLOCK_BYTES],
+    ) -> Result<(), Error> {
+        self.ask_with(caller, Code::ReadBlock, [descriptor.0, block, 0], into)?;
+        Ok(())
+    }
+
+    /// Writes a block; blocks between the file's end and it become zeros.
+    pub fn write_block(
+        &mut self,
+        caller: Caller,
+        descriptor: Descriptor,
+        block: u32,
+        bytes: &[u8; BLOCK_BYTES],
+    ) -> Result<(), Error> {
+        self.ask_with(caller, Code::WriteBlock, [descriptor.0, block, 0], &mut bytes.clone())?;
+        Ok(())
+    }
+
+    /// Posts a message. To a process of another cell it always succeeds, delivered or not.
+    pub fn post(&mut self, caller: Caller, process: Seid, text: &[u8; TEXT_BYTES]) -> Result<(), Error> {
+        self.ask_with(caller, Code::Post, [process.into(), 0, 0], &mut text.clone())?;
+        Ok(())
+    }
+
+    /// Takes the oldest message that is waiting.
+    pub fn receive(&mut self, caller: Caller) -> Result<Message, Error> {
+        let mut bytes = [0; MESSAGE_BYTES];
+        self.ask_with(caller, Code::Receive, [0; 3], &mut bytes)?;
+        Ok(Message::from_bytes(bytes))
+    }
+
+    /// What a process, segment or file of a cell that flows to the caller's is. [`Seid::CALLER`] is the caller.
+    pub fn status(&mut self, caller: Caller, object: Seid) -> Result<Status, Error> {
+        let mut bytes = [0; STATUS_BYTES];
+        self.ask_with(caller, Code::Status, [object.into(), 0, 0], &mut bytes)?;
+        Ok(Status::from_bytes(bytes).expect("the monitor tells the class of a kind"))
+    }
+
+    /// What the caller may do today with a segment that it holds.
+    pub fn access(&mut self, caller: Caller, designator: Designator) -> Result<Access, Error> {
+        let (access, _) = self.ask(caller, Code::Access, designator.0, 0, 0)?;
+        Ok(Access::of(access).expect("the monitor answers an access"))
+    }
+}
+
+/// The two lengths; the contents would fill a screen.
+impl fmt::Debug for Monitor {
+    fn fmt(&self, f: &mut fmt::Formatter) -> fmt::Result {
+        let (words, bytes) = (self.table.len(), self.store.len());
+        f.debug_struct("Monitor").field("table_words", &words).field("store_bytes", &bytes).finish()
+    }
+}
