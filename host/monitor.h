@@ -1,11 +1,14 @@
 /*
- * The proved monitor, for C. Link with libmonitor.a.
+ * The proved monitor, for C (C99 and later) and C++ (C++11 and later). Link with libmonitor.a; host/README.md has the lines to build with.
  *
- * A table is one array of 32-bit words, a store one array of bytes; document 01 gives their layout and their lengths. The caller
- * lends them for the length of a call and owns them otherwise: the library keeps nothing, takes no memory and prints nothing. Any
- * lengths and any contents may be given: what is not a well-formed table is refused. A pointer must be good for the length beside
- * it; with length 0 it must still not be NULL. Table, store and buffer must not overlap. Two calls at once on one table are the
- * host's fault.
+ * Lent memory. A table is one array of 32-bit words, a store one array of bytes; document 01 gives their layout, and
+ * MONITOR_TABLE_WORDS and MONITOR_STORE_BYTES their lengths. The host owns them and lends them for the length of a call: the library
+ * keeps nothing, takes no memory and prints nothing. Any lengths and any contents may be given: what is not a well-formed table is
+ * refused. A pointer must be good for the length beside it; with length 0 it must still not be NULL. Table, store and buffer must
+ * not overlap.
+ *
+ * Threads. The library has no state of its own, so calls on different tables may be made at once. Two calls at once on one table are
+ * the host's fault: it must keep them apart, by a lock or by having one thread make them.
  */
 #ifndef MONITOR_H
 #define MONITOR_H
@@ -17,7 +20,93 @@
 extern "C" {
 #endif
 
-/* An error number of document 01 (0 is XOK), and two results. A refusal has two zeros. */
+/* The calls, with their arguments a, b and c, and what they give. */
+enum monitor_code {
+    MONITOR_SPAWN = 1, /* Owner, group. Gives a process seid. */
+    MONITOR_RELEASE_PROCESS = 2, /* Process seid. */
+    MONITOR_BUILD_SEGMENT = 3, /* Size in bytes, bits, sharable 0 or 1. Gives a segment seid and a designator. */
+    MONITOR_RENDEZVOUS = 4, /* Segment seid, access. Gives a designator. */
+    MONITOR_RELEASE_SEGMENT = 5, /* Designator. */
+    MONITOR_SET_ACCESS = 6, /* Designator, access. */
+    MONITOR_CREATE_FILE = 7, /* Bits, modes. Gives a file seid and a descriptor. */
+    MONITOR_OPEN = 8, /* File seid, modes. Gives a descriptor. */
+    MONITOR_CLOSE = 9, /* Descriptor. */
+    MONITOR_LINK = 10, /* File seid. */
+    MONITOR_UNLINK = 11, /* File seid. */
+    MONITOR_SET_BITS = 12, /* File or segment seid, bits. */
+    MONITOR_READ_BLOCK = 13, /* Descriptor, block; a buffer of 512 bytes, which is filled. */
+    MONITOR_WRITE_BLOCK = 14, /* Descriptor, block; a buffer of 512 bytes. */
+    MONITOR_POST = 15, /* Process seid; a buffer of 12 bytes. */
+    MONITOR_RECEIVE = 16, /* A buffer of 16 bytes, which is filled. */
+    MONITOR_STATUS = 17, /* Seid; a buffer of 16 bytes, which is filled. */
+    MONITOR_ACCESS = 18, /* Designator. Gives an access. */
+};
+
+/* The refusals, by document 01's names and numbers; 0 is success. A refusal has changed nothing. */
+enum monitor_error {
+    MONITOR_XOK = 0, /* done */
+    MONITOR_XbTab = 1, /* the table is not well formed, or a length is wrong */
+    MONITOR_XbPrSd = 2, /* no such process */
+    MONITOR_XbdKcl = 3, /* no such call */
+    MONITOR_XbParam = 4, /* an argument is out of range */
+    MONITOR_XbSz = 5, /* the buffer has the wrong length */
+    MONITOR_XbSgSz = 6, /* no size for a segment */
+    MONITOR_XbadModes = 7, /* no valid open modes */
+    MONITOR_XnSgDes = 8, /* no designator has that number */
+    MONITOR_XbSgDes = 9, /* the designator is empty */
+    MONITOR_XbadOd = 10, /* the descriptor is empty or there is none of that number */
+    MONITOR_XbSgSd = 11, /* no such segment */
+    MONITOR_XnoObj = 12, /* no such object */
+    MONITOR_XnoAcc = 13, /* the level forbids it */
+    MONITOR_XnoOwner = 14, /* only the owner may */
+    MONITOR_XnoPriv = 15, /* only owner 0 may spawn for others */
+    MONITOR_XdapViol = 16, /* the owner bits forbid it */
+    MONITOR_XsgNoAcc = 17, /* the segment is not sharable */
+    MONITOR_XdupSg = 18, /* the segment is held already */
+    MONITOR_Xbusy = 19, /* another open is in the way */
+    MONITOR_XnotReadable = 20, /* not open for reading */
+    MONITOR_XnotWritable = 21, /* not open for writing */
+    MONITOR_XbadBlockNo = 22, /* no block has that number */
+    MONITOR_XendOfFile = 23, /* the file ends before that block */
+    MONITOR_XbadLink = 24, /* the count of links is at its end */
+    MONITOR_XodSpace = 25, /* all sixteen places are taken */
+    MONITOR_XnoSpace = 26, /* no free slot in the cell */
+    MONITOR_XnoProc = 27, /* no free process slot in the cell */
+    MONITOR_XpostEh = 28, /* eight messages are waiting already */
+    MONITOR_XbNoMes = 29, /* no message is waiting */
+};
+
+/* Limits: cells, slots of each kind, blocks of a file. */
+#define MONITOR_MAX_CELLS 16
+#define MONITOR_MAX_SLOTS 64
+#define MONITOR_MAX_BLOCKS 64
+
+/* Words of the parts of a table: header, cells, then the records of processes, segments and files. */
+#define MONITOR_HEADER_WORDS 8
+#define MONITOR_CELL_WORDS 8
+#define MONITOR_PROCESS_WORDS 104
+#define MONITOR_SEGMENT_WORDS 8
+#define MONITOR_FILE_WORDS 8
+
+/* Bytes of a block, of a message's text, of a message with its sender before it, and of a status. */
+#define MONITOR_BLOCK_BYTES 512
+#define MONITOR_TEXT_BYTES 12
+#define MONITOR_MESSAGE_BYTES 16
+#define MONITOR_STATUS_BYTES 16
+
+/* The lengths of table and store. */
+#define MONITOR_TABLE_WORDS(cells, processes, segments, files)                                                               \
+    (MONITOR_HEADER_WORDS + MONITOR_CELL_WORDS * (size_t)(cells) + MONITOR_PROCESS_WORDS * (size_t)(processes) +            \
+     MONITOR_SEGMENT_WORDS * (size_t)(segments) + MONITOR_FILE_WORDS * (size_t)(files))
+#define MONITOR_STORE_BYTES(files, blocks) ((size_t)(files) * (size_t)(blocks) * MONITOR_BLOCK_BYTES)
+
+/* Identifiers: a class (process, segment or file), a slot and a serial that counts the slot's uses. 0 is the caller. */
+#define MONITOR_CLASS_PROCESS 4
+#define MONITOR_CLASS_SEGMENT 5
+#define MONITOR_CLASS_FILE 129
+#define MONITOR_SEID(class_, slot, serial) ((uint32_t)(class_) << 24 | (uint32_t)(slot) << 16 | (uint32_t)(serial))
+
+/* A number of enum monitor_error, and two results. A refusal has two zeros. */
 typedef struct {
     uint32_t error;
     uint32_t first;
@@ -30,10 +119,25 @@ uint32_t monitor_setup(uint32_t *table, size_t words, size_t store_bytes);
 /* 0 if the table is well formed, 1 if it is not. */
 uint32_t monitor_check(const uint32_t *table, size_t words, size_t store_bytes);
 
-/* One call of document 01. A refusal changes nothing; only a successful 13, 16 or 17 changes the buffer. */
+/*
+ * One call by the process in slot `caller`: any numbers. A buffer is looked at by the calls alone that name one above, and must then
+ * have exactly that length; only a successful 13, 16 or 17 changes it.
+ */
 monitor_answer monitor_call(uint32_t *table, size_t words, uint8_t *store, size_t bytes,
                             uint32_t caller, uint32_t code, uint32_t a, uint32_t b, uint32_t c,
                             uint8_t *buffer, size_t length);
+
+/* The name of an error number, as document 01 spells it and replay writes it; "?" if there is none. */
+static inline const char *monitor_error_name(uint32_t error)
+{
+    static const char *const names[] = {
+        "XOK", "XbTab", "XbPrSd", "XbdKcl", "XbParam", "XbSz", "XbSgSz", "XbadModes", "XnSgDes", "XbSgDes", "XbadOd",
+        "XbSgSd", "XnoObj", "XnoAcc", "XnoOwner", "XnoPriv", "XdapViol", "XsgNoAcc", "XdupSg", "Xbusy", "XnotReadable",
+        "XnotWritable", "XbadBlockNo", "XendOfFile", "XbadLink", "XodSpace", "XnoSpace", "XnoProc", "XpostEh",
+        "XbNoMes",
+    };
+    return error < sizeof names / sizeof *names ? names[error] : "?";
+}
 
 #ifdef __cplusplus
 }

@@ -1,9 +1,17 @@
 #!/usr/bin/env bash
-# The host's tests: the safe wrapper, the C program and the example over the proved library, the plain monitor by itself, and the
-# two against each other. They read target/staticlib/libmonitor.a and target/bin/replay of the repository, which
-# `rt staticlib monitor` and `rt check replay` write; MONITOR_LIB_DIR and MONITOR_REPLAY may name others.
+# The host's tests: the safe wrapper, the header, the C program and the examples over the proved library, the plain monitor by itself,
+# and the two against each other. They read target/staticlib/libmonitor.a and target/bin/replay of the repository, which
+# `rt staticlib monitor` and `rt check replay` write, whatever the environment says.
+#
+#   test.sh [FOLDER]     with FOLDER, its library and its replay are tested instead: a stand-in's, say
 set -euo pipefail
 cd "$(dirname "$0")"
+unset MONITOR_LIB_DIR MONITOR_REPLAY
+if [ $# -gt 0 ]; then
+    folder=$(cd "$1" && pwd)
+    export MONITOR_LIB_DIR=$folder MONITOR_REPLAY=$folder/replay LD_LIBRARY_PATH=$folder
+fi
 cargo test --release --offline --locked
 cargo run --release --offline --locked --quiet --example night_log | diff - examples/night_log.txt
+RUSTDOCFLAGS="-D warnings" cargo doc --offline --locked --quiet --no-deps --package monitor
 echo "host: all tests passed"

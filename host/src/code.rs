@@ -5,7 +5,7 @@ use std::fmt;
 
 macro_rules! codes {
     ($($variant:ident = $number:literal, $name:literal, $arguments:literal;)*) => {
-        /// A call, with its arguments a, b and c and what it gives.
+        /// A call, with its arguments a, b and c, its buffer, and what it gives.
         #[derive(Clone, Copy, Debug, PartialEq, Eq, PartialOrd, Ord, Hash)]
         #[repr(u32)]
         pub enum Code {
@@ -19,6 +19,11 @@ macro_rules! codes {
             /// The call's name, as scripts spell it.
             pub const fn name(self) -> &'static str {
                 match self { $(Code::$variant => $name),* }
+            }
+
+            /// Its arguments a, b and c, its buffer, and what it gives.
+            pub const fn arguments(self) -> &'static str {
+                match self { $(Code::$variant => $arguments),* }
             }
 
             /// The call of a number, if there is one.

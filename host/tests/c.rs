@@ -1,0 +1,134 @@
+//! The C side: the header as C99 and as C++, its names and numbers, and the first program, linked with the archive and run.
+
+use monitor::layout::*;
+use monitor::{Code, Error, Kind};
+use std::collections::BTreeMap;
+use std::path::{Path, PathBuf};
+use std::process::Command;
+
+fn here() -> PathBuf {
+    PathBuf::from(env!("CARGO_MANIFEST_DIR"))
+}
+
+/// Compiles a program with the header, links it with the archive, runs it, and gives what it writes.
+fn run(compiler: &str, words: &[&str], source: &Path, name: &str) -> String {
+    let program = PathBuf::from(env!("CARGO_TARGET_TMPDIR")).join(name);
+    let mut command = Command::new(compiler);
+    command.args(words).args(["-Wall", "-Wextra", "-pedantic", "-Werror", "-O2", "-I"]).arg(here());
+    command.arg(source).args(["-x", "none", "-o"]).arg(&program);
+    command.arg("-L").arg(env!("MONITOR_LIB_DIR")).arg("-lmonitor");
+    let compiled = command.status().unwrap_or_else(|error| panic!("{compiler}: {error}"));
+    assert!(compiled.success(), "{command:?}");
+    let output = Command::new(&program).output().expect("the program runs");
+    assert!(output.status.success());
+    String::from_utf8(output.stdout).expect("it writes text")
+}
+
+const FIRST_CALL: &str = "set-up: XOK
+well formed: yes
+spawn, owner 17, group 18: XOK, seid 67174401
+spawn once more: XnoProc
+create a file: XOK, seid 2164260865, descriptor 0
+write its block 0: XOK
+read it: XOK, \"quiet\"
+";
+
+#[test]
+fn first_call_in_c99() {
+    assert_eq!(run("gcc", &["-std=c99"], &here().join("c/first_call.c"), "first_call"), FIRST_CALL);
+}
+
+#[test]
+fn first_call_in_cpp() {
+    let words = ["-std=c++11", "-x", "c++"];
+    assert_eq!(run("g++", &words, &here().join("c/first_call.c"), "first_call_cpp"), FIRST_CALL);
+}
+
+/// A name in capitals with words parted: `CreateFile` is CREATE_FILE.
+fn capitals(name: &str) -> String {
+    let mut out = String::new();
+    for (at, letter) in name.char_indices() {
+        if at > 0 && letter.is_uppercase() {
+            out.push('_');
+        }
+        out.push(letter.to_ascii_uppercase());
+    }
+    out
+}
+
+#[test]
+fn the_header_says_what_the_crate_says() {
+    let header = std::fs::read_to_string(here().join("monitor.h")).expect("the header is there");
+    // The lines of the two enums.
+    let entries: Vec<(String, u32, String)> = header
+        .lines()
+        .filter_map(|line| {
+            let (name, rest) = line.trim().strip_prefix("MONITOR_")?.split_once(" = ")?;
+            let (number, comment) = rest.split_once(", /* ")?;
+            Some((name.to_string(), number.parse().ok()?, comment.strip_suffix(" */")?.to_string()))
+        })
+        .collect();
+    let codes = Code::ALL.iter().map(|code| (capitals(&format!("{code:?}")), code.number(), code.arguments()));
+    let errors = Error::ALL.iter().map(|error| (error.name().to_string(), error.number(), error.meaning()));
+    let expected: Vec<(String, u32, String)> = codes
+        .chain([("XOK".to_string(), 0, "done")])
+        .chain(errors)
+        .map(|(name, number, comment)| (name, number, comment.to_string()))
+        .collect();
+    assert_eq!(entries, expected);
+
+    let sizes: BTreeMap<&str, usize> = header
+        .lines()
+        .filter_map(|line| {
+            let (name, number) = line.strip_prefix("#define MONITOR_")?.split_once(' ')?;
+            Some((name, number.parse().ok()?))
+        })
+        .collect();
+    let class = |kind: Kind| usize::from(kind.class());
+    let expected = BTreeMap::from([
+        ("MAX_CELLS", MAX_CELLS),
+        ("MAX_SLOTS", MAX_SLOTS),
+        ("MAX_BLOCKS", MAX_BLOCKS),
+        ("HEADER_WORDS", HEADER_WORDS),
+        ("CELL_WORDS", CELL_WORDS),
+        ("PROCESS_WORDS", PROCESS_WORDS),
+        ("SEGMENT_WORDS", SEGMENT_WORDS),
+        ("FILE_WORDS", FILE_WORDS),
+        ("BLOCK_BYTES", BLOCK_BYTES),
+        ("TEXT_BYTES", TEXT_BYTES),
+        ("MESSAGE_BYTES", MESSAGE_BYTES),
+        ("STATUS_BYTES", STATUS_BYTES),
+        ("CLASS_PROCESS", class(Kind::Process)),
+        ("CLASS_SEGMENT", class(Kind::Segment)),
+        ("CLASS_FILE", class(Kind::File)),
+    ]);
+    assert_eq!(sizes, expected);
+}
+
+/// What the header computes: the names of errors, the lengths, a seid.
+#[test]
+fn the_header_computes_what_the_crate_computes() {
+    let source = PathBuf::from(env!("CARGO_TARGET_TMPDIR")).join("computes.c");
+    let program = "#include \"monitor.h\"
+#include <stdio.h>
+int main(void)
+{
+    uint32_t error;
+    for (error = 0; error < 64; error++)
+        printf(\"%s\\n\", monitor_error_name(error));
+    printf(\"%zu %zu\\n\", MONITOR_TABLE_WORDS(3, 5, 7, 11), MONITOR_STORE_BYTES(11, 13));
+    printf(\"%lu\\n\", (unsigned long)MONITOR_SEID(MONITOR_CLASS_FILE, 2, 65535));
+    return 0;
+}
+";
+    std::fs::write(&source, program).expect("the program can be written");
+    let told = run("gcc", &["-std=c99"], &source, "computes");
+    let name = |number| match number {
+        0 => "XOK",
+        _ => Error::of(number).map_or("?", Error::name),
+    };
+    let mut expected: String = (0..64).map(|number| name(number).to_string() + "\n").collect();
+    expected += &format!("{} {}\n", table_words(3, 5, 7, 11), store_bytes(11, 13));
+    expected += &format!("{}\n", u32::from(monitor::Seid::new(Kind::File, 2, 65535)));
+    assert_eq!(told, expected);
+}
