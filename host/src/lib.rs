@@ -42,6 +42,7 @@
 
 mod code;
 mod error;
+pub mod explain;
 mod hall;
 pub mod layout;
 mod owner;

@@ -1,0 +1,94 @@
+//! Calls and answers in words: each call once done and once refused, and any numbers at all.
+
+use monitor::{Answer, Code, explain};
+use trial::Rng;
+
+const FILE: u32 = 129 << 24 | 1;
+const SEGMENT: u32 = 5 << 24 | 2 << 16 | 9;
+const PROCESS: u32 = 4 << 24 | 3 << 16 | 7;
+const STATUS: [u8; 16] = [129, 1, 0, 10, 0, 20, 1, 0xa4, 3, 0, 0, 0, 0, 0, 0, 0];
+const MESSAGE: [u8; 16] = *b"\x04\x03\x00\x07all is quiet";
+
+/// Code, arguments, results, buffer; what was asked, what came back.
+type Made = (Code, [u32; 3], [u32; 2], &'static [u8], &'static str, &'static str);
+
+const MADE: [Made; 18] = [
+    (Code::Spawn, [10, 20, 0], [PROCESS, 0], &[], "spawn a process for owner 10, group 20", "process 3 (use 7)"),
+    (Code::ReleaseProcess, [0, 0, 0], [0, 0], &[], "release itself", "done"),
+    (
+        Code::BuildSegment,
+        [1024, 0o640, 1],
+        [SEGMENT, 4],
+        &[],
+        "build a segment of 1024 bytes, rw-r-----, sharable",
+        "segment 2 (use 9), designator 4",
+    ),
+    (Code::Rendezvous, [SEGMENT, 256, 0], [3, 0], &[], "take up segment 2 (use 9) to read", "designator 3"),
+    (Code::ReleaseSegment, [3, 0, 0], [0, 0], &[], "give up designator 3", "done"),
+    (Code::SetAccess, [3, 0, 0], [0, 0], &[], "hold designator 3 to do nothing", "done"),
+    (
+        Code::CreateFile,
+        [0o644, 3, 0],
+        [FILE, 2],
+        &[],
+        "create a file, rw-r--r--, to read and write",
+        "file 0 (use 1), descriptor 2",
+    ),
+    (Code::Open, [FILE, 15, 0], [2, 0], &[], "open file 0 (use 1) to read and write, nobody else", "descriptor 2"),
+    (Code::Close, [2, 0, 0], [0, 0], &[], "close descriptor 2", "done"),
+    (Code::Link, [FILE, 0, 0], [0, 0], &[], "link file 0 (use 1)", "done"),
+    (Code::Unlink, [FILE, 0, 0], [0, 0], &[], "unlink file 0 (use 1)", "done"),
+    (Code::SetBits, [FILE, 0o444, 0], [0, 0], &[], "set r--r--r-- on file 0 (use 1)", "done"),
+    (Code::ReadBlock, [2, 1, 0], [0, 0], &[b'*'; 512], "read block 1 by descriptor 2", "512 bytes, from \"********\""),
+    (Code::WriteBlock, [2, 1, 0], [0, 0], &[b'*'; 512], "write block 1 by descriptor 2", "done"),
+    (Code::Post, [PROCESS, 0, 0], [0, 0], b"all is quiet", "post to process 3 (use 7)", "done"),
+    (Code::Receive, [0; 3], [0, 0], &MESSAGE, "receive a message", "\"all is quiet\" from process 3 (use 7)"),
+    (
+        Code::Status,
+        [FILE, 0, 0],
+        [0, 0],
+        &STATUS,
+        "ask about file 0 (use 1)",
+        "file of cell 1, owner 10, group 20, rw-r--r--",
+    ),
+    (Code::Access, [3, 0, 0], [128, 0], &[], "ask what designator 3 is held to do", "to write"),
+];
+
+#[test]
+fn each_call() {
+    for ((code, arguments, [first, second], buffer, asked, came_back), listed) in MADE.into_iter().zip(Code::ALL) {
+        assert_eq!(code, *listed);
+        let answer = Answer { error: 0, first, second };
+        let mut call = explain::Call { caller: 5, code: code.number(), arguments, answer, buffer };
+        assert_eq!((call.asked().to_string().as_str(), call.came_back().to_string().as_str()), (asked, came_back));
+        assert_eq!(call.to_string(), format!("process 5: {asked}: {came_back}"));
+        call.answer = Answer { error: 26, first: 0, second: 0 };
+        assert!(call.refused());
+        assert_eq!(call.to_string(), format!("process 5: {asked}: refused, XnoSpace: no free slot in the cell"));
+    }
+    assert_eq!(MADE.len(), Code::ALL.len());
+}
+
+#[test]
+fn odd_numbers() {
+    for (code, arguments, asked) in [
+        (99, [1, 2, 3], "call 99 (1, 2, 3)"),
+        (Code::Open.number(), [16777217, 9, 0], "open an object of class 1 to modes 9"),
+        (Code::Rendezvous.number(), [SEGMENT, 5, 0], "take up segment 2 (use 9) to access 5"),
+        (Code::BuildSegment.number(), [0, 512, 2], "build a segment of 0 bytes, bits 512, sharable 2"),
+        (Code::SetBits.number(), [FILE, 65536, 0], "set bits 65536 on file 0 (use 1)"),
+    ] {
+        assert_eq!(explain::asked(code, arguments).to_string(), asked);
+    }
+    // Whatever the numbers and however short the buffer, there are words for it.
+    let mut rng = Rng::for_trial("odd_numbers", 17);
+    for _ in 0..20_000 {
+        let mut buffer = vec![0; rng.below(20)];
+        rng.bytes(&mut buffer);
+        let answer = Answer { error: rng.pick(&[0, 0, 29, 30, u32::MAX]), first: rng.word(), second: rng.word() };
+        let code = rng.between(0, 25);
+        let arguments = [rng.word(), rng.word(), rng.word()];
+        let call = explain::Call { caller: rng.word(), code, arguments, answer, buffer: &buffer };
+        assert!(!call.to_string().is_empty());
+    }
+}
