@@ -1,6 +1,8 @@
 //! The proved replay program against the plain replay. MONITOR_REPLAY names the program; without it, the one that the proofs leave
 //! in target/bin.
 
+mod common;
+use common::Archive;
 use std::fs::{self, File};
 use std::io::Write;
 use std::path::PathBuf;
@@ -15,9 +17,15 @@ fn program() -> PathBuf {
     program
 }
 
+/// A file of this test's own: the tests run side by side.
+fn path(name: &str) -> PathBuf {
+    let test = thread::current().name().expect("a test has a name").to_string();
+    PathBuf::from(env!("CARGO_TARGET_TMPDIR")).join(format!("{test}-{name}"))
+}
+
 /// The listing of an input that stands in a file.
 fn proved_listing(program: &PathBuf, input: &[u8]) -> Vec<u8> {
-    let path = PathBuf::from(env!("CARGO_TARGET_TMPDIR")).join("replay-input");
+    let path = path("replay-input");
     fs::write(&path, input).unwrap();
     ended(Command::new(program).stdin(File::open(&path).unwrap()).output().unwrap())
 }
@@ -44,6 +52,24 @@ fn ended(output: Output) -> Vec<u8> {
     output.stdout
 }
 
+/// Shrinks an input whose listings differ, and tells it as a script.
+fn differ(program: &PathBuf, input: &[u8]) -> ! {
+    let input = scripts::shrunk(input, |input| proved_listing(program, input) != plain::replay(input));
+    let kept = path("replay-input-that-differs");
+    fs::write(&kept, &input).unwrap();
+    let (listing, expected) = (proved_listing(program, &input), plain::replay(&input));
+    let lines = |text: &[u8]| String::from_utf8_lossy(text).lines().map(str::to_string).collect::<Vec<String>>();
+    let (listed, due) = (lines(&listing), lines(&expected));
+    let at = listed.iter().zip(&due).take_while(|(listed, due)| listed == due).count();
+    panic!(
+        "listings differ at line {at}: {:?}, plain {:?}\nThe input is kept in {}; as a script (tools/script.py makes its bytes):\n\n{}",
+        listed.get(at),
+        due.get(at),
+        kept.display(),
+        scripts::text(&input, &Archive),
+    );
+}
+
 #[test]
 fn listings_agree() {
     let mut rng = Rng::for_trial("listings_agree", 13);
@@ -68,10 +94,7 @@ fn listings_agree() {
         let expected = plain::replay(&input);
         let listing = proved_listing(&program, &input);
         if listing != expected {
-            let kept = PathBuf::from(env!("CARGO_TARGET_TMPDIR")).join("replay-input-that-differs");
-            fs::write(&kept, &input).unwrap();
-            let line = |text: &[u8]| String::from_utf8_lossy(text).lines().count();
-            panic!("listings differ on {}: {} lines, plain {}", kept.display(), line(&listing), line(&expected));
+            differ(&program, &input);
         }
         match expected {
             text if text == b"bad configuration\n" => configurations += 1,
@@ -95,6 +118,9 @@ fn pieces_make_no_difference() {
         }
         let expected = plain::replay(&script.bytes);
         let piece = rng.pick(&[1, 2, 7, 64, 511, 4096]);
+        if proved_listing(&program, &script.bytes) != expected {
+            differ(&program, &script.bytes);
+        }
         assert!(proved_listing_in_pieces(&program, script.bytes, piece) == expected, "in pieces of {piece}");
     }
 }

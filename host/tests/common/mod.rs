@@ -18,4 +18,12 @@ impl Monitor for Archive {
         let answer = monitor::call(table, store, caller, code, [a, b, c], buffer);
         [answer.error, answer.first, answer.second]
     }
+
+    fn name(&self, code: u32) -> Option<String> {
+        Some(monitor::Code::of(code)?.name().to_string())
+    }
+
+    fn words(&self, request: &plain::Request) -> Option<String> {
+        Some(monitor::explain::asked(request.code, [request.a, request.b, request.c]).to_string())
+    }
 }

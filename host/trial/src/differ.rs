@@ -3,6 +3,7 @@
 use crate::calls::{self, Call};
 use crate::damage;
 use crate::rng::Rng;
+use crate::shrink;
 use crate::tables::{self, World};
 use crate::tally::Tally;
 use crate::{Monitor, Plain};
@@ -58,10 +59,16 @@ impl<'a, M: Monitor> Differ<'a, M> {
                 _ => tables::well_formed(&mut self.rng, limits),
             };
             let shape = start.shape();
-            let (mut before, mut ours, mut theirs) = (start.clone(), start.clone(), start);
+            let (mut before, mut ours, mut theirs) = (start.clone(), start.clone(), start.clone());
+            let mut made = Vec::new();
             for _ in 0..calls_each {
-                let call = calls::any(&mut self.rng, &before, &shape);
-                let error = self.step(&before, &shape, &mut ours, &mut theirs, &call);
+                made.push(calls::any(&mut self.rng, &before, &shape));
+                let call = made.last().expect("there is one");
+                let answer = same_call(self.monitor, &mut ours, &mut theirs, call);
+                let error = match answer {
+                    Ok(answer) => self.note(&before, &shape, call, answer),
+                    Err(_) => self.report(&start, &made),
+                };
                 if error == 0 {
                     before.table.copy_from_slice(&ours.table);
                     if call.request.code == 2 && before.deserted(&shape) {
@@ -72,11 +79,22 @@ impl<'a, M: Monitor> Differ<'a, M> {
         }
     }
 
+    /// A call by itself, on two copies of a table.
     fn step(&mut self, before: &World, shape: &Shape, ours: &mut World, theirs: &mut World, call: &Call) -> u32 {
-        let answer = same_call(self.monitor, ours, theirs, call);
+        match same_call(self.monitor, ours, theirs, call) {
+            Ok(answer) => self.note(before, shape, call, answer),
+            Err(_) => self.report(before, std::slice::from_ref(call)),
+        }
+    }
+
+    fn note(&mut self, before: &World, shape: &Shape, call: &Call, answer: [u32; 3]) -> u32 {
         self.tally.note(before, shape, call, answer);
         self.calls += 1;
         answer[0]
+    }
+
+    fn report(&self, start: &World, calls: &[Call]) -> ! {
+        panic!("{}", shrink::found(self.monitor, start, calls).report(self.monitor));
     }
 
     /// Damaged tables: the check, a call and set-up on each. Every named damage is done so many times, and random ones as often.
@@ -117,7 +135,11 @@ impl<'a, M: Monitor> Differ<'a, M> {
         assert_eq!(ours, verdict, "the check of a table damaged thus: {name}\n{}", difference(shape, start, &world));
         let call = calls::any(&mut self.rng, start, shape);
         let (mut one, mut other) = (world.clone(), world.clone());
-        let answer = same_call(self.monitor, &mut one, &mut other, &call);
+        let answer = match same_call(self.monitor, &mut one, &mut other, &call) {
+            Ok(answer) => answer,
+            Err(_) if verdict == 0 => self.report(&world, &[call]), // it is still well formed
+            Err(difference) => panic!("on a table damaged thus: {name}\n{difference}"),
+        };
         self.calls += 1;
         if verdict != 0 {
             assert_eq!(answer, [1, 0, 0], "a table damaged thus: {name}");
@@ -173,22 +195,28 @@ fn same_setup(monitor: &impl Monitor, world: World) {
     }
 }
 
-/// Makes one call with the monitor on one world and with the plain monitor on the other, and compares all that is left.
-fn same_call(monitor: &impl Monitor, ours: &mut World, theirs: &mut World, call: &Call) -> [u32; 3] {
+/// Makes one call with the monitor on one world and with the plain monitor on the other, and compares all that is left: the answer
+/// of both, or in what they differ.
+pub fn same_call(
+    monitor: &impl Monitor,
+    ours: &mut World,
+    theirs: &mut World,
+    call: &Call,
+) -> Result<[u32; 3], String> {
     let (mut our_buffer, mut their_buffer) = (call.buffer.clone(), call.buffer.clone());
     let answer = monitor.call(&mut ours.table, &mut ours.store, &call.request, &mut our_buffer);
     let expected = Plain.call(&mut theirs.table, &mut theirs.store, &call.request, &mut their_buffer);
-    if answer != expected || *ours != *theirs || our_buffer != their_buffer {
-        let shape = Shape::read(&theirs.table, theirs.store.len());
-        let place = shape.map_or(String::new(), |shape| difference(&shape, ours, theirs));
-        panic!(
-            "{:?} with a buffer of {}\nanswer {answer:?}, plain {expected:?}\n{place}\nbuffers equal: {}",
-            call.request,
-            call.buffer.len(),
-            our_buffer == their_buffer,
-        );
+    if answer == expected && *ours == *theirs && our_buffer == their_buffer {
+        return Ok(answer);
     }
-    answer
+    let shape = Shape::read(&theirs.table, theirs.store.len());
+    let place = shape.map_or(String::new(), |shape| difference(&shape, ours, theirs));
+    Err(format!(
+        "{:?} with a buffer of {}\nanswer {answer:?}, plain {expected:?}\n{place}\nbuffers equal: {}",
+        call.request,
+        call.buffer.len(),
+        our_buffer == their_buffer,
+    ))
 }
 
 /// The first words and bytes in which two worlds differ, in words.

@@ -7,6 +7,7 @@ pub mod differ;
 pub mod rng;
 pub mod scripts;
 pub mod secrecy;
+pub mod shrink;
 pub mod tables;
 pub mod tally;
 
@@ -20,6 +21,16 @@ pub trait Monitor {
     fn check(&self, table: &[u32], store_bytes: usize) -> u32;
     /// Error, first and second.
     fn call(&self, table: &mut [u32], store: &mut [u8], request: &plain::Request, buffer: &mut [u8]) -> [u32; 3];
+
+    /// A call's name in scripts, if it has one.
+    fn name(&self, _code: u32) -> Option<String> {
+        None
+    }
+
+    /// What a call asks, in words, if there are any.
+    fn words(&self, _request: &plain::Request) -> Option<String> {
+        None
+    }
 }
 
 /// The plain monitor.

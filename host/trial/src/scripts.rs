@@ -1,10 +1,13 @@
-//! Replay inputs: valid ones, long and short, and damaged ones.
+//! Replay inputs: valid ones, long and short, and damaged ones; and any input as the text that tools/script.py reads.
 
-use crate::calls;
+use crate::calls::{self, Call};
 use crate::rng::Rng;
+use crate::shrink;
 use crate::tables::{self, Limits, World};
 use crate::{Monitor, Plain};
-use plain::Request;
+use plain::table::{CELL_WORDS, MAX_CELLS};
+use plain::{Kind, Request, Seid, number};
+use std::fmt::Write;
 
 /// A replay input, and where its numbers start: a damage there does more than one among a buffer's bytes.
 #[derive(Clone, Default)]
@@ -118,4 +121,136 @@ pub fn bad_configuration(rng: &mut Rng, limits: Limits) -> Script {
     script.configuration(&words);
     script.call(&Request { caller: 0, code: 1, a: 0, b: 0, c: 0 }, &[]);
     script
+}
+
+/// A part of an input.
+#[derive(Clone, PartialEq, Eq)]
+pub enum Part {
+    /// The header's five numbers, then the cells'.
+    Configuration(Vec<u32>),
+    Call(Call),
+    /// What stands where a number is bad or something is cut, to the end.
+    Rest(Vec<u8>),
+}
+
+/// An input in parts.
+pub fn parts(mut input: &[u8]) -> Vec<Part> {
+    let mut parts = Vec::new();
+    let mut next: fn(&mut &[u8]) -> Option<Part> = configuration;
+    while !input.is_empty() {
+        let mut rest = input;
+        let part = next(&mut rest);
+        if part.is_none() {
+            rest = &[];
+        }
+        parts.push(part.unwrap_or_else(|| Part::Rest(input.to_vec())));
+        input = rest;
+        next = call;
+    }
+    parts
+}
+
+/// The input of some parts.
+pub fn joined(parts: &[Part]) -> Vec<u8> {
+    let mut script = Script::default();
+    for part in parts {
+        match part {
+            Part::Configuration(words) => words.iter().for_each(|&word| script.number(word)),
+            Part::Call(call) => script.call(&call.request, &call.buffer),
+            Part::Rest(bytes) => script.bytes.extend(bytes),
+        }
+    }
+    script.bytes
+}
+
+fn configuration(input: &mut &[u8]) -> Option<Part> {
+    let mut words = (0..5).map(|_| number(input)).collect::<Option<Vec<u32>>>()?;
+    let cells = words[0] as usize;
+    if cells > MAX_CELLS {
+        return None;
+    }
+    for _ in 0..CELL_WORDS * cells {
+        words.push(number(input)?);
+    }
+    Some(Part::Configuration(words))
+}
+
+fn call(input: &mut &[u8]) -> Option<Part> {
+    let [caller, code, a, b, c, length] = [(); 6].map(|()| number(input));
+    let request = Request { caller: caller?, code: code?, a: a?, b: b?, c: c? };
+    let (buffer, rest) = input.split_at_checked(length? as usize)?;
+    *input = rest;
+    Some(Part::Call(Call { request, buffer: buffer.to_vec() }))
+}
+
+/// An input with calls dropped and made simpler while it still differs.
+pub fn shrunk(input: &[u8], mut differs: impl FnMut(&[u8]) -> bool) -> Vec<u8> {
+    let mut parts = parts(input);
+    shrink::shrink(&mut parts, |fewer| differs(&joined(fewer)));
+    let on_call = |part: &mut Part, change: fn(&mut Call)| match part {
+        Part::Call(call) => change(call),
+        _ => {}
+    };
+    shrink::simplify(&mut parts, on_call, |simpler| differs(&joined(simpler)));
+    joined(&parts)
+}
+
+/// An input as text: tools/script.py makes the same bytes of it again.
+pub fn text(input: &[u8], monitor: &impl Monitor) -> String {
+    let mut text = String::new();
+    let line = |text: &mut String, name: &str, words: &[u32]| {
+        let words: Vec<String> = words.iter().map(u32::to_string).collect();
+        writeln!(text, "{name} {}", words.join(" ")).expect("a string takes it");
+    };
+    for part in parts(input) {
+        match part {
+            Part::Configuration(words) => {
+                line(&mut text, "header", &words[..5]);
+                for cell in words[5..].chunks(CELL_WORDS) {
+                    line(&mut text, "cell", cell);
+                }
+            }
+            Part::Call(call) => writeln!(text, "{}", call_text(&call, monitor)).expect("a string takes it"),
+            Part::Rest(bytes) => line(&mut text, "bytes", &bytes.into_iter().map(u32::from).collect::<Vec<u32>>()),
+        }
+    }
+    text
+}
+
+fn call_text(call: &Call, monitor: &impl Monitor) -> String {
+    let Request { caller, code, a, b, c } = call.request;
+    let name = monitor.name(code).unwrap_or_else(|| code.to_string());
+    let mut arguments = vec![a, b, c];
+    while arguments.last() == Some(&0) {
+        arguments.pop();
+    }
+    let mut text = format!("{caller} {name}");
+    for word in arguments {
+        text += &format!(" {}", argument(word));
+    }
+    let hex = |bytes: &[u8]| bytes.iter().map(|byte| format!("{byte:02x}")).collect::<String>();
+    match call.buffer[..] {
+        [] => {}
+        [first, ..] if call.buffer.iter().all(|&byte| byte == first) => match first {
+            0 => text += &format!(" : {}", call.buffer.len()),
+            _ => text += &format!(" : fill {} {first:02x}", call.buffer.len()),
+        },
+        _ => text += &format!(" : hex {}", hex(&call.buffer)),
+    }
+    match monitor.words(&call.request) {
+        Some(words) => format!("{text:<40} # {words}"),
+        None => text,
+    }
+}
+
+/// A number, or a seid as scripts spell it: f0.1 is file 0 of serial 1.
+pub fn argument(word: u32) -> String {
+    let seid = Seid::of(word);
+    let letter = match Kind::of_class(seid.class) {
+        Some(Kind::Process) => 'p',
+        Some(Kind::Segment) => 's',
+        Some(Kind::File) => 'f',
+        None => return word.to_string(),
+    };
+    format!("{letter}{}.{}", seid.index, seid.serial)
 }
