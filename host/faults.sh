@@ -1,46 +1,60 @@
 #!/usr/bin/env bash
-# Tries the tests themselves: a sound stand-in for the proved library must pass them, and each stand-in with a fault put in
+# Tries the trials themselves: a sound stand-in for the proved library must pass them, and each stand-in with a fault put in
 # (faults/*.edit) must fail those that its edit names. It needs no proved library and says nothing about one.
 #
-#   faults.sh [NAME..]
+#   faults.sh [NAME..]       all faults, or those named
+#   faults.sh --drawn N      N of them: others for each commit, the same ones for the same commit
 set -uo pipefail
 cd "$(dirname "$0")"
 work=target/stand-in
-export CARGO_TARGET_DIR=$PWD/target/faults TRIAL_CALLS=${TRIAL_CALLS:-400000} TRIAL_RUNS=${TRIAL_RUNS:-3000} TRIAL_SCRIPTS=${TRIAL_SCRIPTS:-800}
+export OPT_LEVEL=1 TRIAL_CALLS=${TRIAL_CALLS:-400000} TRIAL_RUNS=${TRIAL_RUNS:-3000} TRIAL_SCRIPTS=${TRIAL_SCRIPTS:-800}
 
-./stand-in.sh "$work/sound" || exit 2
-export MONITOR_LIB_DIR=$PWD/$work/sound
-tests=(differential secrecy replay)
-declare -A program
-while read -r name path; do
-    program[$name]=$path
-done < <(cargo test --release --offline --locked --no-run 2>&1 | sed -n 's/.*tests\/\([a-z]*\)\.rs (\(.*\))/\1 \2/p')
+cargo build --release --offline --locked --quiet --package trial --example try_library || exit 2
+program=${CARGO_TARGET_DIR:-target}/release/examples/try_library
 
-try() { # STAND-IN TEST: whether the test passes
-    LD_LIBRARY_PATH=$PWD/$work/$1 MONITOR_REPLAY=$PWD/$work/$1/replay "${program[$2]}" >"$work/$1/$2.log" 2>&1
+try() { # STAND-IN TRIAL: the trial's status
+    "$program" "$work/$1" "$2" >"$work/$1/$2.log" 2>&1
 }
 
-failed=0
-for test in "${tests[@]}"; do
-    try sound "$test" || { echo "the sound stand-in fails $test: see host/$work/sound/$test.log"; failed=1; }
-done
-[ $failed = 0 ] || exit 1
-echo "the sound stand-in passes ${tests[*]}"
+drawn() { # N NAME..: so many of the names, by the commit
+    local many=$1 seed
+    shift
+    seed=$(git rev-parse HEAD 2>/dev/null || cat plain/src/*.rs | cksum)
+    for name in "$@"; do
+        echo "$(printf '%s' "$seed $name" | cksum | cut -d ' ' -f 1) $name"
+    done | sort -n | head -n "$many" | cut -d ' ' -f 2
+}
 
+all=($(basename -s .edit faults/*.edit))
 names=("$@")
-[ $# -gt 0 ] || names=($(basename -s .edit faults/*.edit))
+[ $# -gt 0 ] || names=("${all[@]}")
+[ "${1:-}" != --drawn ] || names=($(drawn "$2" "${all[@]}" | sort))
+
+./stand-in.sh "$work/sound" || exit 2
+failed=0
+for trial in differential secrecy replay; do
+    TRIAL_CALLS=20000 TRIAL_RUNS=300 TRIAL_SCRIPTS=100 try sound "$trial"
+    [ $? = 0 ] || { echo "the sound stand-in fails $trial: see host/$work/sound/$trial.log"; exit 1; }
+done
+
 for name in "${names[@]}"; do
-    ./stand-in.sh "$work/$name" "faults/$name.edit" || { failed=1; continue; }
-    caught=() missed=()
-    for test in $(sed -n 's/^caught-by: //p' "faults/$name.edit"); do
-        if try "$name" "$test"; then missed+=("$test"); else caught+=("$test"); fi
+    trials=($(sed -n 's/^caught-by: //p' "faults/$name.edit"))
+    parts=library
+    [[ " ${trials[*]} " != *" replay "* ]] || parts="library replay"
+    [ "${trials[*]}" != replay ] || parts=replay
+    PARTS=$parts ./stand-in.sh "$work/$name" "faults/$name.edit" || { failed=1; continue; }
+    missed=()
+    for trial in "${trials[@]}"; do
+        try "$name" "$trial"
+        [ $? = 101 ] || missed+=("$trial")
     done
     if [ ${#missed[@]} -gt 0 ]; then
-        echo "$name: NOT CAUGHT by ${missed[*]}"
+        echo "$name: NOT CAUGHT by ${missed[*]}: see host/$work/$name"
         failed=1
     else
-        echo "$name: caught by ${caught[*]}"
+        echo "$name: caught by ${trials[*]}"
         rm -rf "${work:?}/$name"
     fi
 done
+[ $failed = 0 ] && echo "host: each of ${#names[@]} faults of ${#all[@]} is caught"
 exit $failed

@@ -1,7 +1,8 @@
 #!/usr/bin/env bash
-# The host's tests: the safe wrapper, the header, the C program and the examples over the proved library, the plain monitor by itself,
-# and the two against each other. They read target/staticlib/libmonitor.a and target/bin/replay of the repository, which
-# `rt staticlib monitor` and `rt check replay` write, whatever the environment says.
+# The host's tests: the safe wrapper, the header, the C program and the examples over the proved library, the plain monitor by itself, and
+# the two against each other; and whether the trials find faults, some of which are drawn (faults.sh tries all). They read
+# target/staticlib/libmonitor.a and target/bin/replay of the repository, which `rt staticlib monitor` and `rt check replay` write,
+# whatever the environment says.
 #
 #   test.sh [FOLDER]     with FOLDER, its library and its replay are tested instead: a stand-in's, say
 set -euo pipefail
@@ -14,4 +15,5 @@ fi
 cargo test --release --offline --locked
 cargo run --release --offline --locked --quiet --example night_log | diff - examples/night_log.txt
 RUSTDOCFLAGS="-D warnings" cargo doc --offline --locked --quiet --no-deps --package monitor
+./faults.sh --drawn 15
 echo "host: all tests passed"

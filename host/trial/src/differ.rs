@@ -23,6 +23,17 @@ impl<'a, M: Monitor> Differ<'a, M> {
         Differ { monitor, rng, tally: Tally::default(), calls: 0 }
     }
 
+    /// All trials, with so many calls or some more. Runs come first: half of them start at set-up, and a difference there makes the
+    /// best report.
+    pub fn everything(&mut self, calls: u64) {
+        self.setups(2_000);
+        self.long_runs(calls / 4, 1_000);
+        self.damaged(30);
+        self.every_length();
+        self.single_calls(calls / 2);
+        self.long_runs(calls / 4, 20_000);
+    }
+
     /// Single calls, each on a random well-formed table as it was drawn; a table serves for some hundred of them.
     pub fn single_calls(&mut self, at_least: u64) {
         let end = self.calls + at_least;

@@ -4,6 +4,7 @@
 pub mod calls;
 pub mod damage;
 pub mod differ;
+pub mod listings;
 pub mod rng;
 pub mod scripts;
 pub mod secrecy;

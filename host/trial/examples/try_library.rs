@@ -1,0 +1,121 @@
+//! Tries a library and a replay program that stand in a folder, as stand-in.sh leaves them, by the trials that the tests make on the
+//! proved ones. It serves to try the trials themselves: faults.sh plants faults and expects them to be found.
+//!
+//!   try_library FOLDER (differential | secrecy | replay)
+//!
+//! It ends with 0 if the trial found nothing, with 101 if it did, and with 2 if there is nothing to try.
+
+use std::env;
+use std::ffi::{CString, c_char, c_int, c_void};
+use std::path::{Path, PathBuf};
+use std::process::exit;
+use trial::differ::Differ;
+use trial::listings::Program;
+use trial::{Monitor, Plain, Rng, secrecy, setting, tables};
+
+unsafe extern "C" {
+    fn dlopen(path: *const c_char, flags: c_int) -> *mut c_void;
+    fn dlsym(library: *mut c_void, name: *const c_char) -> *mut c_void;
+}
+
+const RTLD_NOW: c_int = 2;
+
+#[repr(C)]
+struct Answer {
+    error: u32,
+    first: u32,
+    second: u32,
+}
+
+type Setup = unsafe extern "C" fn(*mut u32, usize, usize) -> u32;
+type Check = unsafe extern "C" fn(*const u32, usize, usize) -> u32;
+#[rustfmt::skip]
+type Call = unsafe extern "C" fn(*mut u32, usize, *mut u8, usize, u32, u32, u32, u32, u32, *mut u8, usize) -> Answer;
+
+/// The functions of monitor.h, as loaded.
+struct Library {
+    setup: Setup,
+    check: Check,
+    call: Call,
+}
+
+impl Library {
+    fn load(path: &Path) -> Library {
+        let name = |text: &str| CString::new(text).expect("no zero byte");
+        // SAFETY: the path ends in a zero byte; the library is one that stand-in.sh made.
+        let library = unsafe { dlopen(name(path.to_str().expect("a plain path")).as_ptr(), RTLD_NOW) };
+        let find = |function: &str| {
+            // SAFETY: the name ends in a zero byte; a library that was not loaded is not asked.
+            let found = if library.is_null() { library } else { unsafe { dlsym(library, name(function).as_ptr()) } };
+            if found.is_null() {
+                nothing_to_try(&format!("no {function} in {}", path.display()));
+            }
+            found
+        };
+        let (setup, check, call) = (find("monitor_setup"), find("monitor_check"), find("monitor_call"));
+        // SAFETY: the functions have the types of monitor.h.
+        unsafe {
+            Library {
+                setup: std::mem::transmute::<*mut c_void, Setup>(setup),
+                check: std::mem::transmute::<*mut c_void, Check>(check),
+                call: std::mem::transmute::<*mut c_void, Call>(call),
+            }
+        }
+    }
+}
+
+impl Monitor for Library {
+    fn setup(&self, table: &mut [u32], store_bytes: usize) -> u32 {
+        // SAFETY: here and below, pointers and lengths are those of slices that are lent to this call alone.
+        unsafe { (self.setup)(table.as_mut_ptr(), table.len(), store_bytes) }
+    }
+
+    fn check(&self, table: &[u32], store_bytes: usize) -> u32 {
+        // SAFETY: as above.
+        unsafe { (self.check)(table.as_ptr(), table.len(), store_bytes) }
+    }
+
+    fn call(&self, table: &mut [u32], store: &mut [u8], request: &plain::Request, buffer: &mut [u8]) -> [u32; 3] {
+        let &plain::Request { caller, code, a, b, c } = request;
+        let (words, bytes, length) = (table.len(), store.len(), buffer.len());
+        let (table, store, buffer) = (table.as_mut_ptr(), store.as_mut_ptr(), buffer.as_mut_ptr());
+        // SAFETY: as above.
+        let Answer { error, first, second } =
+            unsafe { (self.call)(table, words, store, bytes, caller, code, a, b, c, buffer, length) };
+        [error, first, second]
+    }
+}
+
+fn nothing_to_try(why: &str) -> ! {
+    eprintln!("{why}");
+    exit(2);
+}
+
+fn main() {
+    let words: Vec<String> = env::args().skip(1).collect();
+    let [folder, trial] = &words[..] else {
+        nothing_to_try("try_library FOLDER (differential | secrecy | replay)");
+    };
+    let folder = PathBuf::from(folder);
+    let library = || Library::load(&folder.join("libmonitor.so"));
+    let mut rng = Rng::for_trial(trial, 18);
+    match &**trial {
+        "differential" => Differ::new(&library(), rng).everything(setting("TRIAL_CALLS", 1_000_000)),
+        "secrecy" => {
+            let (library, mut met) = (library(), secrecy::Met::default());
+            for _ in 0..setting("TRIAL_RUNS", 4_000) {
+                let limits = tables::limits(&mut rng);
+                secrecy::pair_of_runs(&library, &mut rng, limits, 40, &mut met);
+            }
+        }
+        "replay" => {
+            let program = folder.join("replay");
+            if !program.exists() {
+                nothing_to_try(&format!("no {}", program.display()));
+            }
+            let program = Program { program, folder, names: &Plain };
+            program.listings_agree(&mut rng, setting("TRIAL_SCRIPTS", 1_500));
+        }
+        _ => nothing_to_try(&format!("no such trial: {trial}")),
+    }
+}
