@@ -59,3 +59,8 @@ pub use raw::{Answer, call, setup, well_formed};
 pub use rights::{Access, Bits, Modes};
 pub use seid::{Kind, Seid};
 pub use told::{Message, Status};
+
+/// The page that a host developer reads first; its Rust program is tried as those above are.
+#[cfg(doctest)]
+#[doc = include_str!("../README.md")]
+struct Readme;

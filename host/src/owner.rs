@@ -59,7 +59,7 @@ pub struct Designator(pub u32);
 ///
 /// # Memory
 ///
-/// Set-up allocates the table and the store; no call allocates. What a call does takes a bounded stack and ends.
+/// Set-up allocates the table and the store; no call allocates.
 #[derive(Clone, PartialEq, Eq)]
 pub struct Monitor {
     table: Box<[u32]>,
