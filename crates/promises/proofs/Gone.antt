@@ -2,41 +2,24 @@
 -- into its slot since (`gone-for-good`); and no call that is given it, by itself or by an entry that holds it, reaches what is in that slot (`never-reached`).
 -- Every seid that named an object once, and every seid that an entry holds, is of such a serial (`named-once`, `held-once`).
 use mathlib.Core.Path.{_≡_, refl, sym, ap, _∙_}
-use mathlib.Core.Bool.{true, false, cond, _&&_, not}
+use mathlib.Core.Bool.{true, false}
 use mathlib.Core.List.{List, [], _∷_}
-use Prim.Native.Nat.{ℕ, zero, suc, _+_, _-_, _*_, _≤_, _<_}
+use Prim.Native.Nat.{ℕ, _≤_, _<_}
 use native.Mathlib.Omega.{arith}
 use native.Mathlib.Decide.{ℕ-discrete}
-use lib.Dec.{ltb, eqb}
 use lib.ListN.{length}
-use Rattle.rules.specs.Words.{tabFrom}
-use Rattle.rules.specs.Layout.{Kind, process, segment, file, recordWords, slots, configuration, Addr, at, rd, live, serial, entries, heldAt, usedAt, queue, messages, messageWords, messagesAt, messageAt, bits, size, links, opens, holders}
-use Rattle.rules.specs.Seid.{class, indexOf, serialOf, formed, seidAt, orSelf, present}
+use Rattle.rules.specs.Layout.{Kind, process, segment, file, recordWords, slots, configuration, Addr, at, rd, live, serial, entries, heldAt, bits, size, links, holders}
+use Rattle.rules.specs.Seid.{class, indexOf, serialOf, formed, present}
 use Rattle.rules.specs.Errors.{XOK}
-use Rattle.rules.specs.Rule.{Word, _≔_, Rule, sameAddr, over}
-use Rattle.rules.specs.Find.{inOwnCell, entered, oneMore, freed, zeros, kept as stays, oneLess, givenUp}
-use Rattle.rules.specs.Call02.{dropped, droppedTo, released, releaseProcess}
-use Rattle.rules.specs.Call04.{rendezvous}
-use Rattle.rules.specs.Call05.{releaseSegment}
-use Rattle.rules.specs.Call06.{setAccess}
-use Rattle.rules.specs.Call08.{openFile}
-use Rattle.rules.specs.Call09.{close}
-use Rattle.rules.specs.Call10.{link}
-use Rattle.rules.specs.Call11.{unlinked, unlink}
-use Rattle.rules.specs.Call13.{readBlock}
-use Rattle.rules.specs.Call14.{writeBlock}
-use Rattle.rules.specs.Call15.{queued, post}
-use Rattle.rules.specs.Call16.{movedUp, receive}
-use Rattle.rules.specs.Call18.{accessOf}
+use Rattle.rules.specs.Rule.{Word, over}
+use Rattle.rules.specs.Call15.{post}
 use Rattle.rules.specs.Step.{State, Call, step, next, run, ruleOf}
-use Rattle.laws.proofs.Tests.{passed, both-ways, split, refuted, cond-true, cond-false}
+use Rattle.laws.proofs.Tests.{passed, both-ways, split, refuted}
 use Rattle.laws.proofs.Seids.{class-some, class-pos, class-inj, is-formed, is-present, present-is}
-use Rattle.laws.proofs.Places.{same-addr}
 use Rattle.laws.proofs.Shape.{good-of}
-use Rattle.laws.proofs.Written.{AllOf, nil, also, all-append, all-if}
+use Rattle.laws.proofs.Written.{AllOf, all-map, over-either}
 use Rattle.laws.proofs.Object.{Object}
 use Rattle.laws.proofs.Refusals.{Clear}
-use Rattle.laws.proofs.Codes.{by-code, by-bits, by-status}
 use Rattle.kept.proofs.Fine.{fine-of}
 use Rattle.kept.proofs.Records.{by-record, words-some}
 use Rattle.kept.proofs.Keeps.{Caller}
@@ -44,6 +27,7 @@ use Rattle.kept.proofs.Kept.{Well, kept, conf-kept, serials-kept, run-kept, run
 use Rattle.promises.proofs.Refusals.{Untouched, own, own-clear, refused}
 use Rattle.promises.proofs.After.{its-caller, read-after}
 use Rattle.promises.proofs.Stale.{takesSeid, for-itself, given, usesEntry, entryHolds, givesUpEntry, stale-seid, stale-post, stale-entry, stale-given-up, GivenUp}
+use Rattle.promises.proofs.Writes.{EntryWord, MailWord, Makes, Wrote, made, filled, emptied, counted, freed-word, cleared, linked, sized, set-bits, posted, received, writes}
 use Rattle.promises.proofs.Single.{creates, by-rule}
 
 -- ---- writes that bring nothing to life
@@ -51,120 +35,51 @@ use Rattle.promises.proofs.Single.{creates, by-rule}
 abbrev Lifeless : Word → Type 0
 Lifeless x = x .at .word ≡ live → x .value ≡ 0
 
+-- such writes leave no slot live that was not
 unborn : {ws : List Word} → AllOf Lifeless ws → (r : Addr → ℕ) (j : Kind) (i : ℕ) → over r ws (at j i live) ≡ 1 → r (at j i live) ≡ 1
-unfolding over
-unborn nil r j i e = e
-unborn (also {x = x} p ps) r j i e =
-    let a : Addr = at j i live in
-    let y = unborn ps (λ b. cond (sameAddr b (x .at)) (x .value) (r b)) j i e in
-    split _ (sameAddr a (x .at))
-    (λ t. absurd (omega (arith, cond-true (sameAddr a (x .at)) (x .value) (r a) t, p (sym (ap (λ (b : Addr). b .word) (same-addr a (x .at) t))))))
-    (λ f. sym (cond-false (sameAddr a (x .at)) (x .value) (r a) f) ∙ y)
+unborn all r j i =
+    over-either (at j i live) (λ v. v ≡ 1 → r (at j i live) ≡ 1)
+    (all-map (λ x p e f. absurd (omega (arith, f, p (sym (ap (λ (b : Addr). b .word) e))))) all) r (λ e. e)
 
--- a word past the first two, zeros, an entry
-past : (k : Kind) (i j v : ℕ) {ws : List Word} → live < j → AllOf Lifeless ws → AllOf Lifeless ((at k i j ≔ v) ∷ ws)
-past k i j v l a = also (λ e. let f : j ≡ live = e in absurd (omega arith)) a
+-- the words that a call writes to what lives stand past the first
+entry-past : (j : Kind) (n : ℕ) → EntryWord j n → n ≡ live → ⊥
+entry-past process n w e = w
+entry-past segment n w e = omega (arith, w .0, e)
+entry-past file n w e = omega (arith, w .0, e)
 
-tab-past : (k : Kind) (i : ℕ) (f : ℕ → ℕ) (j n : ℕ) → live < j → AllOf Lifeless (tabFrom j n (λ w. at k i w ≔ f w))
-unfolding tabFrom
-tab-past k i f j zero l = nil
-tab-past k i f j (suc n) l = past k i j (f j) l (tab-past k i f (suc j) n (omega arith))
+mail-past : (n : ℕ) → MailWord n → n ≡ live → ⊥
+mail-past n w e = omega (arith, w (λ q. omega (arith, q, e)) .0, e)
 
-of-freed : (k : Kind) (i : ℕ) → AllOf Lifeless (freed k i)
-unfolding zeros
-of-freed k i = also (λ e. refl) (tab-past k i (λ w. 0) 2 (recordWords k - 2) (omega arith))
+holders-past : (j : Kind) → holders j ≡ live → ⊥
+holders-past process e = omega (arith, e)
+holders-past segment e = omega (arith, e)
+holders-past file e = omega (arith, e)
 
-entry-past : (k : Kind) (d : ℕ) → (live < heldAt k d) × (live < usedAt k d)
-entry-past process d = (omega arith, omega arith)
-entry-past segment d = (omega arith, omega arith)
-entry-past file d = (omega arith, omega arith)
+bits-past : (j : Kind) → bits j ≡ live → ⊥
+bits-past process e = omega (arith, e)
+bits-past segment e = omega (arith, e)
+bits-past file e = omega (arith, e)
 
-holders-past : (k : Kind) → live < holders k
-holders-past process = omega arith
-holders-past segment = omega arith
-holders-past file = omega arith
-
-bits-past : (k : Kind) → live < bits k
-bits-past process = omega arith
-bits-past segment = omega arith
-bits-past file = omega arith
-
-of-entry : (k : Kind) (p d s u : ℕ) → AllOf Lifeless (entered k p d s u)
-of-entry k p d s u = let l = entry-past k d in past process p (heldAt k d) s (l .0) (past process p (usedAt k d) u (l .1) nil)
-
-module _ (h : List ℕ) (r : Addr → ℕ) where
-  of-more : (p : ℕ) (k : Kind) (s : ℕ) → AllOf Lifeless (oneMore h r p k s)
-  of-more p k s = all-if Lifeless (inOwnCell h p k s) _ _ (λ e. past k (indexOf s) (holders k) _ (holders-past k) nil) (λ e. nil)
-
-  of-less : (k : Kind) (i : ℕ) → AllOf Lifeless (oneLess r k i)
-  unfolding oneLess
-  of-less k i = all-if Lifeless (eqb (r (at k i (holders k))) 1 && not (stays r k i)) _ _ (λ e. of-freed k i) (λ e. past k i (holders k) _ (holders-past k) nil)
-
-  of-given-up : (k : Kind) (p d s : ℕ) → AllOf Lifeless (givenUp h r k p d s)
-  unfolding givenUp
-  of-given-up k p d s = all-append _ (of-entry k p d 0 0) (all-if Lifeless (inOwnCell h p k s) _ _ (λ e. of-less k (indexOf s)) (λ e. nil))
-
-  of-one : (k : Kind) (q d : ℕ) → AllOf Lifeless (dropped h r k q d)
-  unfolding dropped
-  of-one k q d = all-if Lifeless (eqb (r (at process q (heldAt k d))) 0) _ _ (λ e. nil) (λ e. of-given-up k q d (r (at process q (heldAt k d))))
-
-  of-unlinked : (i : ℕ) → AllOf Lifeless (unlinked r i)
-  unfolding unlinked
-  of-unlinked i = all-if Lifeless (eqb (r (at file i links)) 1 && eqb (r (at file i opens)) 0) _ _
-      (λ e. of-freed file i) (λ e. past file i links _ (omega arith) nil)
-
-  of-queued : (me q : ℕ) (buffer : List ℕ) (n : ℕ) → AllOf Lifeless (queued me q buffer n)
-  unfolding queued
-  of-queued me q buffer n =
-      past process q queue _ (omega arith) (past process q (messageAt n 0) _ (omega arith) (past process q (messageAt n 1) _ (omega arith)
-      (past process q (messageAt n 2) _ (omega arith) (past process q (messageAt n 3) _ (omega arith) nil))))
-
-  of-taken : (p n : ℕ) → AllOf Lifeless ((at process p queue ≔ n) ∷ movedUp r p)
-  unfolding movedUp zeros
-  of-taken p n = past process p queue n (omega arith)
-      (all-append _ (tab-past process p (λ w. r (at process p (w + messageWords))) messagesAt (messageWords * (messages - 1)) (omega arith))
-      (tab-past process p (λ w. 0) (messageAt (messages - 1) 0) messageWords (omega arith)))
-
-of-dropped : (h : List ℕ) (r : Addr → ℕ) (k : Kind) (q n : ℕ) → AllOf Lifeless (droppedTo h r k q n)
-unfolding droppedTo
-of-dropped h r k q zero = nil
-of-dropped h r k q (suc n) = all-append _ (of-dropped h r k q n) (of-one h (over r (droppedTo h r k q n)) k q n)
-
-of-released : (h : List ℕ) (r : Addr → ℕ) (q : ℕ) → AllOf Lifeless (released h r q)
-unfolding released
-of-released h r q = all-append _ (of-dropped h r file q entries)
-    (all-append _ (of-dropped h (over r (droppedTo h r file q entries)) segment q entries) (of-freed process q))
+makes-creates : (j : Kind) (n : ℕ) → Makes j n → creates n ≡ true
+makes-creates process n e = rw e
+makes-creates segment n e = rw e
+makes-creates file n e = rw e
 
 -- ---- a slot comes to life by a creating call alone, and then with a serial of its own
 
 module _ (h : List ℕ) (r : Addr → ℕ) (st : List ℕ) (k : Call) where
-  lifeless : creates (k .code) ≡ false → AllOf Lifeless (ruleOf h r st k .effects .words)
-  unfolding releaseProcess rendezvous releaseSegment setAccess openFile close link unlink readBlock writeBlock post receive accessOf
-  lifeless n =
-      let P : Rule → Type 0 = λ x. AllOf Lifeless (x .effects .words) in
-      let given : ℕ = orSelf r (k .caller) (k .a) in
-      by-code h k (λ f. P (f r st)) (record {
-        call-1 = λ e. both-ways (creates (k .code)) (rw e) n;
-        call-2 = λ e. of-released h r (indexOf given);
-        call-3 = λ e. both-ways (creates (k .code)) (rw e) n;
-        call-4 = λ e. all-append _ (of-entry segment (k .caller) _ _ _) (of-more h r (k .caller) segment given);
-        call-5 = λ e. of-given-up h r segment (k .caller) (k .a) _;
-        call-6 = λ e. past process (k .caller) (usedAt segment (k .a)) _ (omega arith) nil;
-        call-7 = λ e. both-ways (creates (k .code)) (rw e) n;
-        call-8 = λ e. all-append _ (of-entry file (k .caller) _ _ _) (of-more h r (k .caller) file given);
-        call-9 = λ e. of-given-up h r file (k .caller) (k .a) _;
-        call-10 = λ e. past file (indexOf given) links _ (omega arith) nil;
-        call-11 = λ e. of-unlinked h r (indexOf given);
-        call-12 = λ e. by-bits h r k P (λ v j o. past j (indexOf v) (bits j) _ (bits-past j) nil);
-        call-13 = λ e. nil;
-        call-14 = λ e. past file _ size _ (omega arith) nil;
-        call-15 = λ e. all-if Lifeless (present r process given && ltb (r (at process (indexOf given) queue)) messages) _ _
-            (λ y. of-queued h r (seidAt r process (k .caller)) (indexOf given) (k .buffer) _) (λ y. nil);
-        call-16 = λ e. of-taken h r (k .caller) _;
-        call-17 = λ e. by-status h r k P (λ v j. nil);
-        call-18 = λ e. nil;
-        other = nil;
-      })
+  lifeless : creates (k .code) ≡ false → (x : Word) → Wrote h r k x → Lifeless x
+  lifeless f x (made {j} m l room s) e = both-ways (creates (k .code)) (makes-creates j (k .code) m) f
+  lifeless f x (filled j {n} y w) e = absurd (entry-past j n w e)
+  lifeless f x (emptied j y w) e = refl
+  lifeless f x (counted {j} o) e = absurd (holders-past j e)
+  lifeless f x (freed-word o y) e = refl
+  lifeless f x (cleared c y) e = refl
+  lifeless f x linked e = let z : links ≡ live = e in absurd (omega arith)
+  lifeless f x sized e = let z : size ≡ live = e in absurd (omega arith)
+  lifeless f x (set-bits {j} c o) e = absurd (bits-past j e)
+  lifeless f x (posted {n} c w) e = absurd (mail-past n w e)
+  lifeless f x (received {n} c w) e = absurd (mail-past n w e)
 
   -- where a slot lives after a call, with the serial that it had, it lived before
   lasted : Caller h r (k .caller) → Clear (ruleOf h r st k .refusals) → (j : Kind) (i : ℕ) → let q : Addr → ℕ = over r (ruleOf h r st k .effects .words) in
@@ -174,7 +89,7 @@ module _ (h : List ℕ) (r : Addr → ℕ) (st : List ℕ) (k : Call) where
       let q : Addr → ℕ = over r (ruleOf h r st k .effects .words) in
       by-record (λ j i. q (at j i live) ≡ 1 → q (at j i serial) ≡ r (at j i serial) → r (at j i live) ≡ 1)
       (x .kind) (x .slot) (λ e f. absurd (omega (arith, x .left))) (λ j i n e f. sym (x .beside j i n) ∙ e) j i)
-      (λ f e g. unborn (lifeless f) r j i e)
+      (λ f e g. unborn (all-map (lifeless f) (writes h r st k me ok)) r j i e)
 
 -- so of one call
 module _ (s : State) (k : Call) (w : Well s) (j : Kind) (i : ℕ) (l : i < slots (configuration (s .table)) j) where

@@ -76,7 +76,7 @@ module _ (h : List ℕ) (r : Addr → ℕ) (st : List ℕ) (k : Call) (p : ℕ) 
   module _ (unreleased : k .code ≡ 2 → indexOf given ≡ p → ⊥) (unreceived : k .code ≡ 16 → caller ≡ p → ⊥) where
     -- (the slot that spawn takes is not live)
     sparing : (k .code ≡ 15 → indexOf given ≡ p → ⊥) → (x : Word) → Wrote h r k x → Spares p x
-    sparing unposted x (made {j} {c} l room s) e f = absurd (omega (arith, slot-untaken h r j c room .is-free, lived j _ e f))
+    sparing unposted x (made {j} {c} m l room s) e f = absurd (omega (arith, slot-untaken h r j c room .is-free, lived j _ e f))
       where
         lived : (j : Kind) (i : ℕ) → j ≡ process → i ≡ p → r (at j i live) ≡ 1
         lived j i e f = rw (e, f) lives

@@ -57,9 +57,15 @@ Fills process n = ⊥
 Fills segment n = Unit {0}
 Fills file n = (n ≡ 7 → ⊥) → n ≡ 8
 
+-- the call that makes an object of a kind
+abbrev pub Makes : Kind → ℕ → Type 0
+Makes process n = n ≡ 1
+Makes segment n = n ≡ 3
+Makes file n = n ≡ 7
+
 pub data Wrote (h : List ℕ) (r : Addr → ℕ) (k : Call) : Word → Type 0 where
   -- a word of a record made in a free slot of a cell: its serial is one more
-  made : {j : Kind} {c n v : ℕ} → c < cells h → noSlot h r j c ≡ false → (n ≡ serial → v ≡ r (at j (freeSlot h r j c) serial) + 1)
+  made : {j : Kind} {c n v : ℕ} → Makes j (k .code) → c < cells h → noSlot h r j c ≡ false → (n ≡ serial → v ≡ r (at j (freeSlot h r j c) serial) + 1)
       → Wrote h r k (at j (freeSlot h r j c) n ≔ v)
   -- an entry of the caller's filled, or used otherwise; an entry given up
   filled : (j : Kind) {n v : ℕ} → Fills j (k .code) → EntryWord j n → Wrote h r k (at process (k .caller) n ≔ v)
@@ -144,27 +150,27 @@ module _ (h : List ℕ) (r : Addr → ℕ) (k : Call) where
     mine : cellOf h process (k .caller) < cells h
     mine = in-run h (me .shape) process (k .caller) (me .in-range) .0
 
-    new-word : (j : Kind) → noSlot h r j (cellOf h process (k .caller)) ≡ false → (n v : ℕ) → (n ≡ serial → ⊥)
+    new-word : (j : Kind) → Makes j (k .code) → noSlot h r j (cellOf h process (k .caller)) ≡ false → (n v : ℕ) → (n ≡ serial → ⊥)
         → Wrote h r k (at j (freeSlot h r j (cellOf h process (k .caller))) n ≔ v)
-    new-word j room n v x = made mine room (λ e. absurd (x e))
+    new-word j m room n v x = made m mine room (λ e. absurd (x e))
 
-    new-serial : (j : Kind) → noSlot h r j (cellOf h process (k .caller)) ≡ false
+    new-serial : (j : Kind) → Makes j (k .code) → noSlot h r j (cellOf h process (k .caller)) ≡ false
         → Wrote h r k (at j (freeSlot h r j (cellOf h process (k .caller))) serial ≔ r (at j (freeSlot h r j (cellOf h process (k .caller))) serial) + 1)
-    new-serial j room = made mine room (λ e. refl)
+    new-serial j m room = made m mine room (λ e. refl)
 
     -- the words of any list that begins with live and serial and goes on with others
-    of-spawned : Clear (spawn h r (k .caller) (k .a) (k .b) (k .buffer) .refusals) → Writes (spawn h r (k .caller) (k .a) (k .b) (k .buffer) .effects .words)
+    of-spawned : k .code ≡ 1 → Clear (spawn h r (k .caller) (k .a) (k .b) (k .buffer) .refusals) → Writes (spawn h r (k .caller) (k .a) (k .b) (k .buffer) .effects .words)
     unfolding spawn
-    of-spawned ok =
-        let w = new-word process (ok .1 .1 .0) in
-        also (w 0 _ (λ e. omega arith)) (also (new-serial process (ok .1 .1 .0)) (also (w 2 _ (λ e. omega arith)) (also (w 3 _ (λ e. omega arith)) (also (w 4 _ (λ e. omega arith)) nil))))
+    of-spawned e ok =
+        let w = new-word process e (ok .1 .1 .0) in
+        also (w 0 _ (λ e. omega arith)) (also (new-serial process e (ok .1 .1 .0)) (also (w 2 _ (λ e. omega arith)) (also (w 3 _ (λ e. omega arith)) (also (w 4 _ (λ e. omega arith)) nil))))
 
-    of-object : (j : Kind) → noSlot h r j (cellOf h process (k .caller)) ≡ false → (u g b x y : ℕ)
+    of-object : (j : Kind) → Makes j (k .code) → noSlot h r j (cellOf h process (k .caller)) ≡ false → (u g b x y : ℕ)
         → let i : ℕ = freeSlot h r j (cellOf h process (k .caller)) in
         Writes ((at j i 0 ≔ 1) ∷ (at j i 1 ≔ r (at j i serial) + 1) ∷ (at j i 2 ≔ u) ∷ (at j i 3 ≔ g) ∷ (at j i 4 ≔ b) ∷ (at j i 5 ≔ x) ∷ (at j i 6 ≔ y) ∷ (at j i 7 ≔ 1) ∷ [])
-    of-object j room u g b x y =
-        let w = new-word j room in
-        also (w 0 _ (λ e. omega arith)) (also (new-serial j room) (also (w 2 _ (λ e. omega arith)) (also (w 3 _ (λ e. omega arith)) (also (w 4 _ (λ e. omega arith))
+    of-object j m room u g b x y =
+        let w = new-word j m room in
+        also (w 0 _ (λ e. omega arith)) (also (new-serial j m room) (also (w 2 _ (λ e. omega arith)) (also (w 3 _ (λ e. omega arith)) (also (w 4 _ (λ e. omega arith))
         (also (w 5 _ (λ e. omega arith)) (also (w 6 _ (λ e. omega arith)) (also (w 7 _ (λ e. omega arith)) nil)))))))
 
     -- ---- mail
@@ -193,13 +199,13 @@ writes h r st k me =
     let p = k .caller in
     let P : Rule → Type 0 = λ x. Clear (x .refusals) → AllOf (Wrote h r k) (x .effects .words) in
     by-code h k (λ f. P (f r st)) (record {
-      call-1 = λ e. of-spawned h r k me;
+      call-1 = λ e. of-spawned h r k me e;
       call-2 = λ e ok. of-released h r k e;
-      call-3 = λ e ok. all-append _ (of-object h r k me segment (ok .1 .1 .1 .0) _ _ _ _ _) (of-filled h r k segment tt tt (freeEntry r segment p) _ _ (free-entry r segment p (ok .1 .1 .0) .in-record));
+      call-3 = λ e ok. all-append _ (of-object h r k me segment e (ok .1 .1 .1 .0) _ _ _ _ _) (of-filled h r k segment tt tt (freeEntry r segment p) _ _ (free-entry r segment p (ok .1 .1 .0) .in-record));
       call-4 = λ e ok. all-append _ (of-filled h r k segment tt tt (freeEntry r segment p) _ _ (free-entry r segment p (ok .1 .1 .1 .1 .1 .1 .1 .0) .in-record)) (of-more h r k r p segment tt _);
       call-5 = λ e ok. of-given-up h r k r segment tt p itself (k .a) _ (leb-false entries (k .a) (ok .0));
       call-6 = λ e ok. let l = leb-false entries (k .a) (ok .1 .0) in also (filled segment tt (omega arith, omega arith)) nil;
-      call-7 = λ e ok. all-append _ (of-object h r k me file (ok .1 .1 .1 .0) _ _ _ _ _) (of-filled h r k file tt (λ n. absurd (n e)) (freeEntry r file p) _ _ (free-entry r file p (ok .1 .1 .0) .in-record));
+      call-7 = λ e ok. all-append _ (of-object h r k me file e (ok .1 .1 .1 .0) _ _ _ _ _) (of-filled h r k file tt (λ n. absurd (n e)) (freeEntry r file p) _ _ (free-entry r file p (ok .1 .1 .0) .in-record));
       call-8 = λ e ok. all-append _ (of-filled h r k file tt (λ n. e) (freeEntry r file p) _ _ (free-entry r file p (ok .1 .1 .1 .1 .1 .1 .0) .in-record)) (of-more h r k r p file tt _);
       call-9 = λ e ok. of-given-up h r k r file tt p itself (k .a) _ (leb-false entries (k .a) (ok .0));
       call-10 = λ e ok. also linked nil;
