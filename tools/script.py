@@ -2,7 +2,7 @@
 """Makes the bytes of a replay script from a readable text.
 
   tools/script.py TEXT > SCRIPT     the script that the text stands for
-  tools/script.py --check           each crates/*/example.txt stands for the `stdin` beside it
+  tools/script.py --check           each example.txt under crates/replay stands for the `stdin` beside it
 
 A line of the text is one of these; what follows a # is not read.
 
@@ -97,7 +97,7 @@ def script(path):
 
 def check():
     wrong = 0
-    for path in sorted(glob.glob(os.path.join(ROOT, "crates/*/example.txt"))):
+    for path in sorted(glob.glob(os.path.join(ROOT, "crates/replay/**/example.txt"), recursive=True)):
         with open(os.path.join(os.path.dirname(path), "stdin"), "rb") as stdin:
             if stdin.read() != script(path):
                 print("not the script of its example.txt:", os.path.relpath(stdin.name, ROOT))

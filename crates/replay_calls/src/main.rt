@@ -1,4 +1,0 @@
-// Writes the listing of the script on standard input.
-fn main() {
-    player::replay();
-}
