@@ -62,9 +62,9 @@ struct Setup {
     answer: u32,
 }
 
-const MAX_BUFFER: usize = 512;
+pub const MAX_BUFFER: usize = 512;
 
-const MAX_REPLAY_BLOCKS: usize = 64;
+pub const MAX_REPLAY_BLOCKS: usize = 64;
 
 // Any line has room in this.
 const LINE_BYTES: usize = 1200;

@@ -1,0 +1,3 @@
+-- Laws of replay's loop.
+pub mod Ways
+pub mod Listed

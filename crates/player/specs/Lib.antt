@@ -1,0 +1,2 @@
+-- What the parts of replay's loop ensure.
+pub mod Went
