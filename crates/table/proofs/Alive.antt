@@ -1,23 +1,24 @@
 -- A live process: its parent, its designators, its messages.
-use mathlib.Core.Path.{_≡_, refl, sym, ap, _∙_}
+use mathlib.Core.Path.{_≡_, refl, sym, _∙_}
 use mathlib.Core.Bool.{Bool, true, false, _&&_, _||_, not}
 use mathlib.Core.List.{List}
 use Prim.Native.Nat.{ℕ, _≤_, _<_}
 use native.Mathlib.Omega.{arith}
 use borrow.Author.Tests.{eq-eqb, ne-eqb, lt-ltb, le-ltb, lt-leb, le-leb}
-use lib.Dec.{leb, eqb}
+use lib.Dec.{leb, ltb, eqb}
 use Rattle.rules.specs.Words.{allBelow}
-use Rattle.rules.specs.Claim.{test, is, each}
-use Rattle.rules.specs.Layout.{process, segment, file, slots, cellOf, configuration, Addr, at, rd, live, parent, queue, zero6, zero7, entries, heldAt, usedAt, messages, messageAt, messageWords}
-use Rattle.rules.specs.Seid.{class, indexOf, isSeid}
+use Rattle.rules.specs.Claim.{Claim, test, is, each}
+use Rattle.rules.specs.Layout.{Kind, process, segment, file, slots, cellOf, configuration, Addr, at, rd, live, parent, queue, zero6, zero7, entries, heldAt, usedAt, messages, messageAt, messageWords}
+use Rattle.rules.specs.Seid.{class, serialOf}
 use Rattle.rules.specs.WellFormed.{recordOk, heldOk, entryOk, parentOk, heldOnce, messageOk, processOk}
 use Rattle.laws.proofs.Below.{all-of}
 use Rattle.laws.proofs.Claims.{holds, tested}
 use Rattle.laws.proofs.Shape.{record-of}
-use Rattle.table.specs.declared.header.Header.{Header}
+use Rattle.layout.specs.declared.Header.{Header}
 use Rattle.table.specs.Shape.{RecordAt, Shaped}
-use Rattle.table.specs.Entries.{recordAt}
-use Rattle.table.proofs.Config.{and-false, and-true}
+use Rattle.table.specs.Entries.{recordAt, Indexed, fresh}
+use Rattle.table.proofs.Config.{and-true}
+use Rattle.table.proofs.Holders.{index-out, index-in}
 use Rattle.table.proofs.Record.{record-claim, dead-record}
 
 -- ---- its parent
@@ -27,26 +28,23 @@ module _ (h : List ℕ) (c s : ℕ) where
   unfolding parentOk
   parent-none e = rw (eq-eqb s 0 e)
 
-  pub parent-out : (s ≡ 0 → ⊥) → slots h process ≤ indexOf s → test (parentOk h c s) ≡ false
-  unfolding parentOk isSeid
-  parent-out n l = rw (ne-eqb s 0 n, le-ltb (indexOf s) (slots h process) l, and-false)
+  module _ (i : ℕ) (index : Indexed (class process) s i) (few : slots h process ≤ 256) (some : s ≡ 0 → ⊥) where
+    pub parent-out : slots h process ≤ i → test (parentOk h c s) ≡ false
+    unfolding parentOk
+    parent-out l = rw (ne-eqb s 0 some, index-out (class process) (slots h process) s i index few l)
 
-  pub parent-some : (s ≡ 0 → ⊥) → isSeid (class process) (slots h process) s && eqb (cellOf h process (indexOf s)) c ≡ test (parentOk h c s)
-  unfolding parentOk
-  parent-some n = rw (ne-eqb s 0 n)
+    pub parent-in : i < slots h process → ltb 0 (serialOf s) && eqb (cellOf h process i) c ≡ test (parentOk h c s)
+    unfolding parentOk
+    parent-in l = rw (ne-eqb s 0 some, index-in (class process) (slots h process) s i index few l, index .right (omega arith) .1)
 
--- ---- its designators: each word by its place in the record
-
--- designator d is not the one that e holds
-abbrev pub apart : (ℕ → ℕ) → ℕ → ℕ → Bool
-apart w e d = not (not (eqb (w (heldAt segment e)) 0)) || not (eqb (w (heldAt segment d)) (w (heldAt segment e)))
+-- ---- its designators, each by what it holds
 
 module _ (w : ℕ → ℕ) (e : ℕ) where
-  pub fresh-empty : w (heldAt segment e) ≡ 0 → true ≡ allBelow e (apart w e)
-  fresh-empty z = sym (all-of e (apart w e) (λ d l. rw (eq-eqb (w (heldAt segment e)) 0 z)))
+  pub fresh-empty : w e ≡ 0 → true ≡ fresh w e
+  fresh-empty z = sym (all-of e (λ d. not (not (eqb (w e) 0)) || not (eqb (w d) (w e))) (λ d l. rw (eq-eqb (w e) 0 z)))
 
-  pub fresh-next : (w (heldAt segment e) ≡ 0 → ⊥) → (d : ℕ) → not (eqb (w (heldAt segment d)) (w (heldAt segment e))) ≡ apart w e d
-  fresh-next n d = rw (ne-eqb (w (heldAt segment e)) 0 n)
+  pub fresh-next : (w e ≡ 0 → ⊥) → (d : ℕ) → not (eqb (w d) (w e)) ≡ not (not (eqb (w e) 0)) || not (eqb (w d) (w e))
+  fresh-next n d = rw (ne-eqb (w e) 0 n)
 
 -- ---- its messages
 
@@ -61,22 +59,29 @@ module _ (h : List ℕ) (r : Addr → ℕ) (p m : ℕ) where
 
 -- ---- the whole
 
+-- the entries of process p for objects of kind k
+abbrev pub entriesOk : List ℕ → (Addr → ℕ) → Kind → ℕ → Claim
+entriesOk h r k p = each entries (λ d. entryOk h r k (cellOf h process p) (r (at process p (heldAt k d))) (r (at process p (usedAt k d))))
+
+and-assoc : (a b c : Bool) → (a && b) && c ≡ a && (b && c)
+and-assoc true b c = refl
+and-assoc false b c = refl
+
 module _ (t : List ℕ) (n : Header) (shaped : Shaped t n) (p place : ℕ) (lies : RecordAt n process p place) where
   -- of a live process, from what each of its tests says
-  pub live-process : (b₀ b₁ b₂ b₃ b₄ b₅ b₆ b₇ : Bool)
+  pub live-process : (b₀ b₁ b₂ b₃ b₄ b₅ b₆ : Bool)
       → b₀ ≡ test (parentOk (configuration t) (cellOf (configuration t) process p) (rd (configuration t) t (at process p parent)))
       → b₁ ≡ leb (rd (configuration t) t (at process p queue)) messages
       → b₂ ≡ eqb (rd (configuration t) t (at process p zero6)) 0
       → b₃ ≡ eqb (rd (configuration t) t (at process p zero7)) 0
-      → b₄ ≡ allBelow entries (λ d. test (entryOk (configuration t) (rd (configuration t) t) file (cellOf (configuration t) process p) (rd (configuration t) t (at process p (heldAt file d))) (rd (configuration t) t (at process p (usedAt file d)))))
-      → b₅ ≡ allBelow entries (λ d. test (entryOk (configuration t) (rd (configuration t) t) segment (cellOf (configuration t) process p) (rd (configuration t) t (at process p (heldAt segment d))) (rd (configuration t) t (at process p (usedAt segment d)))))
-      → b₆ ≡ test (heldOnce (rd (configuration t) t) p)
-      → b₇ ≡ test (each messages (messageOk (configuration t) (rd (configuration t) t) p))
-      → test (recordOk (recordAt t place) process 0 (is (b₀ && (b₁ && (b₂ && (b₃ && (b₄ && (b₅ && (b₆ && b₇)))))))))
+      → b₄ ≡ test (entriesOk (configuration t) (rd (configuration t) t) file p)
+      → b₅ ≡ test (entriesOk (configuration t) (rd (configuration t) t) segment p) && test (heldOnce (rd (configuration t) t) p)
+      → b₆ ≡ test (each messages (messageOk (configuration t) (rd (configuration t) t) p))
+      → test (recordOk (recordAt t place) process 0 (is (b₀ && (b₁ && (b₂ && (b₃ && (b₄ && (b₅ && b₆))))))))
       ≡ test (processOk (configuration t) (rd (configuration t) t) p)
   unfolding processOk
-  live-process b₀ b₁ b₂ b₃ b₄ b₅ b₆ b₇ e₀ e₁ e₂ e₃ e₄ e₅ e₆ e₇ =
-      rw (e₀, e₁, e₂, e₃, e₄, e₅, e₆, e₇) (record-claim t n shaped process p place _ lies)
+  live-process b₀ b₁ b₂ b₃ b₄ b₅ b₆ e₀ e₁ e₂ e₃ e₄ e₅ e₆ =
+      rw (e₀, e₁, e₂, e₃, e₄, e₅, e₆, and-assoc) (record-claim t n shaped process p place _ lies)
 
   -- of any other, whatever is said of a live one
   pub dead-process : (rd (configuration t) t (at process p live) ≡ 1 → ⊥) → (b : Bool)
@@ -84,16 +89,16 @@ module _ (t : List ℕ) (n : Header) (shaped : Shaped t n) (p place : ℕ) (lies
   unfolding processOk
   dead-process free b = record-claim t n shaped process p place (is b) lies ∙ dead-record (rd (configuration t) t) process p (is b) _ free
 
--- the entries of a live process that is right are right
+-- what a live process that is right holds is right
 module _ (h : List ℕ) (r : Addr → ℕ) (p : ℕ) (alive : r (at process p live) ≡ 1) (right : test (processOk h r p) ≡ true) where
-  pub right-files : allBelow entries (λ d. test (entryOk h r file (cellOf h process p) (r (at process p (heldAt file d))) (r (at process p (usedAt file d))))) ≡ true
+  pub right-files : test (entriesOk h r file p) ≡ true
   unfolding processOk
-  right-files =
-      tested (each entries (λ d. entryOk h r file (cellOf h process p) (r (at process p (heldAt file d))) (r (at process p (usedAt file d)))))
-      (record-of r process p _ (holds (processOk h r p) right) .alive alive .1 .1 .1 .1 .0)
+  right-files = tested (entriesOk h r file p) (record-of r process p _ (holds (processOk h r p) right) .alive alive .1 .1 .1 .1 .0)
 
-  pub right-segments : allBelow entries (λ d. test (entryOk h r segment (cellOf h process p) (r (at process p (heldAt segment d))) (r (at process p (usedAt segment d))))) ≡ true
+  pub right-segments : test (entriesOk h r segment p) ≡ true
   unfolding processOk
-  right-segments =
-      tested (each entries (λ d. entryOk h r segment (cellOf h process p) (r (at process p (heldAt segment d))) (r (at process p (usedAt segment d)))))
-      (record-of r process p _ (holds (processOk h r p) right) .alive alive .1 .1 .1 .1 .1 .0)
+  right-segments = tested (entriesOk h r segment p) (record-of r process p _ (holds (processOk h r p) right) .alive alive .1 .1 .1 .1 .1 .0)
+
+  pub right-once : test (heldOnce r p) ≡ true
+  unfolding processOk
+  right-once = tested (heldOnce r p) (record-of r process p _ (holds (processOk h r p) right) .alive alive .1 .1 .1 .1 .1 .1 .0)

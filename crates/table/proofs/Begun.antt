@@ -19,8 +19,9 @@ use Rattle.laws.proofs.Cells.{first-next, run-end}
 use Rattle.laws.proofs.Places.{conf-cells}
 use Rattle.laws.proofs.Shape.{Shape, shape-of}
 use Rattle.laws.proofs.Written.{write-append, length-write, conf-write}
-use Rattle.table.specs.declared.header.Header.{Header}
-use Rattle.table.specs.Shape.{baseOf, Framed}
+use Rattle.layout.specs.declared.Header.{Header}
+use Rattle.layout.specs.Header.{baseOf}
+use Rattle.table.specs.Shape.{Framed}
 use Rattle.table.proofs.Config.{cell-word, cells-read, slots-read, base-read}
 
 -- ---- clearing

@@ -1,21 +1,20 @@
 -- The configuration's claims, read off the table's own words.
-use mathlib.Core.Path.{_≡_, refl, sym, ap, ap₂, _∙_}
-use mathlib.Core.Bool.{Bool, true, false, _&&_, not}
+use mathlib.Core.Path.{_≡_, refl, sym, ap, _∙_}
+use mathlib.Core.Bool.{Bool, true, false, _&&_}
 use mathlib.Core.List.{List}
 use Prim.Native.Nat.{ℕ, _+_, _*_, _≤_, _<_}
 use native.Mathlib.Omega.{arith}
-use lib.Dec.{leb, eqb}
 use lib.ListN.{length, getD}
 use borrow.Author.Tests.{ne-eqb}
 use Rattle.rules.specs.Claim.{test, _&_, each}
-use Rattle.rules.specs.Level.{equals}
-use Rattle.rules.specs.Layout.{maxCells, maxSlots, maxBlocks, maxCategory, maxOwner, blockBytes, headerWords, cellWords, Kind, process, segment, file, recordWords, cells, slots, blocks, cellWord, levelOf, configuration, base, tableWords, storeBytes}
+use Rattle.rules.specs.Layout.{maxSlots, headerWords, cellWords, Kind, process, segment, file, cells, slots, blocks, cellWord, configuration, base, tableWords}
 use Rattle.rules.specs.WellFormed.{headerOk, cellOk, levelsDistinct, sumsMatch, configured, lengthsExact}
 use Rattle.rules.specs.SetUp.{canSetUp}
 use Rattle.laws.proofs.Claims.{holds}
-use Rattle.laws.proofs.Places.{conf-word, conf-cells, conf-slots, conf-blocks}
-use Rattle.table.specs.declared.header.Header.{Header}
-use Rattle.table.specs.Shape.{IsHeader, slotsOf, baseOf, RecordAt, Small, Framed, Shaped}
+use Rattle.laws.proofs.Places.{conf-word}
+use Rattle.layout.specs.declared.Header.{Header}
+use Rattle.layout.specs.Header.{headerOf, slotsOf, baseOf, recordOf}
+use Rattle.table.specs.Shape.{IsHeader, RecordAt, Small, Framed}
 
 -- a word of the header
 pub head-word : (t : List ℕ) (i : ℕ) → i < headerWords → getD (configuration t) i 0 ≡ getD t i 0
@@ -25,6 +24,18 @@ head-word t i l = conf-word t i (omega arith)
 pub cell-word : (t : List ℕ) (c k : ℕ) → c < getD t 0 0 → k < cellWords → cellWord (configuration t) c k ≡ getD t (headerWords + cellWords * c + k) 0
 unfolding cellWord cells
 cell-word t c k l m = conf-word t (headerWords + cellWords * c + k) (omega arith)
+
+-- the header that layout reads has the table's words
+pub header-read : (t : List ℕ) (n : Header) → n ≡ headerOf t → IsHeader t n
+unfolding cells slots blocks
+header-read t n e =
+    record {
+      cells-is = ap (λ (x : Header). x .cells) e;
+      processes-is = ap (λ (x : Header). x .processes) e;
+      segments-is = ap (λ (x : Header). x .segments) e;
+      files-is = ap (λ (x : Header). x .files) e;
+      blocks-is = ap (λ (x : Header). x .blocks) e;
+    }
 
 -- the header's numbers are the configuration's
 module _ (t : List ℕ) (n : Header) (is : IsHeader t n) where
@@ -73,29 +84,11 @@ slots-small n s process = s .few-processes
 slots-small n s segment = s .few-segments
 slots-small n s file = s .few-files
 
-pub words-some : (k : Kind) → 8 ≤ recordWords k
-words-some process = omega arith
-words-some segment = omega arith
-words-some file = omega arith
-
-module _ (n : Header) (small : Small n) where
-  pub record-at : (k : Kind) (i : ℕ) → i < slotsOf n k → RecordAt n k i (baseOf n k + recordWords k * i)
-  record-at process i l = record { at-is = refl; whole = omega arith; within = omega arith }
-  record-at segment i l = record { at-is = refl; whole = omega arith; within = omega arith }
-  record-at file i l = record { at-is = refl; whole = omega arith; within = omega arith }
-
-  record-low : (k : Kind) (i : ℕ) → i < slotsOf n k → baseOf n k + recordWords k * i < 65536
-  record-low process i l = omega arith
-  record-low segment i l = omega arith
-  record-low file i l = omega arith
-
-  -- the same where the code has the base and the size from functions
-  module _ (k : Kind) (i base size : ℕ) (l : i < slotsOf n k) (b : base ≡ baseOf n k) (w : size ≡ recordWords k) where
-    pub record-fits : base + size * i < 65536
-    record-fits = rw (b, w) (record-low k i l)
-
-    pub record-is : RecordAt n k i (base + size * i)
-    record-is = rw (b, w) (record-at k i l)
+-- the record of a slot, where layout says
+pub record-is : (n : Header) (k : Kind) (i place : ℕ) → i < slotsOf n k → place ≡ recordOf n k i → RecordAt n k i place
+record-is n process i place l e = record { at-is = e; whole = omega arith; within = omega arith }
+record-is n segment i place l e = record { at-is = e; whole = omega arith; within = omega arith }
+record-is n file i place l e = record { at-is = e; whole = omega arith; within = omega arith }
 
 -- ---- set-up's claim, test by test
 

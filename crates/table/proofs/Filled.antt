@@ -1,16 +1,16 @@
 -- A list that is filled from the front with the cell of each slot, run by run.
 use mathlib.Core.Path.{_≡_, sym, ap, _∙_}
 use mathlib.Core.List.{List}
-use Prim.Native.Nat.{ℕ, suc, _+_, _*_, _≤_, _<_}
+use Prim.Native.Nat.{ℕ, _+_, _*_, _≤_, _<_}
 use native.Mathlib.Numerals.{add-one}
 use native.Mathlib.Omega.{arith}
 use borrow.Author.Count.{below-more}
 use lib.ListN.{length, getD, set}
 use lib.Seq.{getD-set-same, getD-set-other}
-use Rattle.rules.specs.Layout.{maxSlots, Kind, process, segment, file, cellWords, headerWords, cells, slots, cellWord, cellSlots, cellSlotsWord, firstSlot, cellOf, configuration}
+use Rattle.rules.specs.Layout.{maxSlots, Kind, cellWords, headerWords, cells, slots, cellWord, cellSlots, cellSlotsWord, firstSlot, cellOf, configuration}
 use Rattle.laws.proofs.Cells.{first-next, first-grows, cell-run}
-use Rattle.table.specs.declared.header.Header.{Header}
-use Rattle.table.specs.Shape.{slotsOf, Small, Shaped}
+use Rattle.layout.specs.declared.Header.{Header}
+use Rattle.table.specs.Shape.{Shaped}
 use Rattle.table.proofs.Config.{cell-word, slots-read, slots-small}
 
 -- l has the cell of each of the first i slots

@@ -1,28 +1,23 @@
 -- The whole claim: a shape that is wrong refutes it, and once the shape is right the records decide.
-use mathlib.Core.Path.{_≡_, refl, sym, ap, _∙_}
+use mathlib.Core.Path.{_≡_, refl}
 use mathlib.Core.Bool.{Bool, true, false, _&&_, cond}
 use mathlib.Core.List.{List}
-use Prim.Native.Nat.{ℕ, _≤_}
-use native.Mathlib.Omega.{arith}
+use Prim.Native.Nat.{ℕ}
 use lib.ListN.{length}
 use Rattle.rules.specs.Claim.{test, each}
-use Rattle.rules.specs.Layout.{headerWords, Kind, process, segment, file, slots, flowMatrix, configuration, Addr, rd, tableWords}
+use Rattle.rules.specs.Layout.{process, segment, file, slots, flowMatrix, configuration, Addr, rd}
 use Rattle.rules.specs.WellFormed.{headerOk, configured, lengthsExact, processOk, segmentOk, fileOk, recordsOk, wellFormed}
 use Rattle.rules.specs.SetUp.{canSetUp}
 use Rattle.laws.proofs.Tests.{and-left, and-right, and-both, cond-true}
 use Rattle.laws.proofs.Claims.{holds}
 use Rattle.laws.proofs.Shape.{shape-of}
-use Rattle.table.specs.declared.header.Header.{Header}
+use Rattle.layout.specs.declared.Header.{Header}
 use Rattle.table.specs.Shape.{IsHeader, Shaped}
 use Rattle.table.proofs.Config.{small-of, framed-of}
 
 -- ---- the shape
 
 module _ (t : List ℕ) (m : ℕ) (right : test (canSetUp t m) ≡ true) where
-  pub long-enough : headerWords ≤ length t
-  unfolding canSetUp lengthsExact
-  long-enough = omega (arith, holds (canSetUp t m) right .1 .0)
-
   pub shaped-of : (n : Header) → IsHeader t n → Shaped t n
   unfolding canSetUp configured
   shaped-of n is =

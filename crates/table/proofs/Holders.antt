@@ -1,26 +1,27 @@
--- What a process holds, as the code reads it: a record's words, a slot's cell, the flow matrix.
+-- What a process holds, as the code reads it: a record's words, a slot's cell, the flow matrix, an identifier's index.
 use mathlib.Core.Path.{_≡_, refl, sym, ap, fun-ext, _∙_}
-use mathlib.Core.Bool.{Bool, true, false, _&&_, _||_, not}
+use mathlib.Core.Bool.{Bool, true, false, cond, _&&_, _||_, not, true≢false}
 use mathlib.Core.List.{List}
-use Prim.Native.Nat.{ℕ, _+_, _*_, _≤_, _<_}
+use Prim.Native.Nat.{ℕ, _+_, _*_, _/_, _%_, _≤_, _<_}
 use native.Mathlib.Omega.{arith}
-use borrow.Author.Tests.{le-ltb, eq-eqb, ne-eqb, eqb-true, eqb-false}
-use lib.Dec.{ltb, eqb}
-use lib.ListN.{getD}
+use borrow.Author.Tests.{lt-ltb, ltb-true, ltb-false, eq-eqb, ne-eqb, eqb-true, eqb-false}
+use lib.Dec.{leb, ltb, eqb}
+use lib.ListN.{length, getD, set}
 use Rattle.rules.specs.Claim.{test}
-use Rattle.rules.specs.Layout.{maxCells, Kind, recordWords, cells, slots, cellOf, flows, flowMatrix, configuration, Addr, at, base, rd, live, serial}
+use Rattle.rules.specs.Layout.{maxCells, maxSlots, Kind, process, segment, file, recordWords, cells, slots, cellOf, flows, flowMatrix, configuration, Addr, at, rd, live, serial}
 use Rattle.rules.specs.Seid.{class, classOf, indexOf, serialOf, isSeid}
 use Rattle.rules.specs.WellFormed.{heldOk, currentOk, validUse, writeUse, entryOk}
-use Rattle.laws.proofs.Tests.{and-left, failed, split}
+use Rattle.laws.proofs.Tests.{and-left, and-right, and-both, refuted, split}
 use Rattle.laws.proofs.Seids.{is-formed, class-some, class-pos}
 use Rattle.laws.proofs.Tab.{getD-tab2}
 use Rattle.laws.proofs.Cells.{cell-bounds}
-use Rattle.table.specs.declared.header.Header.{Header}
-use Rattle.table.specs.declared.header.Objects.{Objects}
-use Rattle.table.specs.declared.held.Entry.the-variants.{Wrong, Other, Own}
-use Rattle.table.specs.Entries.{holdsOwn, names, entryIs}
-use Rattle.table.specs.Shape.{slotsOf, baseOf, objectsOf, RecordAt, Shaped, CellsOf, Lie}
-use Rattle.table.proofs.Config.{and-false, and-true, cells-read, slots-read, slots-small, base-read, words-some, record-at}
+use Rattle.layout.specs.declared.Header.{Header}
+use Rattle.layout.specs.Header.{slotsOf}
+use Rattle.table.specs.Shape.{RecordAt, Shaped}
+use Rattle.table.specs.Entries.{Indexed, heldWord, usedWord, unused, names, Counts}
+use Rattle.table.proofs.Config.{and-false, and-true, cells-read, slots-read, slots-small, base-read}
+use Rattle.table.proofs.Tally.{tally-add}
+use Rattle.table.proofs.Listed.{one-le}
 
 module _ (t : List ℕ) (n : Header) (shaped : Shaped t n) (k : Kind) where
   -- a word of a record
@@ -39,26 +40,9 @@ module _ (t : List ℕ) (n : Header) (shaped : Shaped t n) (k : Kind) where
       let m : i < slots (configuration t) k = omega arith in
       omega (arith, cell-bounds (configuration t) k i (rw (shaped .sums k) m) .0, cells-read t n (shaped .framed .header))
 
-  -- where the objects of a kind lie
-  pub lies : Lie t k (objectsOf n k)
-  lies =
-      let within : (i : ℕ) → i < slotsOf n k → RecordAt n k i (baseOf n k + recordWords k * i) = record-at n (shaped .framed .small) k in
-      record {
-        class-is = refl;
-        base-is = sym (base-read t n (shaped .framed .header) k);
-        words-are = refl;
-        slots-are = sym (slots-read t n (shaped .framed .header) k);
-        few = slots-small n (shaped .framed .small) k;
-        whole = words-some k;
-        within = λ i l. omega (arith, within i l .within, shaped .framed .exact);
-        low = omega arith;
-        cells-few = λ i l. omega (arith, cell-few i l);
-      }
-
-module _ (t : List ℕ) (k : Kind) (o : Objects) (lie : Lie t k o) where
-  pub place-word : (i j : ℕ) → getD t (o .base + o .words * i + j) 0 ≡ rd (configuration t) t (at k i j)
-  unfolding rd
-  place-word i j = rw (lie .base-is, lie .words-are)
+  -- no more slots than an index has numbers
+  pub slots-few : slots (configuration t) k ≤ 256
+  slots-few = omega (arith, slots-read t n (shaped .framed .header) k, slots-small n (shaped .framed .small) k)
 
 -- an entry of the flow matrix
 pub flow-at : (h : List ℕ) (flow : List (List Bool)) → flow ≡ flowMatrix h → (a b : ℕ) (d : List Bool) → a < maxCells → b < maxCells
@@ -66,14 +50,51 @@ pub flow-at : (h : List ℕ) (flow : List (List Bool)) → flow ≡ flowMatrix h
 unfolding flowMatrix
 flow-at h flow e a b d l m = rw e (getD-tab2 maxCells maxCells (flows h) a b d false l m)
 
--- an index out of range is no form
-pub held-out : (h : List ℕ) (r : Addr → ℕ) (k : Kind) (c s : ℕ) → slots h k ≤ indexOf s → test (heldOk h r k c s) ≡ false
-unfolding heldOk isSeid
-held-out h r k c s l = rw (le-ltb (indexOf s) (slots h k) l, and-false)
+-- ---- an identifier's index, by one subtraction
+
+pub class-low : (k : Kind) → class k < 256
+class-low process = omega arith
+class-low segment = omega arith
+class-low file = omega arith
+
+pub indexed : (c s x y r : ℕ) → c < 256 → s < 4294967296 → x ≡ c → (y + x * 256) % 4294967296 ≡ s / 65536 → y < 4294967296 → r ≡ y → Indexed c s r
+unfolding classOf indexOf
+indexed c s x y r hc hs ex e hy er =
+    let away : (r + c * 256) % 4294967296 ≡ s / 65536 = rw (er, ← ex) e in
+    let low : r < 4294967296 = rw er hy in
+    record { right = λ l. (omega arith, omega arith); wrong = λ l q. omega arith }
+
+-- where it is no slot's, the identifier has no form; where it is, its serial decides
+
+module _ (c n s i : ℕ) (index : Indexed c s i) (few : n ≤ 256) where
+  pub index-out : n ≤ i → isSeid c n s ≡ false
+  index-out l =
+      refuted (isSeid c n s) (λ e.
+      let f = is-formed c n s e in
+      split ⊥ (ltb i 256)
+      (λ q. omega (arith, f .index-in, index .right (ltb-true i 256 q) .1))
+      (λ q. index .wrong (ltb-false i 256 q) (f .class-is)))
+
+  pub index-in : i < n → isSeid c n s ≡ ltb 0 (serialOf s)
+  unfolding isSeid
+  index-in l =
+      let is = index .right (omega arith) in
+      rw (eq-eqb (classOf s) c (is .0), lt-ltb (indexOf s) n (omega (arith, is .1)))
 
 pub held-index : (h : List ℕ) (r : Addr → ℕ) (k : Kind) (c s : ℕ) → test (heldOk h r k c s) ≡ true → indexOf s < slots h k
 unfolding heldOk
 held-index h r k c s e = is-formed (class k) (slots h k) s (and-left _ _ e) .index-in
+
+pub held-out : (h : List ℕ) (r : Addr → ℕ) (k : Kind) (c s i : ℕ) → Indexed (class k) s i → slots h k ≤ 256 → slots h k ≤ i → test (heldOk h r k c s) ≡ false
+unfolding heldOk
+held-out h r k c s i index few l = rw (index-out (class k) (slots h k) s i index few l)
+
+-- the three tests of an identifier that names slot i, where serial-held and flow are read off the table
+pub held-in : (h : List ℕ) (r : Addr → ℕ) (k : Kind) (c s i : ℕ) → Indexed (class k) s i → slots h k ≤ 256 → i < slots h k
+    → ltb 0 (serialOf s) && (leb (serialOf s) (r (at k i serial)) && flows h (cellOf h k i) c) ≡ test (heldOk h r k c s)
+unfolding heldOk
+held-in h r k c s i index few l =
+    rw (index-in (class k) (slots h k) s i index few l, index .right (omega arith) .1)
 
 -- ---- an entry: empty, refused, or held
 
@@ -92,22 +113,27 @@ module _ (h : List ℕ) (r : Addr → ℕ) (k : Kind) (c s u : ℕ) where
   unfolding entryOk currentOk
   entry-held e f = rw (ne-eqb s 0 e, f)
 
--- the same, as the code judges it
-module _ (h : List ℕ) (r : Addr → ℕ) (k : Kind) (c s u : ℕ) where
-  pub empty-other : s ≡ 0 → u ≡ 0 → Other ≡ entryIs (test (entryOk h r k c s u)) (holdsOwn h k c s) (indexOf s)
-  empty-other e z = rw (← entry-empty h r k c s u e, eq-eqb s 0 e, eq-eqb u 0 z)
+-- a used entry whose index is no slot's
+pub entry-out : (h : List ℕ) (r : Addr → ℕ) (k : Kind) (c s u i : ℕ) → (s ≡ 0 → u ≡ 0 → ⊥) → Indexed (class k) s i → slots h k ≤ 256 → slots h k ≤ i
+    → test (entryOk h r k c s u) ≡ false
+entry-out h r k c s u i busy index few l =
+    split _ (eqb s 0)
+    (λ z. sym (entry-empty h r k c s u (eqb-true s 0 z)) ∙ ne-eqb u 0 (busy (eqb-true s 0 z)))
+    (λ z. entry-refused h r k c s u (eqb-false s 0 z) (held-out h r k c s i index few l))
 
-  pub empty-wrong : s ≡ 0 → (u ≡ 0 → ⊥) → Wrong ≡ entryIs (test (entryOk h r k c s u)) (holdsOwn h k c s) (indexOf s)
-  empty-wrong e n = rw (← entry-empty h r k c s u e, ne-eqb u 0 n)
-
-  pub judged-wrong : (s ≡ 0 → ⊥) → test (heldOk h r k c s) ≡ false → Wrong ≡ entryIs (test (entryOk h r k c s u)) (holdsOwn h k c s) (indexOf s)
-  judged-wrong n e = rw (entry-refused h r k c s u n e)
-
-  pub judged-held : (s ≡ 0 → ⊥) → test (heldOk h r k c s) ≡ true → (own current valid writing : Bool) (i : ℕ)
-      → own ≡ eqb (cellOf h k (indexOf s)) c → current ≡ eqb (r (at k (indexOf s) live)) 1 && eqb (r (at k (indexOf s) serial)) (serialOf s)
-      → valid ≡ validUse k u → writing ≡ writeUse k u → i ≡ indexOf s
-      → entryIs ((not own || current) && (valid && (not writing || own))) own i ≡ entryIs (test (entryOk h r k c s u)) (holdsOwn h k c s) (indexOf s)
-  judged-held n e own current valid writing i o p v w q = rw (o, p, v, w, q, ← entry-held h r k c s u n e, ne-eqb s 0 n)
+-- and one whose index is: all its tests at once
+pub entry-in : (h : List ℕ) (r : Addr → ℕ) (k : Kind) (c s u i : ℕ) → classOf s ≡ class k → indexOf s ≡ i → i < slots h k
+    → (ltb 0 (serialOf s) && (leb (serialOf s) (r (at k i serial)) && flows h (cellOf h k i) c))
+    && ((not (eqb (cellOf h k i) c) || (eqb (r (at k i live)) 1 && eqb (r (at k i serial)) (serialOf s)))
+    && (validUse k u && (not (writeUse k u) || eqb (cellOf h k i) c))) ≡ test (entryOk h r k c s u)
+unfolding entryOk heldOk currentOk isSeid
+entry-in h r k c s u i e q l =
+    rw (
+      ← q,
+      ne-eqb s 0 (class-some s (class k) (class-pos k) e),
+      eq-eqb (classOf s) (class k) e,
+      lt-ltb (indexOf s) (slots h k) (omega arith),
+    )
 
 -- an entry that is right counts for the slot that it names, where that is of the holder's cell
 module _ (h : List ℕ) (r : Addr → ℕ) (k : Kind) (c s u : ℕ) (right : test (entryOk h r k c s u) ≡ true) where
@@ -130,50 +156,38 @@ module _ (h : List ℕ) (r : Addr → ℕ) (k : Kind) (c s u : ℕ) (right : tes
       rw (z, right-class (eqb-false s 0 z))
       (split _ (eqb (indexOf s) i) (λ q. let e : indexOf s ≡ i = eqb-true (indexOf s) i q in rw e) (λ q. rw q (and-false (eqb (cellOf h k (indexOf s)) c) ∙ sym (and-false (eqb (cellOf h k i) c))))))
 
--- ---- what a judgement says
+-- ---- what a used entry counts for
 
-says-wrong : (ok own : Bool) (i : ℕ) → entryIs ok own i ≡ Wrong → ok ≡ false
-says-wrong true true i e = cc
-says-wrong true false i e = cc
-says-wrong false own i e = refl
+module _ (h : List ℕ) (k : Kind) (c s i cell : ℕ) (e : classOf s ≡ class k) (q : indexOf s ≡ i) (of : cell ≡ cellOf h k i) where
+  hit : (j : ℕ) → eqb cell c && eqb i j ≡ names h k c s j
+  hit j = rw (of, ← q, ne-eqb s 0 (class-some s (class k) (class-pos k) e))
 
-says-other : (ok own : Bool) (i : ℕ) → entryIs ok own i ≡ Other → (ok ≡ true) × (own ≡ false)
-says-other true true i e = (refl, cc)
-says-other true false i e = (refl, refl)
-says-other false own i e = (cc, cc)
+  one-of : (a b : Bool) → _≡_ {A = ℕ} (cond b (cond a 1 0) 0) (cond (a && b) 1 0)
+  one-of true true = refl
+  one-of true false = refl
+  one-of false true = refl
+  one-of false false = refl
 
-says-own : (ok own : Bool) (i j : ℕ) → entryIs ok own i ≡ Own j → (ok ≡ true) × (own ≡ true) × (i ≡ j)
-says-own true true i j e = (refl, refl, cc)
-says-own true false i j e = (refl, cc, cc)
-says-own false own i j e = (cc, cc, cc)
+  pub counted-one : (right : Bool) (before : List ℕ) → i < length before → length before ≡ maxSlots
+      → Counts (λ j. cond (names h k c s j) 1 0) 1 right before (set before i (getD before i 0 + cond (eqb cell c) 1 0))
+  counted-one right before l long =
+      let rose : (j : ℕ) → getD (set before i (getD before i 0 + cond (eqb cell c) 1 0)) j 0 ≡ getD before j 0 + cond (names h k c s j) 1 0 = λ j.
+      tally-add before i j (cond (eqb cell c) 1 0) l ∙ ap (λ (x : ℕ). getD before j 0 + x) (one-of (eqb cell c) (eqb i j) ∙ ap (λ (b : Bool). cond b 1 0) (hit j)) in
+      record { exact = λ r j m. rose j; few = λ j m. omega (arith, rose j, one-le (names h k c s j)) }
 
-module _ (h : List ℕ) (r : Addr → ℕ) (k : Kind) (c s u : ℕ) where
-  -- whether the entry is right
-  pub wrong-entry : entryIs (test (entryOk h r k c s u)) (holdsOwn h k c s) (indexOf s) ≡ Wrong → test (entryOk h r k c s u) ≡ false
-  wrong-entry e = says-wrong (test (entryOk h r k c s u)) (holdsOwn h k c s) (indexOf s) e
+-- none, where all is not right
+pub counted-none : (f : ℕ → ℕ) (before : List ℕ) → Counts f 1 false before before
+counted-none f before = record { exact = λ e. absurd (true≢false (sym e)); few = λ j m. omega arith }
 
-  pub other-entry : entryIs (test (entryOk h r k c s u)) (holdsOwn h k c s) (indexOf s) ≡ Other → test (entryOk h r k c s u) ≡ true
-  other-entry e = says-other (test (entryOk h r k c s u)) (holdsOwn h k c s) (indexOf s) e .0
+-- ---- an entry that is not used is right and counts for nothing
 
-  pub own-entry : (j : ℕ) → entryIs (test (entryOk h r k c s u)) (holdsOwn h k c s) (indexOf s) ≡ Own j → test (entryOk h r k c s u) ≡ true
-  own-entry j e = says-own (test (entryOk h r k c s u)) (holdsOwn h k c s) (indexOf s) j e .0
+pub entry-idle : (h : List ℕ) (r : Addr → ℕ) (k : Kind) (c s u : ℕ) → eqb s 0 && eqb u 0 ≡ true → test (entryOk h r k c s u) ≡ true
+entry-idle h r k c s u e = sym (entry-empty h r k c s u (eqb-true s 0 (and-left (eqb s 0) (eqb u 0) e))) ∙ and-right (eqb s 0) (eqb u 0) e
 
-  -- the slot counted is a slot
-  pub own-index : (j : ℕ) → entryIs (test (entryOk h r k c s u)) (holdsOwn h k c s) (indexOf s) ≡ Own j → j < slots h k
-  own-index j e =
-      let x = says-own (test (entryOk h r k c s u)) (holdsOwn h k c s) (indexOf s) j e in
-      let some : eqb s 0 ≡ false = failed (eqb s 0) (and-left (not (eqb s 0)) _ (x .1)) in
-      omega (arith, right-index h r k c s u (x .0) (eqb-false s 0 some), x .2)
+pub names-idle : (h : List ℕ) (k : Kind) (c s u i : ℕ) → eqb s 0 && eqb u 0 ≡ true → names h k c s i ≡ false
+names-idle h k c s u i e = rw (and-left (eqb s 0) (eqb u 0) e)
 
-  -- which slot's count rises
-  pub own-hit : (j i : ℕ) → entryIs (test (entryOk h r k c s u)) (holdsOwn h k c s) (indexOf s) ≡ Own j → eqb j i ≡ names h k c s i
-  own-hit j i e =
-      let x = says-own (test (entryOk h r k c s u)) (holdsOwn h k c s) (indexOf s) j e in
-      let own : holdsOwn h k c s ≡ true = x .1 in
-      ap (λ (n : ℕ). eqb n i) (sym (x .2)) ∙ sym (ap (λ (b : Bool). b && eqb (indexOf s) i) own)
-
-  pub other-miss : (i : ℕ) → entryIs (test (entryOk h r k c s u)) (holdsOwn h k c s) (indexOf s) ≡ Other → false ≡ names h k c s i
-  other-miss i e =
-      let x = says-other (test (entryOk h r k c s u)) (holdsOwn h k c s) (indexOf s) e in
-      let own : holdsOwn h k c s ≡ false = x .1 in
-      sym (ap (λ (b : Bool). b && eqb (indexOf s) i) own)
+-- the words of a used entry are not both 0
+pub busy-word : (t : List ℕ) (from d e : ℕ) → d ≡ e → unused t from e ≡ false → heldWord t from d ≡ 0 → usedWord t from d ≡ 0 → ⊥
+busy-word t from d e q busy a b =
+    true≢false (sym (and-both _ _ (eq-eqb (heldWord t from d) 0 a) (eq-eqb (usedWord t from d) 0 b)) ∙ ap (unused t from) q ∙ busy)

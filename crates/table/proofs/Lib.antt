@@ -2,8 +2,9 @@
 pub mod Loops
 pub mod Config
 pub mod Filled
-pub mod Holders
 pub mod Tally
+pub mod Listed
+pub mod Holders
 pub mod Record
 pub mod Alive
 pub mod Owned

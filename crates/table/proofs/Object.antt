@@ -2,17 +2,17 @@
 use mathlib.Core.Path.{_≡_, refl, sym, ap, _∙_}
 use mathlib.Core.Bool.{Bool, true, false, _&&_, true≢false}
 use mathlib.Core.List.{List}
-use Prim.Native.Nat.{ℕ, zero, suc, _+_, _*_, _%_, _≤_, _<_}
+use Prim.Native.Nat.{ℕ, zero, suc, _+_, _%_, _<_}
 use native.Mathlib.Omega.{arith}
 use lib.Dec.{leb, eqb}
 use lib.ListN.{length, getD, replicate}
 use Rattle.rules.specs.Words.{allBelow, sumBelow, countBelow}
 use Rattle.rules.specs.Claim.{test, is}
-use Rattle.rules.specs.Layout.{maxSlots, maxBits, maxLinks, entries, Kind, segment, file, slots, blocks, configuration, Addr, at, rd, bits, sharable, size, references, links, opens}
+use Rattle.rules.specs.Layout.{maxSlots, maxBits, maxLinks, entries, Kind, segment, file, blocks, configuration, Addr, at, rd, bits, sharable, size, references, links, opens}
 use Rattle.rules.specs.WellFormed.{recordOk, segmentSize, segmentOk, fileOk, ownEntry, ownEntries}
 use Rattle.laws.proofs.Tests.{refuted}
 use Rattle.laws.proofs.Below.{all-at, sum-more}
-use Rattle.table.specs.declared.header.Header.{Header}
+use Rattle.layout.specs.declared.Header.{Header}
 use Rattle.table.specs.Shape.{RecordAt, Shaped}
 use Rattle.table.specs.Entries.{recordAt, Counted, Tally}
 use Rattle.table.proofs.Config.{blocks-read}

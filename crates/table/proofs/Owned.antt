@@ -1,5 +1,5 @@
 -- The entries of one process: as the rules read them, and counted slot by slot.
-use mathlib.Core.Path.{_≡_, refl, sym, ap, ap₂, _∙_}
+use mathlib.Core.Path.{_≡_, refl, sym, ap, ap₂, fun-ext, _∙_}
 use mathlib.Core.Bool.{Bool, true, false, _&&_}
 use mathlib.Core.List.{List}
 use Prim.Native.Nat.{ℕ, _+_, _*_, _≤_, _<_}
@@ -10,48 +10,68 @@ use lib.Dec.{eqb}
 use lib.ListN.{getD}
 use Rattle.rules.specs.Words.{allBelow, countBelow}
 use Rattle.rules.specs.Claim.{test}
-use Rattle.rules.specs.Layout.{maxSlots, entries, Kind, process, recordWords, slots, cellOf, configuration, Addr, at, rd, live, heldAt}
+use Rattle.rules.specs.Layout.{entries, Kind, process, segment, recordWords, cellOf, configuration, Addr, at, rd, live, heldAt, usedAt}
 use Rattle.rules.specs.Seid.{class, classOf, indexOf}
-use Rattle.rules.specs.WellFormed.{entryOk, processOk, ownEntry}
-use Rattle.laws.proofs.Below.{all-at, count-same, count-none, count-le}
+use Rattle.rules.specs.WellFormed.{entryOk, heldOnce, processOk, ownEntry}
+use Rattle.laws.proofs.Below.{all-at, count-same, count-none}
 use Rattle.laws.proofs.Claims.{holds}
 use Rattle.laws.proofs.Seids.{class-some, class-pos}
 use Rattle.laws.proofs.Shape.{record-of}
-use Rattle.table.specs.declared.header.Header.{Header}
-use Rattle.table.specs.Shape.{RecordAt, Shaped}
-use Rattle.table.specs.Entries.{heldWord, usedWord, names, Counted}
-use Rattle.table.proofs.Config.{slots-read, and-false}
-use Rattle.table.proofs.Config.{slots-small}
-use Rattle.table.proofs.Holders.{record-words, right-names}
+use Rattle.layout.specs.declared.Header.{Header}
+use Rattle.layout.specs.Header.{recordOf}
+use Rattle.table.specs.Shape.{Shaped}
+use Rattle.table.specs.Entries.{heldWord, usedWord, names, fresh, Counts, Counted}
+use Rattle.table.proofs.Config.{base-read, slots-read, slots-small, and-false}
+use Rattle.table.proofs.Holders.{right-names}
+use Rattle.table.proofs.Alive.{entriesOk}
 
--- of a process whose record lies at a place
-module _ (t : List ℕ) (n : Header) (shaped : Shaped t n) (p place mine : ℕ) (lies : RecordAt n process p place) (own : mine ≡ cellOf (configuration t) process p) (k : Kind) (first : ℕ) where
-  pub entries-read : allBelow entries (λ d. test (entryOk (configuration t) (rd (configuration t) t) k mine (heldWord t place first d) (usedWord t place first d)))
-      ≡ allBelow entries (λ d. test (entryOk (configuration t) (rd (configuration t) t) k (cellOf (configuration t) process p) (rd (configuration t) t (at process p (first + 2 * d))) (rd (configuration t) t (at process p (first + 1 + 2 * d)))))
+-- entries that follow one another, two words each
+abbrev pub InRow : Kind → Type 0
+InRow k = (d : ℕ) → (heldAt k d ≡ heldAt k 0 + 2 * d) × (usedAt k d ≡ heldAt k 0 + (1 + 2 * d))
+
+-- those of a process of the cell mine begin at a place
+module _ (t : List ℕ) (n : Header) (shaped : Shaped t n) (p mine : ℕ) (own : mine ≡ cellOf (configuration t) process p) (k : Kind) (row : InRow k)
+    (from : ℕ) (lies : from ≡ recordOf n process p + heldAt k 0) where
+  held-read : (d : ℕ) → heldWord t from d ≡ rd (configuration t) t (at process p (heldAt k d))
+  unfolding rd
+  held-read d = ap (λ (x : ℕ). getD t x 0) (omega (arith, lies, row d .0, base-read t n (shaped .framed .header) process))
+
+  used-read : (d : ℕ) → usedWord t from d ≡ rd (configuration t) t (at process p (usedAt k d))
+  unfolding rd
+  used-read d = ap (λ (x : ℕ). getD t x 0) (omega (arith, lies, row d .1, base-read t n (shaped .framed .header) process))
+
+  pub entries-read : allBelow entries (λ d. test (entryOk (configuration t) (rd (configuration t) t) k mine (heldWord t from d) (usedWord t from d)))
+      ≡ test (entriesOk (configuration t) (rd (configuration t) t) k p)
   entries-read =
-      ap₂ (λ (m : ℕ) (w : ℕ → ℕ). allBelow entries (λ d. test (entryOk (configuration t) (rd (configuration t) t) k m (w (first + 2 * d)) (w (first + 1 + 2 * d))))) own
-      (record-words t n shaped process p place lies)
+      ap (λ (m : ℕ). allBelow entries (λ d. test (entryOk (configuration t) (rd (configuration t) t) k m (heldWord t from d) (usedWord t from d)))) own
+      ∙ ap₂ (λ (w v : ℕ → ℕ). allBelow entries (λ d. test (entryOk (configuration t) (rd (configuration t) t) k (cellOf (configuration t) process p) (w d) (v d))))
+      (fun-ext held-read) (fun-ext used-read)
 
   -- an entry that is right counts for the rule where it counted for the code
-  same-entry : (d i : ℕ) → first + 2 * d ≡ heldAt k d → test (entryOk (configuration t) (rd (configuration t) t) k mine (heldWord t place first d) (usedWord t place first d)) ≡ true
-      → names (configuration t) k mine (heldWord t place first d) i ≡ ownEntry (configuration t) (rd (configuration t) t) k i p d
+  same-entry : (d i : ℕ) → test (entryOk (configuration t) (rd (configuration t) t) k mine (heldWord t from d) (usedWord t from d)) ≡ true
+      → names (configuration t) k mine (heldWord t from d) i ≡ ownEntry (configuration t) (rd (configuration t) t) k i p d
   unfolding ownEntry
-  same-entry d i held right =
-      right-names (configuration t) (rd (configuration t) t) k mine (heldWord t place first d) (usedWord t place first d) right i
-      ∙ ap₂ (λ (m s : ℕ). eqb (cellOf (configuration t) k i) m && (eqb (classOf s) (class k) && eqb (indexOf s) i)) own
-      (ap (λ (w : ℕ → ℕ). w (first + 2 * d)) (record-words t n shaped process p place lies) ∙ ap (λ (j : ℕ). rd (configuration t) t (at process p j)) held)
+  same-entry d i right =
+      right-names (configuration t) (rd (configuration t) t) k mine (heldWord t from d) (usedWord t from d) right i
+      ∙ ap₂ (λ (m s : ℕ). eqb (cellOf (configuration t) k i) m && (eqb (classOf s) (class k) && eqb (indexOf s) i)) own (held-read d)
 
-  pub live-counted : (before after : List ℕ) → ((d : ℕ) → d < entries → first + 2 * d ≡ heldAt k d)
-      → allBelow entries (λ d. test (entryOk (configuration t) (rd (configuration t) t) k mine (heldWord t place first d) (usedWord t place first d))) ≡ true
-      → ((i : ℕ) → i < maxSlots → getD after i 0 ≡ getD before i 0 + countBelow entries (λ d. names (configuration t) k mine (heldWord t place first d) i))
-      → Counted (configuration t) (rd (configuration t) t) k p before after
-  live-counted before after held right e =
+  pub live-counted : (right : Bool) (before after : List ℕ)
+      → Counts (λ i. countBelow entries (λ d. names (configuration t) k mine (heldWord t from d) i)) entries right before after → right ≡ true
+      → test (entriesOk (configuration t) (rd (configuration t) t) k p) ≡ true → Counted (configuration t) (rd (configuration t) t) k p before after
+  live-counted right before after counts said good =
       record {
         own = λ i l.
-            e i (omega (arith, slots-read t n (shaped .framed .header) k, slots-small n (shaped .framed .small) k))
-            ∙ ap (λ (x : ℕ). getD before i 0 + x) (count-same entries _ _ (λ d m. same-entry d i (held d m) (all-at entries _ right d m)));
-        few = λ i l. omega (arith, e i l, count-le entries (λ d. names (configuration t) k mine (heldWord t place first d) i));
+            counts .exact said i (omega (arith, slots-read t n (shaped .framed .header) k, slots-small n (shaped .framed .small) k))
+            ∙ ap (λ (x : ℕ). getD before i 0 + x) (count-same entries _ _ (λ d m. same-entry d i (all-at entries _ (entries-read ∙ good) d m)));
+        few = counts .few;
       }
+
+-- held once, by the words that the code reads
+pub once-read : (t : List ℕ) (n : Header) → Shaped t n → (p from : ℕ) → from ≡ recordOf n process p + heldAt segment 0
+    → allBelow entries (fresh (heldWord t from)) ≡ test (heldOnce (rd (configuration t) t) p)
+unfolding heldOnce
+once-read t n shaped p from lies =
+    ap (λ (w : ℕ → ℕ). allBelow entries (fresh w)) (fun-ext (held-read t n shaped p (cellOf (configuration t) process p) refl segment (λ d. (omega arith, omega arith)) from lies))
 
 -- a process that is not live, and right, holds nothing
 module _ (h : List ℕ) (r : Addr → ℕ) (p : ℕ) (free : r (at process p live) ≡ 1 → ⊥) (k : Kind) where

@@ -1,18 +1,17 @@
 -- A record's claim: of a free record, and of any other; and of the record that lies where a slot's does.
-use mathlib.Core.Path.{_≡_, refl, sym, ap, _∙_}
-use mathlib.Core.Bool.{Bool, true, false, _&&_}
+use mathlib.Core.Path.{_≡_, sym, ap}
+use mathlib.Core.Bool.{Bool, _&&_}
 use mathlib.Core.List.{List}
-use Prim.Native.Nat.{ℕ, _+_, _-_, _*_, _≤_, _<_}
+use Prim.Native.Nat.{ℕ, _+_, _-_}
 use native.Mathlib.Omega.{arith}
 use borrow.Author.Tests.{ne-eqb, eqb-true, eqb-false, lt-leb}
 use lib.Dec.{leb, eqb}
-use lib.ListN.{getD}
 use Rattle.rules.specs.Words.{allBelow}
 use Rattle.rules.specs.Claim.{Claim, is, test}
-use Rattle.rules.specs.Layout.{maxSerial, maxOwner, Kind, recordWords, configuration, Addr, at, base, rd, live, serial, owner, group}
+use Rattle.rules.specs.Layout.{maxSerial, maxOwner, Kind, recordWords, configuration, Addr, at, rd, live, serial, owner, group}
 use Rattle.rules.specs.WellFormed.{recordOk}
 use Rattle.laws.proofs.Tests.{split}
-use Rattle.table.specs.declared.header.Header.{Header}
+use Rattle.layout.specs.declared.Header.{Header}
 use Rattle.table.specs.Shape.{RecordAt, Shaped}
 use Rattle.table.specs.Entries.{recordAt}
 use Rattle.table.proofs.Config.{and-true, base-read}

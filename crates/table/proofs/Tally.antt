@@ -1,6 +1,6 @@
--- Counts in a list: one more at a place, and a count after one turn more.
+-- Counts in a list: more at one place, and what several turns counted.
 use mathlib.Core.Path.{_≡_, sym, ap, _∙_}
-use mathlib.Core.Bool.{Bool, false, cond}
+use mathlib.Core.Bool.{Bool, true, _&&_, cond}
 use mathlib.Core.List.{List}
 use Prim.Native.Nat.{ℕ, _+_, _≤_, _<_}
 use native.Mathlib.Nat.{add-zero}
@@ -9,27 +9,30 @@ use borrow.Author.Tests.{eqb-true, eqb-false}
 use lib.Dec.{eqb}
 use lib.ListN.{length, getD, set}
 use lib.Seq.{getD-set-same, getD-set-other}
-use Rattle.rules.specs.Words.{countBelow}
-use Rattle.laws.proofs.Tests.{split}
-use Rattle.laws.proofs.Below.{count-more, count-none}
+use Rattle.laws.proofs.Tests.{and-left, and-right, split}
+use Rattle.table.specs.Entries.{Counts}
 
-module _ (l : List ℕ) (x i : ℕ) where
-  pub tally-hit : x < length l → getD (set l x (getD l x 0 + 1)) i 0 ≡ getD l i 0 + cond (eqb x i) 1 0
-  tally-hit m =
-      split _ (eqb x i)
-      (λ q. let e : x ≡ i = eqb-true x i q in rw q (rw (← e) (getD-set-same l x (getD l x 0 + 1) 0 m)))
-      (λ q. rw q (getD-set-other l x i (getD l x 0 + 1) 0 (λ e. eqb-false x i q (sym e)) ∙ sym (add-zero (getD l i 0))))
+pub tally-add : (l : List ℕ) (x i v : ℕ) → x < length l → getD (set l x (getD l x 0 + v)) i 0 ≡ getD l i 0 + cond (eqb x i) v 0
+tally-add l x i v m =
+    split _ (eqb x i)
+    (λ q. let e : x ≡ i = eqb-true x i q in rw q (rw (← e) (getD-set-same l x (getD l x 0 + v) 0 m)))
+    (λ q. rw q (getD-set-other l x i (getD l x 0 + v) 0 (λ e. eqb-false x i q (sym e)) ∙ sym (add-zero (getD l i 0))))
 
--- none more
-pub tally-same : (l : List ℕ) (i : ℕ) (b : Bool) → b ≡ false → getD l i 0 ≡ getD l i 0 + cond b 1 0
-tally-same l i b e = rw e (sym (add-zero (getD l i 0)))
+-- before the first turn, one turn more, after the last
+pub counts-first : (f : ℕ → ℕ) (l : List ℕ) → ((i : ℕ) → f i ≡ 0) → Counts f 0 true l l
+counts-first f l z = record { exact = λ e i m. omega (arith, z i); few = λ i m. omega arith }
 
-module _ (f : ℕ → Bool) where
-  pub count-first : (before : ℕ) → before ≡ before + countBelow 0 f
-  count-first before = omega (arith, count-none 0 f (λ k l. absurd (omega arith)))
+pub counts-next : (f g h : ℕ → ℕ) (n : ℕ) (ok right : Bool) (a b c : List ℕ) → Counts f n ok a b → Counts g 1 right b c → ((i : ℕ) → h i ≡ f i + g i)
+    → Counts h (n + 1) (ok && right) a c
+counts-next f g h n ok right a b c x y e =
+    record {
+      exact = λ q i m. omega (arith, x .exact (and-left ok right q) i m, y .exact (and-right ok right q) i m, e i);
+      few = λ i m. omega (arith, x .few i m, y .few i m);
+    }
 
-  pub count-next : (before now after i : ℕ) (hit : Bool) → now ≡ before + countBelow i f → after ≡ now + cond hit 1 0 → hit ≡ f i → after ≡ before + countBelow (i + 1) f
-  count-next before now after i hit e g q = let one : _≡_ {A = ℕ} (cond hit 1 0) (cond (f i) 1 0) = rw q in omega (arith, count-more i f)
+pub counts-last : (f g : ℕ → ℕ) (n m : ℕ) (ok : Bool) (a b : List ℕ) → Counts f n ok a b → ((i : ℕ) → f i ≡ g i) → n ≤ m → Counts g m ok a b
+counts-last f g n m ok a b x e l = record { exact = λ q i k. x .exact q i k ∙ ap (λ (v : ℕ). getD a i 0 + v) (e i); few = λ i k. omega (arith, x .few i k) }
 
-  pub count-last : (before now i n : ℕ) → now ≡ before + countBelow i f → i ≤ n → n ≤ i → now ≡ before + countBelow n f
-  count-last before now i n e a b = e ∙ ap (λ (k : ℕ). before + countBelow k f) (omega arith)
+-- where more is asked
+pub counts-also : (f : ℕ → ℕ) (n : ℕ) (ok also : Bool) (a b : List ℕ) → Counts f n ok a b → Counts f n (ok && also) a b
+counts-also f n ok also a b x = record { exact = λ q. x .exact (and-left ok also q); few = x .few }

@@ -1,4 +1,3 @@
 -- What the functions of the check count on and count.
-pub mod Kinds
 pub mod Shape
 pub mod Entries

@@ -1,128 +1,161 @@
 // What a process holds: identifiers of messages' senders, and entries for files and segments.
 ghost use mathlib.Core.Path.{_≡_};
-ghost use mathlib.Core.Bool.{true};
+ghost use mathlib.Core.Bool.{true, cond};
 ghost use Prim.Native.Nat.{ℕ, _+_, _*_, _≤_, _<_};
 ghost use lib.ListN.{length, getD};
 ghost use Rattle.rules.specs.Words.{allBelow, countBelow};
 ghost use Rattle.rules.specs.Claim.{test};
-ghost use Rattle.rules.specs.Layout.{maxCells, maxSlots, entries, configuration, flowMatrix, rd};
-ghost use Rattle.rules.specs.Seid.{indexOf};
-ghost use Rattle.rules.specs.WellFormed.{heldOk, entryOk};
-ghost use Rattle.table.specs.Kinds.{kindOf};
-ghost use Rattle.table.specs.Entries.{entryIs, holdsOwn, heldWord, usedWord, names, Countable};
-ghost use Rattle.table.specs.Shape.{Shaped, CellsOf, Lie};
-use crate::header::Header;
-use crate::header::Objects;
-use crate::kind::Kind;
+ghost use Rattle.rules.specs.Layout.{maxCells, maxSlots, entries, slots, cellOf, configuration, flowMatrix, rd};
+ghost use Rattle.rules.specs.Seid.{class, classOf, indexOf};
+ghost use Rattle.rules.specs.WellFormed.{validUse, writeUse, heldOk, entryOk};
+ghost use Rattle.layout.specs.Kinds.{kindOf};
+ghost use Rattle.table.specs.Shape.{Shaped, CellsOf};
+ghost use Rattle.table.specs.Entries.{heldWord, usedWord, unused, Lists, names, Countable, Counts};
+use crate::places;
 use crate::runs;
-use crate::seid;
+use layout::Header;
+use layout::Kind;
 use rules::ENTRIES;
 use rules::LIVE;
 use rules::MAX_CELLS;
 use rules::MAX_SLOTS;
 use rules::SERIAL;
+use words::first;
+use words::wide;
 
-// Whether a process of the cell mine may hold s, which is to name one of the objects.
+// Whether a process of the cell mine may hold s, which is to name an object of the kind.
 pub(crate) fn held_ok(
     t: &[u32],
-    o: Objects,
+    n: Header,
     kind: Kind,
-    cells: &[u8; MAX_SLOTS],
+    cells: &[u16; MAX_SLOTS],
     flow: &[[bool; MAX_CELLS]; MAX_CELLS],
     mine: usize,
     s: u32,
 ) -> bool
-    requires { ⌜ Lie (now t) (kindOf kind) o × CellsOf (configuration (now t)) (kindOf kind) (now cells) × (now flow ≡ flowMatrix (configuration (now t))) × (mine < maxCells) ⌝ }
+    requires { ⌜ Shaped (now t) n × CellsOf (configuration (now t)) (kindOf kind) (now cells) × (now flow ≡ flowMatrix (configuration (now t))) × (mine < maxCells) ⌝ }
     ensures { λ r. ⌜ r ≡ test (heldOk (configuration (now (t .entry))) (rd (configuration (now (t .entry))) (now (t .entry))) (kindOf kind) mine s) ⌝ }
 {
-    let i = seid::index_of(s);
-    if o.slots <= i {
+    let i = places::index_in(kind, s);
+    if places::slots(n, kind) <= i {
         return false;
     }
-    let at = o.base + o.words * i;
-    let cell = runs::cell(cells[i]);
-    seid::is_seid(o.class, o.slots, s) & ((seid::serial_of(s) <= t[at + SERIAL]) & flow[cell][mine])
+    let at = places::record_at(n, kind, i);
+    let cell = runs::index(cells[i]);
+    let serial = layout::serial_of(s);
+    (0 < serial) & ((serial <= t[at + SERIAL]) & flow[cell][mine])
 }
 
-// An entry, judged: wrong; empty, or for an object of another cell; or for one of the own cell, in this slot.
-pub(crate) enum Entry {
-    Wrong,
-    Other,
-    Own(usize),
-}
-
-fn judged(ok: bool, own: bool, i: usize) -> Entry
-    ensures { λ r. ⌜ r ≡ entryIs ok own i ⌝ }
+// The second word of an entry for an object of a kind: modes, or access. No entry holds a process.
+fn valid_use(kind: Kind, u: u32) -> bool
+    ensures { λ r. ⌜ r ≡ validUse (kindOf kind) u ⌝ }
 {
-    if !ok {
-        return Entry::Wrong;
+    match kind {
+        Kind::Process => u == 0,
+        Kind::Segment => rights::valid_access(u),
+        Kind::File => modes::valid(u),
     }
-    if own {
-        return Entry::Own(i);
-    }
-    Entry::Other
 }
 
-// The entry of a process of the cell mine: its identifier s and its use u. Most entries are empty.
+fn write_use(kind: Kind, u: u32) -> bool
+    ensures { λ r. ⌜ r ≡ writeUse (kindOf kind) u ⌝ }
+{
+    match kind {
+        Kind::Process => u == 1,
+        Kind::Segment => rights::asks_write(u),
+        Kind::File => modes::writes(u),
+    }
+}
+
+// Which of the entries that begin at a place are used, in order, at the front of the list; and how many they are. No branch goes by what an entry holds: half of
+// the entries of a table in use are empty, and none can be foretold.
+pub(crate) fn used(t: &[u32], from: usize, list: &mut [u16]) -> usize
+    requires { ⌜ (from + 2 * entries ≤ length (now t)) × (length (now list) ≡ entries) ⌝ }
+    ensures { λ r. ⌜ Lists (unused (now (t .entry)) from) (now (list .exit)) r entries ⌝ }
+{
+    let mut n = 0;
+    for d in 0..ENTRIES {
+        let empty = (t[from + 2 * d] == 0) & (t[from + (1 + 2 * d)] == 0);
+        list[n] = d as u16;
+        n = n + wide(first(!empty, 1, 0));
+    }
+    n
+}
+
+// A used entry for the object in slot i, which is of that cell: its identifier s and its use u. The tests are gathered without a branch.
+fn entry_ok(
+    t: &[u32],
+    n: Header,
+    kind: Kind,
+    flow: &[[bool; MAX_CELLS]; MAX_CELLS],
+    mine: usize,
+    cell: usize,
+    i: usize,
+    s: u32,
+    u: u32,
+) -> bool
+    requires { ⌜ Shaped (now t) n × (now flow ≡ flowMatrix (configuration (now t))) × (mine < maxCells) × (i < slots (configuration (now t)) (kindOf kind)) ⌝ }
+    requires { ⌜ (classOf s ≡ class (kindOf kind)) × (indexOf s ≡ i) × (cell ≡ cellOf (configuration (now t)) (kindOf kind) i) ⌝ }
+    ensures { λ r. ⌜ r ≡ test (entryOk (configuration (now (t .entry))) (rd (configuration (now (t .entry))) (now (t .entry))) (kindOf kind) mine s u) ⌝ }
+{
+    let at = places::record_at(n, kind, i);
+    let own = cell == mine;
+    let serial = layout::serial_of(s);
+    let held = (0 < serial) & ((serial <= t[at + SERIAL]) & flow[cell][mine]);
+    let current = !own | ((t[at + LIVE] == 1) & (t[at + SERIAL] == serial));
+    held & (current & (valid_use(kind, u) & (!write_use(kind, u) | own)))
+}
+
+// A used entry, judged, and counted for its slot if the object is of the own cell.
 fn judge_entry(
     t: &[u32],
-    o: Objects,
+    n: Header,
     kind: Kind,
-    cells: &[u8; MAX_SLOTS],
+    cells: &[u16; MAX_SLOTS],
     flow: &[[bool; MAX_CELLS]; MAX_CELLS],
     mine: usize,
     s: u32,
     u: u32,
-) -> Entry
-    requires { ⌜ Lie (now t) (kindOf kind) o × CellsOf (configuration (now t)) (kindOf kind) (now cells) × (now flow ≡ flowMatrix (configuration (now t))) × (mine < maxCells) ⌝ }
-    ensures { λ r. ⌜ r ≡ entryIs (test (entryOk (configuration (now (t .entry))) (rd (configuration (now (t .entry))) (now (t .entry))) (kindOf kind) mine s u)) (holdsOwn (configuration (now (t .entry))) (kindOf kind) mine s) (indexOf s) ⌝ }
+    counts: &mut [u32],
+) -> bool
+    requires { ⌜ Shaped (now t) n × CellsOf (configuration (now t)) (kindOf kind) (now cells) × (now flow ≡ flowMatrix (configuration (now t))) × (mine < maxCells) × (s ≡ 0 → u ≡ 0 → ⊥) ⌝ }
+    requires { ⌜ (length (now counts) ≡ maxSlots) × ((i : ℕ) → i < maxSlots → getD (now counts) i 0 < 65536) ⌝ }
+    ensures { λ r. ⌜ r ≡ test (entryOk (configuration (now (t .entry))) (rd (configuration (now (t .entry))) (now (t .entry))) (kindOf kind) mine s u) ⌝ }
+    ensures { λ r. ⌜ Counts (λ i. cond (names (configuration (now (t .entry))) (kindOf kind) mine s i) 1 0) 1 r (now (counts .entry)) (now (counts .exit)) ⌝ }
 {
-    if s == 0 {
-        if u == 0 {
-            return Entry::Other;
-        }
-        return Entry::Wrong;
+    let i = places::index_in(kind, s);
+    if places::slots(n, kind) <= i {
+        return false;
     }
-    if !held_ok(t, o, kind, cells, flow, mine, s) {
-        return Entry::Wrong;
-    }
-    let i = seid::index_of(s);
-    let at = o.base + o.words * i;
-    let own = runs::cell(cells[i]) == mine;
-    let current = !own | ((t[at + LIVE] == 1) & (t[at + SERIAL] == seid::serial_of(s)));
-    judged(
-        current & (kind.valid_use(u) & (!kind.write_use(u) | own)),
-        own,
-        i,
-    )
+    let cell = runs::index(cells[i]);
+    counts[i] = counts[i] + first(cell == mine, 1, 0);
+    entry_ok(t, n, kind, flow, mine, cell, i, s, u)
 }
 
-// The entries for objects of the kind, from the word first of the record at `at` on. Those for objects of the own cell are counted, slot by slot; the first
-// wrong entry ends it.
+// The entries for objects of the kind, of which those in the list are used. Those for objects of the own cell are counted, slot by slot.
 pub(crate) fn entries_ok(
     t: &[u32],
     n: Header,
     kind: Kind,
-    cells: &[u8; MAX_SLOTS],
+    cells: &[u16; MAX_SLOTS],
     flow: &[[bool; MAX_CELLS]; MAX_CELLS],
     mine: usize,
-    at: usize,
-    first: usize,
+    from: usize,
+    list: &[u16],
+    used: usize,
     counts: &mut [u32],
 ) -> bool
-    requires { ⌜ Shaped (now t) n × CellsOf (configuration (now t)) (kindOf kind) (now cells) × (now flow ≡ flowMatrix (configuration (now t))) × (mine < maxCells) × (at + (first + 2 * entries) ≤ length (now t)) × Countable (now counts) ⌝ }
-    ensures { λ r. ⌜ r ≡ allBelow entries (λ d. test (entryOk (configuration (now (t .entry))) (rd (configuration (now (t .entry))) (now (t .entry))) (kindOf kind) mine (heldWord (now (t .entry)) at first d) (usedWord (now (t .entry)) at first d))) ⌝ }
-    ensures { λ r. ⌜ (r ≡ true → (i : ℕ) → i < maxSlots → getD (now (counts .exit)) i 0 ≡ getD (now (counts .entry)) i 0 + countBelow entries (λ d. names (configuration (now (t .entry))) (kindOf kind) mine (heldWord (now (t .entry)) at first d) i)) ⌝ }
+    requires { ⌜ Shaped (now t) n × CellsOf (configuration (now t)) (kindOf kind) (now cells) × (now flow ≡ flowMatrix (configuration (now t))) × (mine < maxCells) × Countable (now counts) ⌝ }
+    requires { ⌜ (from + 2 * entries ≤ length (now t)) × (length (now list) ≡ entries) × Lists (unused (now t) from) (now list) used entries ⌝ }
+    ensures { λ r. ⌜ r ≡ allBelow entries (λ d. test (entryOk (configuration (now (t .entry))) (rd (configuration (now (t .entry))) (now (t .entry))) (kindOf kind) mine (heldWord (now (t .entry)) from d) (usedWord (now (t .entry)) from d))) ⌝ }
+    ensures { λ r. ⌜ Counts (λ i. countBelow entries (λ d. names (configuration (now (t .entry))) (kindOf kind) mine (heldWord (now (t .entry)) from d) i)) entries r (now (counts .entry)) (now (counts .exit)) ⌝ }
 {
-    let o = n.objects(kind);
-    for d in 0..ENTRIES {
-        let s = t[at + (first + 2 * d)];
-        let u = t[at + (first + 1 + 2 * d)];
-        match judge_entry(t, o, kind, cells, flow, mine, s, u) {
-            Entry::Wrong => return false,
-            Entry::Other => (),
-            Entry::Own(i) => counts[i] = counts[i] + 1,
-        }
+    let mut ok = true;
+    for e in 0..used {
+        let d = runs::index(list[e]);
+        let s = t[from + 2 * d];
+        let u = t[from + (1 + 2 * d)];
+        ok = ok & judge_entry(t, n, kind, cells, flow, mine, s, u, counts);
     }
-    true
+    ok
 }

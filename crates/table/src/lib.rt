@@ -1,12 +1,11 @@
 // The table: whether it is well formed, and how it is set up.
-mod header;
 mod held;
-mod kind;
 mod objects;
+mod once;
+mod places;
 mod process;
 mod records;
 mod runs;
-mod seid;
 mod setup;
 mod shape;
 
@@ -17,8 +16,8 @@ ghost use Rattle.rules.specs.Layout.{flowMatrix, configuration, rd};
 ghost use Rattle.rules.specs.WellFormed.{recordsOk, wellFormed};
 ghost use Rattle.rules.specs.SetUp.{canSetUp, setUpAnswer, setUpTable};
 ghost use Rattle.table.specs.Shape.{Shaped};
-use header::Header;
-use kind::Kind;
+use layout::Header;
+use layout::Kind;
 use rules::MAX_CELLS;
 use rules::MAX_SLOTS;
 use rules::XB_PARAM;
@@ -60,7 +59,7 @@ pub fn judge(t: &[u32], store_bytes: usize, flow: &mut [[bool; MAX_CELLS]; MAX_C
     if !shape::can_set_up(t, store_bytes) {
         return false;
     }
-    let n = header::read_header(t);
+    let n = layout::header_of(t);
     let m = levels::flow_matrix(t);
     *flow = m;
     records_ok(t, n, flow)
@@ -82,7 +81,7 @@ pub fn set_up(t: &mut [u32], store_bytes: usize) -> u32
     if !shape::can_set_up(t, store_bytes) {
         return XB_PARAM;
     }
-    let n = header::read_header(t);
+    let n = layout::header_of(t);
     let from = n.base(Kind::Process);
     setup::clear(t, from);
     setup::begin_all(t, n);

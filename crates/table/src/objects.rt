@@ -1,21 +1,21 @@
 // Segments and files: the records that the processes' entries hold and that count them.
 ghost use mathlib.Core.Path.{_≡_};
-ghost use Prim.Native.Nat.{ℕ, _<_};
-ghost use lib.ListN.{getD};
+ghost use Prim.Native.Nat.{_<_};
 ghost use Rattle.rules.specs.Claim.{test, each};
 ghost use Rattle.rules.specs.Layout.{process, segment, file, slots, configuration, rd};
 ghost use Rattle.rules.specs.WellFormed.{segmentOk, fileOk, ownEntries};
-ghost use Rattle.table.specs.Kinds.{kindOf};
-ghost use Rattle.table.specs.Shape.{slotsOf, Shaped};
+ghost use Rattle.layout.specs.Kinds.{kindOf};
+ghost use Rattle.layout.specs.Header.{slotsOf};
+ghost use Rattle.table.specs.Shape.{Shaped};
 ghost use Rattle.table.specs.Entries.{objectOk, Tally};
-use crate::header::Header;
-use crate::kind::Kind;
+use crate::places;
 use crate::records;
+use layout::Header;
+use layout::Kind;
 use rules::BITS;
 use rules::LINKS;
 use rules::MAX_BITS;
 use rules::MAX_LINKS;
-use rules::MAX_SLOTS;
 use rules::OPENS;
 use rules::REFERENCES;
 use rules::SHARABLE;
@@ -29,10 +29,10 @@ const MAX_SIZE: u32 = 65024;
 
 // A segment; held is how many entries of its own cell hold it.
 fn segment_ok(t: &[u32], n: Header, s: usize, held: u32) -> bool
-    requires { ⌜ Shaped (now t) n × (s < n .segments) × (held ≡ ownEntries (configuration (now t)) (rd (configuration (now t)) (now t)) segment s) ⌝ }
+    requires { ⌜ Shaped (now t) n × (s < slotsOf n segment) × (held ≡ ownEntries (configuration (now t)) (rd (configuration (now t)) (now t)) segment s) ⌝ }
     ensures { λ r. ⌜ r ≡ test (segmentOk (configuration (now (t .entry))) (rd (configuration (now (t .entry))) (now (t .entry))) s) ⌝ }
 {
-    let at = n.record_at(Kind::Segment, s);
+    let at = places::record_at(n, Kind::Segment, s);
     let size = t[at + SIZE];
     let references = t[at + REFERENCES];
     let sized = (size % SIZE_UNIT == 0) & ((SIZE_UNIT <= size) & (size <= MAX_SIZE));
@@ -43,15 +43,15 @@ fn segment_ok(t: &[u32], n: Header, s: usize, held: u32) -> bool
 
 // A file, likewise. Links and opens are added as wider numbers: the words may hold anything.
 fn file_ok(t: &[u32], n: Header, f: usize, held: u32) -> bool
-    requires { ⌜ Shaped (now t) n × (f < n .files) × (held ≡ ownEntries (configuration (now t)) (rd (configuration (now t)) (now t)) file f) ⌝ }
+    requires { ⌜ Shaped (now t) n × (f < slotsOf n file) × (held ≡ ownEntries (configuration (now t)) (rd (configuration (now t)) (now t)) file f) ⌝ }
     ensures { λ r. ⌜ r ≡ test (fileOk (configuration (now (t .entry))) (rd (configuration (now (t .entry))) (now (t .entry))) f) ⌝ }
 {
-    let at = n.record_at(Kind::File, f);
+    let at = places::record_at(n, Kind::File, f);
     let links = wide(t[at + LINKS]);
     let opens = wide(t[at + OPENS]);
     let size = wide(t[at + SIZE]);
     let alive = (t[at + BITS] <= MAX_BITS)
-        & ((links <= MAX_LINKS as usize) & ((size <= n.blocks) & (1 <= links + opens)));
+        & ((links <= MAX_LINKS as usize) & ((size <= wide(n.blocks)) & (1 <= links + opens)));
     records::record_ok(t, Kind::File, at, alive) & (t[at + OPENS] == held)
 }
 
@@ -71,7 +71,7 @@ pub(crate) fn objects_ok(t: &[u32], n: Header, kind: Kind, counts: &[u32]) -> bo
     ensures { λ r. ⌜ r ≡ test (each (slots (configuration (now (t .entry))) (kindOf kind)) (objectOk (configuration (now (t .entry))) (rd (configuration (now (t .entry))) (now (t .entry))) (kindOf kind))) ⌝ }
 {
     let mut ok = true;
-    for i in 0..n.slots(kind) {
+    for i in 0..places::slots(n, kind) {
         ok = ok & object_ok(t, n, kind, i, counts[i]);
     }
     ok

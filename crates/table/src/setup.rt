@@ -9,8 +9,8 @@ ghost use Rattle.rules.specs.Rule.{write};
 ghost use Rattle.rules.specs.WellFormed.{configured};
 ghost use Rattle.rules.specs.SetUp.{firstProcesses};
 ghost use Rattle.table.specs.Shape.{Framed};
-use crate::header::Header;
-use crate::kind::Kind;
+use layout::Header;
+use layout::Kind;
 use rules::CELL_GROUP;
 use rules::CELL_OWNER;
 use rules::CELL_PROCESSES;
@@ -51,7 +51,7 @@ pub(crate) fn begin_all(t: &mut [u32], n: Header)
 {
     let base = n.base(Kind::Process);
     let mut slot = 0;
-    for c in 0..n.cells {
+    for c in 0..wide(n.cells) {
         let cell = HEADER_WORDS + CELL_WORDS * c;
         let processes = wide(t[cell + CELL_PROCESSES]);
         let owner = t[cell + CELL_OWNER];

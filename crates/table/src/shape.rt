@@ -1,7 +1,7 @@
 // The table's shape: its header, its lengths and its cells. Set-up judges this much and no more.
 ghost use mathlib.Core.Path.{_≡_};
 ghost use mathlib.Core.Bool.{not};
-ghost use Prim.Native.Nat.{ℕ, suc, _+_, _*_, _≤_, _<_};
+ghost use Prim.Native.Nat.{_+_, _*_, _≤_, _<_};
 ghost use lib.ListN.{length, getD};
 ghost use Rattle.rules.specs.Words.{allBelow, sumBelow};
 ghost use Rattle.rules.specs.Claim.{test, each, _&_};
@@ -10,8 +10,7 @@ ghost use Rattle.rules.specs.Layout.{headerWords, cellWords, cells, cellWord, l
 ghost use Rattle.rules.specs.WellFormed.{headerOk, cellOk, levelsDistinct, sumsMatch, lengthsExact};
 ghost use Rattle.rules.specs.SetUp.{canSetUp};
 ghost use Rattle.table.specs.Shape.{IsHeader, Small, Framed};
-use crate::header;
-use crate::header::Header;
+use layout::Header;
 use rules::BLOCK_BYTES;
 use rules::CELL_FILES;
 use rules::CELL_GROUP;
@@ -38,11 +37,11 @@ fn header_ok(t: &[u32], n: Header) -> bool
     requires { ⌜ (headerWords ≤ length (now t)) × IsHeader (now t) n ⌝ }
     ensures { λ r. ⌜ r ≡ test (headerOk (configuration (now (t .entry)))) ⌝ }
 {
-    ((1 <= n.cells) & (n.cells <= MAX_CELLS))
-        & (((1 <= n.processes) & (n.processes <= MAX_SLOTS))
-            & ((n.segments <= MAX_SLOTS)
-                & ((n.files <= MAX_SLOTS)
-                    & (((1 <= n.blocks) & (n.blocks <= MAX_BLOCKS as usize))
+    ((1 <= n.cells) & (n.cells <= MAX_CELLS as u32))
+        & (((1 <= n.processes) & (n.processes <= MAX_SLOTS as u32))
+            & ((n.segments <= MAX_SLOTS as u32)
+                & ((n.files <= MAX_SLOTS as u32)
+                    & (((1 <= n.blocks) & (n.blocks <= MAX_BLOCKS))
                         & ((t[5] == 0) & ((t[6] == 0) & (t[7] == 0)))))))
 }
 
@@ -50,7 +49,7 @@ fn lengths_exact(t: &[u32], n: Header, store_bytes: usize) -> bool
     requires { ⌜ IsHeader (now t) n × Small n ⌝ }
     ensures { λ r. ⌜ r ≡ test (lengthsExact (configuration (now (t .entry))) (length (now (t .entry))) «store_bytes») ⌝ }
 {
-    (t.len() == n.table_words()) & (store_bytes == n.files * (n.blocks * BLOCK_BYTES))
+    (t.len() == n.table_words()) & (store_bytes == wide(n.files) * (wide(n.blocks) * BLOCK_BYTES))
 }
 
 fn cell_ok(t: &[u32], c: usize) -> bool
@@ -69,7 +68,7 @@ fn cells_ok(t: &[u32], n: Header) -> bool
     ensures { λ r. ⌜ r ≡ test (each (cells (configuration (now (t .entry)))) (cellOk (configuration (now (t .entry))))) ⌝ }
 {
     let mut ok = true;
-    for c in 0..n.cells {
+    for c in 0..wide(n.cells) {
         ok = ok & cell_ok(t, c);
     }
     ok
@@ -102,7 +101,7 @@ fn levels_distinct(t: &[u32], n: Header) -> bool
     ensures { λ r. ⌜ r ≡ test (levelsDistinct (configuration (now (t .entry)))) ⌝ }
 {
     let mut ok = true;
-    for d in 0..n.cells {
+    for d in 0..wide(n.cells) {
         ok = ok & level_fresh(t, d);
     }
     ok
@@ -114,7 +113,7 @@ fn slots_owned(t: &[u32], n: Header, k: usize) -> usize
     ensures { λ r. ⌜ r ≡ sumBelow (cells (configuration (now (t .entry)))) (λ c. cellWord (configuration (now (t .entry))) c k) ⌝ }
 {
     let mut sum = 0;
-    for c in 0..n.cells {
+    for c in 0..wide(n.cells) {
         sum = sum + wide(t[HEADER_WORDS + CELL_WORDS * c + k]);
     }
     sum
@@ -124,9 +123,9 @@ fn sums_match(t: &[u32], n: Header) -> bool
     requires { ⌜ Framed (now t) n ⌝ }
     ensures { λ r. ⌜ r ≡ test (sumsMatch (configuration (now (t .entry)))) ⌝ }
 {
-    (slots_owned(t, n, CELL_PROCESSES) == n.processes)
-        & ((slots_owned(t, n, CELL_SEGMENTS) == n.segments)
-            & (slots_owned(t, n, CELL_FILES) == n.files))
+    (slots_owned(t, n, CELL_PROCESSES) == wide(n.processes))
+        & ((slots_owned(t, n, CELL_SEGMENTS) == wide(n.segments))
+            & (slots_owned(t, n, CELL_FILES) == wide(n.files)))
 }
 
 fn cells_right(t: &[u32], n: Header) -> bool
@@ -143,7 +142,7 @@ pub(crate) fn can_set_up(t: &[u32], store_bytes: usize) -> bool
     if t.len() < HEADER_WORDS {
         return false;
     }
-    let n = header::read_header(t);
+    let n = layout::header_of(t);
     if !header_ok(t, n) {
         return false;
     }

@@ -1,94 +1,104 @@
--- `held::held_ok` meets its contract: an index out of range is no form, and the rest is the rule's three tests.
-use borrow.Author.Needs.{needs}
+-- `held::held_ok` meets its contract: an index that is no slot's is no form, and the rest is the rule's three tests.
 use native.Mathlib.Omega.{arith}
-use mathlib.Core.Path.{_≡_, sym, ap, ap₂, _∙_}
+use mathlib.Core.Path.{sym, ap, ap₂, _∙_}
 use mathlib.Core.Bool.{_&&_}
 use mathlib.Core.List.{[]}
-use Prim.Native.Nat.{ℕ, _≤_, _<_}
-use lib.Dec.{leb}
-use Rattle.rules.specs.Layout.{maxCells, cellOf, flows, configuration, at, rd, serial}
-use Rattle.rules.specs.Seid.{isSeid}
-use Rattle.rules.specs.WellFormed.{heldOk}
+use Prim.Native.Nat.{ℕ, _<_}
+use lib.Dec.{leb, ltb}
+use Rattle.rules.specs.Layout.{maxCells, slots, flows, configuration, rd, serial}
+use Rattle.layout.specs.Kinds.{kindOf}
+use Rattle.layout.specs.Header.{slotsOf}
+use Rattle.table.proofs.Config.{slots-read, slots-small}
+use Rattle.table.proofs.Holders.{slots-few, record-word, cell-few, flow-at, held-out, held-in}
+use borrow.Author.Needs.{needs}
 use Rattle.table.proofs.held.held_ok.Statement.{statement}
-use Rattle.table.specs.Kinds.{kindOf}
-use Rattle.table.proofs.Holders.{place-word, flow-at, held-out}
 use Rattle.table.proofs.held.held_ok.Tie as tie
 
-index-of-requires : tie.Need-index-of-requires
-index-of-requires c κs = search needs
+-- the cell of the slot is a cell
+cell-low : (c : tie.After-index) → c .index .result < maxCells
+cell-low c =
+    let s = c .before .before .before .before .before .before .before in
+    let t = s .args .t .now in
+    let k = kindOf (s .args .kind) in
+    let i = c .before .before .before .before .before .index-in .result in
+    let lt : i < slotsOf (s .args .n) k = omega (arith, c .before .before .before .before .slots .ensures, c .before .before .before .if1 .left) in
+    let e = slots-read t (s .args .n) (s .pre .0 .framed .header) k in
+    omega (arith, c .index .ensures, s .pre .1 i (omega arith), cell-few t (s .args .n) (s .pre .0) k i lt, s .pre .0 .framed .small .few-cells)
+
+index-in-requires : tie.Need-index-in-requires
+index-in-requires c κs = search needs
+
+slots-requires : tie.Need-slots-requires
+slots-requires c κs = search needs
 
 returns : tie.Need-returns
-returns c = sym (held-out _ _ _ _ _ (omega (arith, c .before .before .before .before .pre .0 .slots-are, c .before .before .index-of .ensures)))
+returns c =
+    let s = c .before .before .before .before in
+    let t = s .args .t .now in
+    let k = kindOf (s .args .kind) in
+    let e = slots-read t (s .args .n) (s .pre .0 .framed .header) k in
+    sym (held-out (configuration t) (rd (configuration t) t) k (s .args .mine) (s .args .s) _ (c .before .before .index-in .ensures) (slots-few t (s .args .n) (s .pre .0) k) (omega (arith, c .before .slots .ensures, c .if1 .taken)))
 
-mul-at : tie.Need-mul-at
-mul-at c = omega (arith, c .before .before .before .before .before .pre .0 .within (c .before .before .before .index-of .result) (c .before .if1 .left))
+record-at-requires : tie.Need-record-at-requires
+record-at-requires c κs = (c .before .before .before .before .pre .0 .framed .small, omega (arith, c .before .slots .ensures, c .if1 .left))
 
-add-at : tie.Need-add-at
-add-at c = omega (arith, c .before .before .before .before .before .before .pre .0 .within (c .before .before .before .before .index-of .result) (c .before .before .if1 .left))
+mul-index : tie.Need-mul-index
+mul-index c = omega (arith, c .before .before .slots .ensures, c .before .if1 .left, slots-small (c .before .before .before .before .before .args .n) (c .before .before .before .before .before .pre .0 .framed .small) (kindOf (c .before .before .before .before .before .args .kind)))
 
-element-copy-out-cell : tie.Need-element-copy-out-cell
-element-copy-out-cell c = search needs
+element-copy-out-index : tie.Need-element-copy-out-index
+element-copy-out-index c = omega (arith, c .before .before .slots .ensures, c .before .if1 .left, slots-small (c .before .before .before .before .before .args .n) (c .before .before .before .before .before .pre .0 .framed .small) (kindOf (c .before .before .before .before .before .args .kind)))
 
-cell-requires : tie.Need-cell-requires
-cell-requires c κs = search needs
-
-is-seid-requires : tie.Need-is-seid-requires
-is-seid-requires c κs = search needs
+index-requires : tie.Need-index-requires
+index-requires c κs = search needs
 
 serial-of-requires : tie.Need-serial-of-requires
 serial-of-requires c κs = search needs
 
 add-result : tie.Need-add-result
-add-result c = omega (arith, c .before .before .before .before .before .before .before .before .before .before .pre .0 .within (c .before .before .before .before .before .before .before .before .index-of .result) (c .before .before .before .before .before .before .if1 .left))
+add-result c = omega (arith, c .before .before .before .record-at .ensures .within, c .before .before .before .record-at .ensures .whole, c .before .before .before .before .before .before .before .before .pre .0 .framed .small .few-files)
 
 mul-result : tie.Need-mul-result
-mul-result c = omega (arith, c .before .before .before .before .before .before .before .before .before .before .pre .0 .within (c .before .before .before .before .before .before .before .before .index-of .result) (c .before .before .before .before .before .before .if1 .left))
+mul-result c = omega (arith, c .before .before .before .record-at .ensures .within, c .before .before .before .record-at .ensures .whole, c .before .before .before .before .before .before .before .before .pre .0 .framed .small .few-files)
 
 shared-slice-read-result : tie.Need-shared-slice-read-result
-shared-slice-read-result c = omega (arith, c .before .before .before .before .before .before .before .before .before .before .before .pre .0 .within (c .before .before .before .before .before .before .before .before .before .index-of .result) (c .before .before .before .before .before .before .before .if1 .left))
+shared-slice-read-result c = omega (arith, c .before .before .before .before .record-at .ensures .within, c .before .before .before .before .record-at .ensures .whole, c .before .before .before .before .before .before .before .before .before .pre .0 .framed .exact)
 
 mul-result-2 : tie.Need-mul-result-2
-mul-result-2 c =
-    let s = c .before .before .before .before .before .before .before .before .before .before .before in
-    let i = c .before .before .before .before .before .before .before .before .before .index-of .result in
-    omega (arith, c .before .before .before .cell .ensures, s .pre .1 i (omega (arith, s .pre .0 .slots-are)), s .pre .0 .cells-few i (c .before .before .before .before .before .before .before .if1 .left))
+mul-result-2 c = omega (arith, cell-low (c .before .before))
 
 index-1-result : tie.Need-index-1-result
-index-1-result c =
-    let s = c .before .before .before .before .before .before .before .before .before .before .before in
-    let i = c .before .before .before .before .before .before .before .before .before .index-of .result in
-    omega (arith, c .before .before .before .cell .ensures, s .pre .1 i (omega (arith, s .pre .0 .slots-are)), s .pre .0 .cells-few i (c .before .before .before .before .before .before .before .if1 .left))
+index-1-result c = omega (arith, cell-low (c .before .before))
 
 index-2-result : tie.Need-index-2-result
 index-2-result c = search needs
 
 returns-2 : tie.Need-returns-2
-unfolding heldOk
 returns-2 c =
-    let s = c .before .before .before .before .before .before .before .before .before .before .before .before in
+    let s = c .before .before .before .before .before .before .before .before .before .before in
     let t = s .args .t .now in
+    let n = s .args .n in
     let k = kindOf (s .args .kind) in
     let h = configuration t in
-    let i = c .before .before .before .before .before .before .before .before .before .before .index-of .result in
-    let lie = s .pre .0 in
-    let cell = c .before .before .before .before .cell .ensures ∙ s .pre .1 i (omega (arith, lie .slots-are)) in
-    let small : c .before .before .before .before .cell .result < maxCells = omega (arith, cell, lie .cells-few i (c .before .before .before .before .before .before .before .before .if1 .left)) in
-    let flow = flow-at h (s .args .flow .now) (s .pre .2) (c .before .before .before .before .cell .result) (s .args .mine) [] small (s .pre .3) in
-    ap₂ _&&_ (c .before .before .before .is-seid .ensures ∙ ap₂ (λ (x n : ℕ). isSeid x n (s .args .s)) (lie .class-is) (lie .slots-are))
-    (ap₂ _&&_ (ap₂ leb (c .before .before .serial-of .ensures) (place-word t k (s .args .o) lie i serial ∙ ap (λ (i : ℕ). rd h t (at k i serial)) (c .before .before .before .before .before .before .before .before .before .before .index-of .ensures)))
-    (flow ∙ ap (λ (x : ℕ). flows h x (s .args .mine)) (cell ∙ ap (cellOf h k) (c .before .before .before .before .before .before .before .before .before .before .index-of .ensures))))
+    let i = c .before .before .before .before .before .before .before .before .index-in .result in
+    let e = slots-read t n (s .pre .0 .framed .header) k in
+    let lt : i < slots h k = omega (arith, c .before .before .before .before .before .before .before .slots .ensures, c .before .before .before .before .before .before .if1 .left) in
+    let cell = c .before .before .before .index .ensures ∙ s .pre .1 i lt in
+    ap₂ _&&_ (ap (ltb 0) (c .before .before .serial-of .ensures))
+    (ap₂ _&&_ (ap₂ leb (c .before .before .serial-of .ensures) (record-word t n (s .pre .0) k i serial _ (c .before .before .before .before .before .record-at .ensures)))
+    (flow-at h (s .args .flow .now) (s .pre .2) (c .before .before .before .index .result) (s .args .mine) [] (cell-low (c .before .before .before)) (s .pre .3) ∙ ap (λ (x : ℕ). flows h x (s .args .mine)) cell))
+    ∙ held-in h (rd h t) k (s .args .mine) (s .args .s) i (c .before .before .before .before .before .before .before .before .index-in .ensures) (slots-few t n (s .pre .0) k) lt
 
 pub held-ok-spec : {M : Type 1} → statement M
 held-ok-spec =
     tie.close
     (tie.spec
-    index-of-requires
+    index-in-requires
+    slots-requires
     returns
-    mul-at
-    add-at
-    element-copy-out-cell
-    cell-requires
-    is-seid-requires
+    record-at-requires
+    mul-index
+    element-copy-out-index
+    index-requires
     serial-of-requires
     add-result
     mul-result

@@ -1,128 +1,107 @@
--- `held::judge_entry` meets its contract: an empty entry, one that may not be held, and one that may.
-use borrow.Author.Needs.{needs}
+-- `held::judge_entry` meets its contract: an index that is no slot's decides, and else the entry is counted for its slot and judged.
 use native.Mathlib.Omega.{arith}
-use mathlib.Core.Path.{_≡_, sym, ap, ap₂, _∙_}
-use mathlib.Core.Bool.{_&&_}
-use Prim.Native.Nat.{ℕ, _+_, _*_, _≤_, _<_}
+use mathlib.Core.Path.{sym, _∙_}
+use Prim.Native.Nat.{_<_}
 use lib.Dec.{eqb}
-use lib.ListN.{length}
-use Rattle.rules.specs.Layout.{cellOf, configuration, at, rd, live, serial}
-use Rattle.laws.proofs.Tests.{passed, failed}
+use Rattle.rules.specs.Layout.{maxSlots, slots, configuration, rd}
+use Rattle.layout.specs.Kinds.{kindOf}
+use Rattle.table.proofs.Config.{slots-read, slots-small}
+use Rattle.table.proofs.Listed.{one-le}
+use Rattle.table.proofs.Holders.{slots-few, entry-out, counted-one, counted-none}
+use borrow.Author.Needs.{needs}
 use Rattle.table.proofs.held.judge_entry.Statement.{statement}
-use Rattle.table.specs.Kinds.{kindOf}
-use Rattle.table.proofs.Holders.{place-word, empty-other, empty-wrong, judged-wrong, judged-held, held-index}
 use Rattle.table.proofs.held.judge_entry.Tie as tie
 
--- the index of an identifier that may be held is in range
-in-range : (c : tie.After-index-of) → c .index-of .result < c .before .before .before .before .before .args .o .slots
-in-range c =
-    let s = c .before .before .before .before .before in
-    omega (arith, c .index-of .ensures, s .pre .0 .slots-are, held-index _ _ _ _ _ (sym (c .before .before .held-ok .ensures) ∙ passed _ (c .before .if3 .left)))
+-- the slot counted is one of the list's
+slot-low : (c : tie.After-index) → c .before .before .before .before .index-in .result < maxSlots
+slot-low c = omega (arith, c .before .before .before .slots .ensures, c .before .before .if1 .left, slots-small (c .before .before .before .before .before .before .before .args .n) (c .before .before .before .before .before .before .before .pre .0 .0 .framed .small) (kindOf (c .before .before .before .before .before .before .before .args .kind)))
 
-within : (c : tie.After-index-of)
-    → (c .before .before .before .before .before .args .o .base + c .before .before .before .before .before .args .o .words * c .index-of .result + 8 ≤ length (c .before .before .before .before .before .args .t .now))
-    × (length (c .before .before .before .before .before .args .t .now) < 65536)
-within c =
-    let lie = c .before .before .before .before .before .pre .0 in
-    (omega (arith, lie .within (c .index-of .result) (in-range c), lie .whole), lie .low)
+-- the slot is one of the table's
+slot-in : (c : tie.After-index) → c .before .before .before .before .index-in .result < slots (configuration (c .before .before .before .before .before .before .before .args .t .now)) (kindOf (c .before .before .before .before .before .before .before .args .kind))
+slot-in c =
+    let s = c .before .before .before .before .before .before .before in
+    let e = slots-read (s .args .t .now) (s .args .n) (s .pre .0 .0 .framed .header) (kindOf (s .args .kind)) in
+    omega (arith, c .before .before .before .slots .ensures, c .before .before .if1 .left)
+
+index-in-requires : tie.Need-index-in-requires
+index-in-requires c κs = search needs
+
+slots-requires : tie.Need-slots-requires
+slots-requires c κs = search needs
 
 returns : tie.Need-returns
-returns c = empty-other _ _ _ _ _ _ (c .before .if1 .taken) (c .if2 .taken)
-
-returns-2 : tie.Need-returns-2
-returns-2 c = empty-wrong _ _ _ _ _ _ (c .before .if1 .taken) (c .if2 .left)
-
-held-ok-requires : tie.Need-held-ok-requires
-held-ok-requires c κs = search needs
-
-returns-3 : tie.Need-returns-3
-returns-3 c = judged-wrong _ _ _ _ _ _ (c .before .before .if1 .left) (sym (c .before .held-ok .ensures) ∙ failed _ (c .if3 .taken))
-
-index-of-requires : tie.Need-index-of-requires
-index-of-requires c κs = search needs
-
-mul-at : tie.Need-mul-at
-mul-at c = omega (arith, within (c .before))
-
-add-at : tie.Need-add-at
-add-at c = omega (arith, within (c .before .before))
-
-element-copy-out-cell : tie.Need-element-copy-out-cell
-element-copy-out-cell c = omega (arith, in-range (c .before .before), c .before .before .before .before .before .before .before .pre .0 .few)
-
-cell-requires : tie.Need-cell-requires
-cell-requires c κs = search needs
-
-add-current : tie.Need-add-current
-add-current c = omega (arith, within (c .before .before .before .before))
-
-mul-current : tie.Need-mul-current
-mul-current c = omega (arith, within (c .before .before .before .before))
-
-shared-slice-read-current : tie.Need-shared-slice-read-current
-shared-slice-read-current c = omega (arith, within (c .before .before .before .before .before))
-
-add-current-2 : tie.Need-add-current-2
-add-current-2 c = omega (arith, within (c .before .before .before .before .before))
-
-mul-current-2 : tie.Need-mul-current-2
-mul-current-2 c = omega (arith, within (c .before .before .before .before .before))
-
-shared-slice-read-current-2 : tie.Need-shared-slice-read-current-2
-shared-slice-read-current-2 c = omega (arith, within (c .before .before .before .before .before .before))
-
-serial-of-requires : tie.Need-serial-of-requires
-serial-of-requires c κs = search needs
-
-valid-use-requires : tie.Need-valid-use-requires
-valid-use-requires c κs = search needs
-
-write-use-requires : tie.Need-write-use-requires
-write-use-requires c κs = search needs
-
-judged-requires : tie.Need-judged-requires
-judged-requires c κs = search needs
-
-returns-4 : tie.Need-returns-4
-returns-4 c =
-    let s = c .before .before .before .before .before .before .before .before .before .before .before .before .before .before .before in
+returns c =
+    let s = c .before .before .before .before .before in
     let t = s .args .t .now in
     let k = kindOf (s .args .kind) in
-    let h = configuration t in
-    let i = c .before .before .before .before .before .before .before .before .before .before .index-of .result in
-    let lie = s .pre .0 in
-    let index = c .before .before .before .before .before .before .before .before .before .before .index-of .ensures in
-    let l = in-range (c .before .before .before .before .before .before .before .before .before .before) in
-    let cell = c .before .before .before .before .before .before .cell .ensures ∙ s .pre .1 i (omega (arith, lie .slots-are)) ∙ ap (cellOf h k) index in
-    c .judged .ensures
-    ∙ judged-held h (rd h t) k (s .args .mine) (s .args .s) (s .args .u) (c .before .before .before .before .before .before .before .before .before .before .before .before .before .if1 .left) (sym (c .before .before .before .before .before .before .before .before .before .before .before .before .held-ok .ensures) ∙ passed _ (c .before .before .before .before .before .before .before .before .before .before .before .if3 .left)) _ _ _ _ _
-    (ap (λ (x : ℕ). eqb x (s .args .mine)) cell)
-    (ap₂ _&&_ (ap (λ (x : ℕ). eqb x 1) (place-word t k (s .args .o) lie i live ∙ ap (λ (i : ℕ). rd h t (at k i live)) index)) (ap₂ eqb (place-word t k (s .args .o) lie i serial ∙ ap (λ (i : ℕ). rd h t (at k i serial)) index) (c .before .before .before .serial-of .ensures)))
-    (c .before .before .valid-use .ensures)
-    (c .before .write-use .ensures)
-    index
+    let e = slots-read t (s .args .n) (s .pre .0 .0 .framed .header) k in
+    (sym (entry-out (configuration t) (rd (configuration t) t) k (s .args .mine) (s .args .s) (s .args .u) _ (s .pre .0 .4) (c .before .before .index-in .ensures) (slots-few t (s .args .n) (s .pre .0 .0) k) (omega (arith, c .before .slots .ensures, c .if1 .taken))), counted-none _ _)
+
+mul-index : tie.Need-mul-index
+mul-index c = omega (arith, c .before .slots .ensures, c .if1 .left, slots-small (c .before .before .before .before .before .args .n) (c .before .before .before .before .before .pre .0 .0 .framed .small) (kindOf (c .before .before .before .before .before .args .kind)))
+
+element-copy-out-index : tie.Need-element-copy-out-index
+element-copy-out-index c = omega (arith, c .before .slots .ensures, c .if1 .left, slots-small (c .before .before .before .before .before .args .n) (c .before .before .before .before .before .pre .0 .0 .framed .small) (kindOf (c .before .before .before .before .before .args .kind)))
+
+index-requires : tie.Need-index-requires
+index-requires c κs = search needs
+
+mul-counts : tie.Need-mul-counts
+mul-counts c = omega (arith, slot-low (c))
+
+slice-read-counts : tie.Need-slice-read-counts
+slice-read-counts c = omega (arith, slot-low (c .before), c .before .before .before .before .before .before .before .before .pre .1 .0)
+
+first-requires : tie.Need-first-requires
+first-requires c κs = search needs
+
+add-counts : tie.Need-add-counts
+add-counts c = omega (arith, c .first .ensures, one-le (eqb (c .before .before .index .result) (c .before .before .before .before .before .before .before .before .before .args .mine)), c .before .before .before .before .before .before .before .before .before .pre .1 .1 (c .before .before .before .before .before .before .index-in .result) (slot-low (c .before .before)))
+
+mul-counts-2 : tie.Need-mul-counts-2
+mul-counts-2 c = omega (arith, slot-low (c .before .before))
+
+slice-write-counts : tie.Need-slice-write-counts
+slice-write-counts c = omega (arith, slot-low (c .before .before), c .before .before .before .before .before .before .before .before .before .pre .1 .0)
+
+entry-ok-requires : tie.Need-entry-ok-requires
+entry-ok-requires c κs =
+    let s = c .before .before .before .before .before .before .before .before .before in
+    let l = slot-in (c .before .before) in
+    let is = c .before .before .before .before .before .before .index-in .ensures .right (omega (arith, slot-low (c .before .before))) in
+    ((s .pre .0 .0, s .pre .0 .2, s .pre .0 .3, l), (is .0, is .1, c .before .before .index .ensures ∙ s .pre .0 .1 (c .before .before .before .before .before .before .index-in .result) l))
+
+same-length : tie.Need-same-length
+same-length c = search needs
+
+returns-2 : tie.Need-returns-2
+returns-2 c =
+    let s = c .before .before .before .before .before .before .before .before .before .before in
+    let t = s .args .t .now in
+    let k = kindOf (s .args .kind) in
+    let l = slot-in (c .before .before .before) in
+    let is = c .before .before .before .before .before .before .before .index-in .ensures .right (omega (arith, slot-low (c .before .before .before))) in (
+      c .entry-ok .ensures,
+      rw (c .before .first .ensures)
+          (counted-one (configuration t) k (s .args .mine) (s .args .s) (c .before .before .before .before .before .before .before .index-in .result) (c .before .before .before .index .result) (is .0) (is .1) (c .before .before .before .index .ensures ∙ s .pre .0 .1 (c .before .before .before .before .before .before .before .index-in .result) l) _ (s .args .counts .now) (omega (arith, slot-low (c .before .before .before), s .pre .1 .0)) (s .pre .1 .0)),
+    )
 
 pub judge-entry-spec : {M : Type 1} → statement M
 judge-entry-spec =
     tie.close
     (tie.spec
+    index-in-requires
+    slots-requires
     returns
-    returns-2
-    held-ok-requires
-    returns-3
-    index-of-requires
-    mul-at
-    add-at
-    element-copy-out-cell
-    cell-requires
-    add-current
-    mul-current
-    shared-slice-read-current
-    add-current-2
-    mul-current-2
-    shared-slice-read-current-2
-    serial-of-requires
-    valid-use-requires
-    write-use-requires
-    judged-requires
-    returns-4)
+    mul-index
+    element-copy-out-index
+    index-requires
+    mul-counts
+    slice-read-counts
+    first-requires
+    add-counts
+    mul-counts-2
+    slice-write-counts
+    entry-ok-requires
+    same-length
+    returns-2)

@@ -1,14 +1,14 @@
 -- `objects::file_ok` meets its contract: the record's words, one by one, and its count.
-use borrow.Author.Needs.{needs}
 use native.Mathlib.Omega.{arith}
-use mathlib.Core.Path.{_≡_, ap, _∙_}
+use mathlib.Core.Path.{ap, _∙_}
 use mathlib.Core.Bool.{Bool, _&&_}
 use Prim.Native.Nat.{_+_}
 use lib.Dec.{eqb}
 use lib.ListN.{getD}
-use Rattle.rules.specs.Layout.{opens}
-use Rattle.table.proofs.objects.file_ok.Statement.{statement}
+use Rattle.rules.specs.Layout.{links, opens}
 use Rattle.table.proofs.Object.{file-claim}
+use borrow.Author.Needs.{needs}
+use Rattle.table.proofs.objects.file_ok.Statement.{statement}
 use Rattle.table.proofs.objects.file_ok.Tie as tie
 
 record-at-requires : tie.Need-record-at-requires
@@ -62,8 +62,11 @@ shared-slice-read-alive c = search needs
 cast-alive : tie.Need-cast-alive
 cast-alive c = search needs
 
+wide-requires-4 : tie.Need-wide-requires-4
+wide-requires-4 c κs = search needs
+
 add-alive-2 : tie.Need-add-alive-2
-add-alive-2 c = omega (arith, c .before .before .before .before .before .before .wide .ensures, c .before .before .before .before .wide2 .ensures, c .before .before .before .before .before .before .before .shared-slice-known2 .given (c .before .before .before .before .before .before .before .before .record-at .result + 5), c .before .before .before .before .before .shared-slice-known3 .given (c .before .before .before .before .before .before .before .before .record-at .result + 7))
+add-alive-2 c = omega (arith, c .before .before .before .before .before .before .wide .ensures, c .before .before .before .before .wide2 .ensures, c .before .before .before .before .before .before .before .shared-slice-known2 .given (c .before .before .before .before .before .before .before .before .record-at .result + links), c .before .before .before .before .before .shared-slice-known3 .given (c .before .before .before .before .before .before .before .before .record-at .result + opens))
 
 record-ok-requires : tie.Need-record-ok-requires
 record-ok-requires c κs = search needs
@@ -81,7 +84,7 @@ returns : tie.Need-returns
 returns c =
     let s = c .before .before .before .before .before .before .before .before .before .before .before .before in
     ap (λ (b : Bool). b && eqb (getD (s .args .t .now) (c .before .before .before .before .before .before .before .before .before .before .record-at .result + opens) 0) (s .args .held)) (c .before .record-ok .ensures)
-    ∙ rw (c .before .before .before .before .wide3 .ensures, c .before .before .before .before .before .before .wide2 .ensures, c .before .before .before .before .before .before .before .before .wide .ensures) (file-claim (s .args .t .now) (s .args .n) (s .pre .0) (s .args .f) _ (s .args .held) (c .before .before .before .before .before .before .before .before .before .before .record-at .ensures) (s .pre .2))
+    ∙ rw (c .before .before .wide4 .ensures, c .before .before .before .before .wide3 .ensures, c .before .before .before .before .before .before .wide2 .ensures, c .before .before .before .before .before .before .before .before .wide .ensures) (file-claim (s .args .t .now) (s .args .n) (s .pre .0) (s .args .f) _ (s .args .held) (c .before .before .before .before .before .before .before .before .before .before .record-at .ensures) (s .pre .2))
 
 pub file-ok-spec : {M : Type 1} → statement M
 file-ok-spec =
@@ -104,6 +107,7 @@ file-ok-spec =
     mul-alive
     shared-slice-read-alive
     cast-alive
+    wide-requires-4
     add-alive-2
     record-ok-requires
     add-result

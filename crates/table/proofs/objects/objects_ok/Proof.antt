@@ -8,7 +8,7 @@ use Rattle.rules.specs.Claim.{test}
 use Rattle.rules.specs.Layout.{slots, configuration, rd}
 use Rattle.rules.specs.WellFormed.{ownEntries}
 use Rattle.table.proofs.objects.objects_ok.Statement.{statement}
-use Rattle.table.specs.Kinds.{kindOf}
+use Rattle.layout.specs.Kinds.{kindOf}
 use Rattle.table.specs.Entries.{objectOk}
 use Rattle.table.proofs.Loops.{all-first, all-next, all-last}
 use Rattle.table.proofs.Config.{slots-read}

@@ -1,6 +1,6 @@
 -- `objects::segment_ok` meets its contract: the record's words, one by one, and its count.
 use borrow.Author.Needs.{needs}
-use mathlib.Core.Path.{_≡_, ap, _∙_}
+use mathlib.Core.Path.{ap, _∙_}
 use mathlib.Core.Bool.{Bool, _&&_}
 use Prim.Native.Nat.{_+_}
 use lib.Dec.{eqb}

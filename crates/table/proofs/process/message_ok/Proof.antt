@@ -1,17 +1,17 @@
 -- `process::message_ok` meets its contract, for a message in the queue and for one past it.
-use borrow.Author.Needs.{needs}
 use native.Mathlib.Omega.{arith}
-use mathlib.Core.Path.{_≡_, sym, ap, ap₂, _∙_}
-use Prim.Native.Nat.{ℕ, _+_, _*_}
+use mathlib.Core.Path.{ap, ap₂, _∙_}
+use Prim.Native.Nat.{ℕ}
 use lib.Dec.{eqb}
 use Rattle.rules.specs.Words.{allBelow}
 use Rattle.rules.specs.Claim.{test}
-use Rattle.rules.specs.Layout.{process, queue, cellOf, messageAt, configuration, at, rd}
+use Rattle.rules.specs.Layout.{process, queue, messageAt, configuration, rd}
 use Rattle.rules.specs.WellFormed.{heldOk}
-use Rattle.table.proofs.process.message_ok.Statement.{statement}
 use Rattle.table.proofs.Config.{slots-read}
-use Rattle.table.proofs.Holders.{record-word, record-words, cell-few, lies}
+use Rattle.table.proofs.Holders.{record-word, record-words, cell-few}
 use Rattle.table.proofs.Alive.{message-held, message-unused}
+use borrow.Author.Needs.{needs}
+use Rattle.table.proofs.process.message_ok.Statement.{statement}
 use Rattle.table.proofs.process.message_ok.Tie as tie
 
 record-at-requires : tie.Need-record-at-requires
@@ -47,34 +47,34 @@ mul-s c = search needs
 shared-slice-read-s : tie.Need-shared-slice-read-s
 shared-slice-read-s c = search needs
 
-objects-requires : tie.Need-objects-requires
-objects-requires c κs = search needs
+mul-index : tie.Need-mul-index
+mul-index c = search needs
 
-element-copy-out-cell : tie.Need-element-copy-out-cell
-element-copy-out-cell c = search needs
+element-copy-out-index : tie.Need-element-copy-out-index
+element-copy-out-index c = search needs
 
-cell-requires : tie.Need-cell-requires
-cell-requires c κs = search needs
+index-requires : tie.Need-index-requires
+index-requires c κs = search needs
 
 held-ok-requires : tie.Need-held-ok-requires
 held-ok-requires c κs =
-    let s = c .before .before .before .before .before .before .before .before .before in
+    let s = c .before .before .before .before .before .before .before .before in
     let t = s .args .t .now in
     let n = s .args .n in
     let e = slots-read t n (s .pre .0 .framed .header) process in
     let few = cell-few t n (s .pre .0) process (s .args .p) (s .pre .3) in
-    (rw (c .before .before .objects .ensures) (lies t n (s .pre .0) process), s .pre .1, s .pre .2, omega (arith, c .cell .ensures, s .pre .1 (s .args .p) (omega arith)))
+    (s .pre .0, s .pre .1, s .pre .2, omega (arith, c .index .ensures, s .pre .1 (s .args .p) (omega arith)))
 
 returns : tie.Need-returns
 returns c =
-    let s = c .before .before .before .before .before .before .before .before .before .before in
+    let s = c .before .before .before .before .before .before .before .before .before in
     let t = s .args .t .now in
     let h = configuration t in
-    let q = record-word t (s .args .n) (s .pre .0) process (s .args .p) queue _ (c .before .before .before .before .before .before .before .before .record-at .ensures) in
+    let q = record-word t (s .args .n) (s .pre .0) process (s .args .p) queue _ (c .before .before .before .before .before .before .before .record-at .ensures) in
     let e = slots-read t (s .args .n) (s .pre .0 .framed .header) process in
-    let word = record-word t (s .args .n) (s .pre .0) process (s .args .p) (messageAt (s .args .m) 0) _ (c .before .before .before .before .before .before .before .before .record-at .ensures) in
-    c .held-ok .ensures ∙ ap₂ (λ (c x : ℕ). test (heldOk h (rd h t) process c x)) (c .before .cell .ensures ∙ s .pre .1 (s .args .p) (omega arith)) word
-    ∙ message-held h (rd h t) (s .args .p) (s .args .m) (omega (arith, c .before .before .before .before .before .before .wide .ensures))
+    let word = record-word t (s .args .n) (s .pre .0) process (s .args .p) (messageAt (s .args .m) 0) _ (c .before .before .before .before .before .before .before .record-at .ensures) in
+    c .held-ok .ensures ∙ ap₂ (λ (c x : ℕ). test (heldOk h (rd h t) process c x)) (c .before .index .ensures ∙ s .pre .1 (s .args .p) (omega arith)) word
+    ∙ message-held h (rd h t) (s .args .p) (s .args .m) (omega (arith, c .before .before .before .before .before .wide .ensures))
 
 zeros-requires : tie.Need-zeros-requires
 zeros-requires c κs = search needs
@@ -104,9 +104,9 @@ message-ok-spec =
     add-s-2
     mul-s
     shared-slice-read-s
-    objects-requires
-    element-copy-out-cell
-    cell-requires
+    mul-index
+    element-copy-out-index
+    index-requires
     held-ok-requires
     returns
     zeros-requires

@@ -1,16 +1,30 @@
 -- `process::process_ok` meets its contract: a live process test by test, and one that is not, which holds nothing.
-use borrow.Author.Needs.{needs}
 use native.Mathlib.Omega.{arith}
-use mathlib.Core.Path.{_≡_, refl, sym, ap, _∙_}
-use Prim.Native.Nat.{ℕ}
+use mathlib.Core.Path.{_≡_, sym, ap, ap₂, _∙_}
+use mathlib.Core.Bool.{_&&_}
+use Prim.Native.Nat.{ℕ, _<_}
 use lib.Dec.{leb, eqb}
-use Rattle.rules.specs.Layout.{process, segment, file, queue, zero6, zero7, cellOf, configuration, at, rd, live}
-use Rattle.table.proofs.process.process_ok.Statement.{statement}
+use Rattle.rules.specs.Layout.{maxCells, process, segment, file, queue, zero6, zero7, cellOf, configuration, at, rd, live}
+use Rattle.laws.proofs.Tests.{and-both}
 use Rattle.table.proofs.Config.{slots-read}
 use Rattle.table.proofs.Holders.{record-word, cell-few}
-use Rattle.table.proofs.Alive.{live-process, dead-process, right-files, right-segments}
-use Rattle.table.proofs.Owned.{entries-read, live-counted, free-counted}
+use Rattle.table.proofs.Alive.{live-process, dead-process, right-files, right-segments, right-once}
+use Rattle.table.proofs.Owned.{entries-read, once-read, live-counted, free-counted}
+use borrow.Author.Needs.{needs}
+use Rattle.table.proofs.process.process_ok.Statement.{statement}
 use Rattle.table.proofs.process.process_ok.Tie as tie
+
+-- the cell of the process
+own : (c : tie.After-index) → c .index .result ≡ cellOf (configuration (c .before .before .before .before .before .before .before .before .args .t .now)) process (c .before .before .before .before .before .before .before .before .args .p)
+own c =
+    let s = c .before .before .before .before .before .before .before .before in
+    let e = slots-read (s .args .t .now) (s .args .n) (s .pre .0 .0 .framed .header) process in
+    c .index .ensures ∙ s .pre .0 .1 (s .args .p) (omega (arith, s .pre .0 .5))
+
+low : (c : tie.After-index) → c .index .result < maxCells
+low c =
+    let s = c .before .before .before .before .before .before .before .before in
+    omega (arith, own c, cell-few (s .args .t .now) (s .args .n) (s .pre .0 .0) process (s .args .p) (s .pre .0 .5), s .pre .0 .0 .framed .small .few-cells)
 
 record-at-requires : tie.Need-record-at-requires
 record-at-requires c κs = search needs
@@ -24,11 +38,26 @@ mul-if1 c = search needs
 shared-slice-read-if1 : tie.Need-shared-slice-read-if1
 shared-slice-read-if1 c = search needs
 
-element-copy-out-cell : tie.Need-element-copy-out-cell
-element-copy-out-cell c = search needs
+mul-index : tie.Need-mul-index
+mul-index c = search needs
 
-cell-requires : tie.Need-cell-requires
-cell-requires c κs = search needs
+element-copy-out-index : tie.Need-element-copy-out-index
+element-copy-out-index c = search needs
+
+index-requires : tie.Need-index-requires
+index-requires c κs = search needs
+
+cast-entry-at : tie.Need-cast-entry-at
+cast-entry-at c = search needs
+
+entry-at-requires : tie.Need-entry-at-requires
+entry-at-requires c κs = search needs
+
+cast-entry-at-2 : tie.Need-cast-entry-at-2
+cast-entry-at-2 c = search needs
+
+entry-at-requires-2 : tie.Need-entry-at-requires-2
+entry-at-requires-2 c κs = search needs
 
 parent-ok-requires : tie.Need-parent-ok-requires
 parent-ok-requires c κs = search needs
@@ -63,36 +92,21 @@ mul-alive-2 c = search needs
 shared-slice-read-alive-2 : tie.Need-shared-slice-read-alive-2
 shared-slice-read-alive-2 c = search needs
 
-entries-ok-requires : tie.Need-entries-ok-requires
-entries-ok-requires c κs =
-    let s = c .before .before .before .before .before .before .before .before .before .before .before .before .before .before in
-    let e = slots-read (s .args .t .now) (s .args .n) (s .pre .0 .0 .framed .header) process in
-    let few = cell-few (s .args .t .now) (s .args .n) (s .pre .0 .0) process (s .args .p) (s .pre .0 .5) in
-    let own = c .before .before .before .before .before .before .cell .ensures ∙ s .pre .0 .1 (s .args .p) (omega arith) in
-    (s .pre .0 .0, s .pre .0 .3, s .pre .0 .4, omega arith, omega (arith, c .before .before .before .before .before .before .before .before .before .before .record-at .ensures .within, s .pre .0 .0 .framed .exact), s .pre .1 .1)
+descriptors-ok-requires : tie.Need-descriptors-ok-requires
+descriptors-ok-requires c κs =
+    let s = c .before .before .before .before .before .before .before .before .before .before .before .before .before .before .before .before in
+    (s .pre .0 .0, s .pre .0 .3, s .pre .0 .4, low (c .before .before .before .before .before .before .before .before), s .pre .1 .1, omega (arith, c .before .before .before .before .before .before .before .entry-at .ensures .0, c .before .before .before .before .before .before .before .before .before .before .before .before .record-at .ensures .at-is, c .before .before .before .before .before .before .before .before .before .before .before .before .record-at .ensures .within, s .pre .0 .0 .framed .exact))
 
-entries-ok-requires-2 : tie.Need-entries-ok-requires-2
-entries-ok-requires-2 c κs =
-    let s = c .before .before .before .before .before .before .before .before .before .before .before .before .before .before .before .before .before .before in
-    let e = slots-read (s .args .t .now) (s .args .n) (s .pre .0 .0 .framed .header) process in
-    let few = cell-few (s .args .t .now) (s .args .n) (s .pre .0 .0) process (s .args .p) (s .pre .0 .5) in
-    let own = c .before .before .before .before .before .before .before .before .before .before .cell .ensures ∙ s .pre .0 .1 (s .args .p) (omega arith) in
-    (s .pre .0 .0, s .pre .0 .2, s .pre .0 .4, omega arith, omega (arith, c .before .before .before .before .before .before .before .before .before .before .before .before .before .before .record-at .ensures .within, s .pre .0 .0 .framed .exact), s .pre .1 .0)
-
-held-once-requires : tie.Need-held-once-requires
-held-once-requires c κs =
-    let s = c .before .before .before .before .before .before .before .before .before .before .before .before .before .before .before .before .before .before .before .before .before in
-    (s .pre .0 .0, s .pre .0 .5)
+designators-ok-requires : tie.Need-designators-ok-requires
+designators-ok-requires c κs =
+    let s = c .before .before .before .before .before .before .before .before .before .before .before .before .before .before .before .before .before .before .before .before in
+    (s .pre .0 .0, s .pre .0 .2, s .pre .0 .4, low (c .before .before .before .before .before .before .before .before .before .before .before .before), s .pre .1 .0, omega (arith, c .before .before .before .before .before .before .before .before .before .before .entry-at2 .ensures .0, c .before .before .before .before .before .before .before .before .before .before .before .before .before .before .before .before .record-at .ensures .at-is, c .before .before .before .before .before .before .before .before .before .before .before .before .before .before .before .before .record-at .ensures .within, s .pre .0 .0 .framed .exact))
 
 messages-ok-requires : tie.Need-messages-ok-requires
-messages-ok-requires c κs =
-    let s = c .before .before .before .before .before .before .before .before .before .before .before .before .before .before .before .before .before .before .before .before .before .before in
-    (s .pre .0 .0, s .pre .0 .1, s .pre .0 .4, s .pre .0 .5)
+messages-ok-requires c κs = let s = c .before .before .before .before .before .before .before .before .before .before .before .before .before .before .before .before .before .before .before .before .before .before .before in (s .pre .0 .0, s .pre .0 .1, s .pre .0 .4, s .pre .0 .5)
 
 record-ok-requires : tie.Need-record-ok-requires
-record-ok-requires c κs =
-    let s = c .before .before .before .before .before .before .before .before .before .before .before .before .before .before .before .before .before .before .before .before .before .before .before in
-    (omega (arith, c .before .before .before .before .before .before .before .before .before .before .before .before .before .before .before .before .before .before .before .record-at .ensures .within, s .pre .0 .0 .framed .exact), omega arith)
+record-ok-requires c κs = (omega (arith, c .before .before .before .before .before .before .before .before .before .before .before .before .before .before .before .before .before .before .before .before .record-at .ensures .within, c .before .before .before .before .before .before .before .before .before .before .before .before .before .before .before .before .before .before .before .before .before .before .before .before .pre .0 .0 .framed .exact), omega arith)
 
 same-length : tie.Need-same-length
 same-length c = search needs
@@ -102,35 +116,35 @@ same-length-2 c = search needs
 
 returns : tie.Need-returns
 returns c =
-    let s = c .before .before .before .before .before .before .before .before .before .before .before .before .before .before .before .before .before .before .before .before .before .before .before .before in
+    let s = c .before .before .before .before .before .before .before .before .before .before .before .before .before .before .before .before .before .before .before .before .before .before .before .before .before in
     let t = s .args .t .now in
     let n = s .args .n in
     let p = s .args .p in
-    let lies = c .before .before .before .before .before .before .before .before .before .before .before .before .before .before .before .before .before .before .before .before .record-at .ensures in
-    let e = slots-read t n (s .pre .0 .0 .framed .header) process in
-    let own = c .before .before .before .before .before .before .before .before .before .before .before .before .before .before .before .before .cell .ensures ∙ s .pre .0 .1 p (omega arith) in
-    let files = entries-read t n (s .pre .0 .0) p _ _ lies own file 8 in
-    let segments = entries-read t n (s .pre .0 .0) p _ _ lies own segment 40 in
+    let lies = c .before .before .before .before .before .before .before .before .before .before .before .before .before .before .before .before .before .before .before .before .before .record-at .ensures in
+    let mine = own (c .before .before .before .before .before .before .before .before .before .before .before .before .before .before .before .before .before) in
+    let files = entries-read t n (s .pre .0 .0) p _ mine file (λ d. (omega arith, omega arith)) _ (c .before .before .before .before .before .before .before .before .before .before .before .before .before .before .before .before .entry-at .ensures .0) in
+    let segments = entries-read t n (s .pre .0 .0) p _ mine segment (λ d. (omega arith, omega arith)) _ (c .before .before .before .before .before .before .before .before .before .before .before .before .before .before .before .entry-at2 .ensures .0) in
+    let once = once-read t n (s .pre .0 .0) p _ (c .before .before .before .before .before .before .before .before .before .before .before .before .before .before .before .entry-at2 .ensures .0) in
+    let held = c .before .before .before .before .designators-ok .ensures .0 ∙ ap₂ _&&_ segments once in
     let says =
     c .record-ok .ensures
-    ∙ live-process t n (s .pre .0 .0) p _ lies _ _ _ _ _ _ _ _
-    (c .before .before .before .before .before .before .before .before .before .before .before .before .before .before .before .parent-ok .ensures)
-    (ap (λ (x : ℕ). leb x 8) (c .before .before .before .before .before .before .before .before .before .before .before .before .before .wide .ensures ∙ record-word t n (s .pre .0 .0) process p queue _ lies))
+    ∙ live-process t n (s .pre .0 .0) p _ lies _ _ _ _ _ _ _
+    (c .before .before .before .before .before .before .before .before .before .before .before .before .before .before .parent-ok .ensures)
+    (ap (λ (x : ℕ). leb x 8) (c .before .before .before .before .before .before .before .before .before .before .before .before .wide .ensures ∙ record-word t n (s .pre .0 .0) process p queue _ lies))
     (ap (λ (x : ℕ). eqb x 0) (record-word t n (s .pre .0 .0) process p zero6 _ lies))
     (ap (λ (x : ℕ). eqb x 0) (record-word t n (s .pre .0 .0) process p zero7 _ lies))
-    (c .before .before .before .before .before .before .before .before .before .entries-ok .ensures .0 ∙ files)
-    (c .before .before .before .before .before .entries-ok2 .ensures .0 ∙ segments)
-    (c .before .before .held-once .ensures)
+    (c .before .before .before .before .before .before .before .before .descriptors-ok .ensures .0 ∙ files)
+    held
     (c .before .messages-ok .ensures) in
-    let live = record-word t n (s .pre .0 .0) process p live _ lies in (
+    let alive = sym (record-word t n (s .pre .0 .0) process p live _ lies) ∙ c .before .before .before .before .before .before .before .before .before .before .before .before .before .before .before .before .before .before .before .if1 .taken in (
       says,
       (
         λ good.
-            let right = right-segments (configuration t) (rd (configuration t) t) p (sym live ∙ c .before .before .before .before .before .before .before .before .before .before .before .before .before .before .before .before .before .before .if1 .taken) (sym says ∙ good) in
-            live-counted t n (s .pre .0 .0) p _ _ lies own segment 40 _ _ (λ d l. refl) (segments ∙ right) (c .before .before .before .before .before .entries-ok2 .ensures .1 (c .before .before .before .before .before .entries-ok2 .ensures .0 ∙ segments ∙ right)),
+            let right = right-segments (configuration t) (rd (configuration t) t) p alive (sym says ∙ good) in
+            live-counted t n (s .pre .0 .0) p _ mine segment (λ d. (omega arith, omega arith)) _ (c .before .before .before .before .before .before .before .before .before .before .before .before .before .before .before .entry-at2 .ensures .0) _ _ _ (c .before .before .before .before .designators-ok .ensures .1) (held ∙ and-both _ _ right (right-once (configuration t) (rd (configuration t) t) p alive (sym says ∙ good))) right,
         λ good.
-            let right = right-files (configuration t) (rd (configuration t) t) p (sym live ∙ c .before .before .before .before .before .before .before .before .before .before .before .before .before .before .before .before .before .before .if1 .taken) (sym says ∙ good) in
-            live-counted t n (s .pre .0 .0) p _ _ lies own file 8 _ _ (λ d l. refl) (files ∙ right) (c .before .before .before .before .before .before .before .before .before .entries-ok .ensures .1 (c .before .before .before .before .before .before .before .before .before .entries-ok .ensures .0 ∙ files ∙ right)),
+            let right = right-files (configuration t) (rd (configuration t) t) p alive (sym says ∙ good) in
+            live-counted t n (s .pre .0 .0) p _ mine file (λ d. (omega arith, omega arith)) _ (c .before .before .before .before .before .before .before .before .before .before .before .before .before .before .before .before .entry-at .ensures .0) _ _ _ (c .before .before .before .before .before .before .before .before .descriptors-ok .ensures .1) (c .before .before .before .before .before .before .before .before .descriptors-ok .ensures .0 ∙ files ∙ right) right,
       ),
     )
 
@@ -156,8 +170,13 @@ process-ok-spec =
     add-if1
     mul-if1
     shared-slice-read-if1
-    element-copy-out-cell
-    cell-requires
+    mul-index
+    element-copy-out-index
+    index-requires
+    cast-entry-at
+    entry-at-requires
+    cast-entry-at-2
+    entry-at-requires-2
     parent-ok-requires
     add-wide
     mul-wide
@@ -169,9 +188,8 @@ process-ok-spec =
     add-alive-2
     mul-alive-2
     shared-slice-read-alive-2
-    entries-ok-requires
-    entries-ok-requires-2
-    held-once-requires
+    descriptors-ok-requires
+    designators-ok-requires
     messages-ok-requires
     record-ok-requires
     same-length

@@ -1,5 +1,4 @@
 -- `process::processes_ok` meets its contract: every process passed is right and counted, and one that is wrong decides.
-use borrow.Author.Needs.{needs}
 use native.Mathlib.Omega.{arith}
 use mathlib.Core.Path.{_≡_, sym, _∙_}
 use mathlib.Core.Bool.{true, true≢false}
@@ -9,32 +8,40 @@ use Rattle.rules.specs.Claim.{test}
 use Rattle.rules.specs.Layout.{process, segment, file, slots, configuration, rd}
 use Rattle.rules.specs.WellFormed.{processOk}
 use Rattle.laws.proofs.Tests.{passed, failed}
-use Rattle.table.proofs.process.processes_ok.Statement.{statement}
+use Rattle.layout.specs.Header.{slotsOf}
 use Rattle.table.specs.Entries.{Tally}
 use Rattle.table.proofs.Loops.{all-first, all-next, all-last}
 use Rattle.table.proofs.Config.{slots-read}
 use Rattle.table.proofs.Object.{tally-next, all-not}
+use borrow.Author.Needs.{needs}
+use Rattle.table.proofs.process.processes_ok.Statement.{statement}
 use Rattle.table.proofs.process.processes_ok.Tie as tie
 
 abbrev Inv-loop : tie.InvT-loop
-Inv-loop t n cells segment-cells file-cells flow references₀ opens₀ p₀ p-end references opens p = (p ≤ p-end) × (p-end ≡ slots (configuration t) process) × (true ≡ allBelow p (λ p. test (processOk (configuration t) (rd (configuration t) t) p))) × Tally (configuration t) (rd (configuration t) t) segment p references × Tally (configuration t) (rd (configuration t) t) file p opens
+Inv-loop t n cells segment-cells file-cells flow references₀ opens₀ p₀ p-end references opens p =
+    (p ≤ p-end) × (p-end ≡ slots (configuration t) process) × (p-end ≡ slotsOf n process)
+    × (true ≡ allBelow p (λ p. test (processOk (configuration t) (rd (configuration t) t) p)))
+    × Tally (configuration t) (rd (configuration t) t) segment p references × Tally (configuration t) (rd (configuration t) t) file p opens
 
 abbrev μ-loop : tie.MeasureT-loop
 μ-loop t n cells segment-cells file-cells flow references₀ opens₀ p₀ p-end references opens p = p-end - p
 
+slots-requires : tie.Need-slots-requires Inv-loop μ-loop
+slots-requires c κs = search needs
+
 loop-holds : tie.Need-loop-holds Inv-loop μ-loop
 loop-holds c =
-    let s = c .before .before .before in
-    (search needs, sym (slots-read (s .args .t .now) (s .args .n) (s .pre .0 .0 .framed .header) process), all-first _, s .pre .1 .0, s .pre .1 .1)
+    let s = c .before .before .before .before in
+    (search needs, c .slots .ensures ∙ sym (slots-read (s .args .t .now) (s .args .n) (s .pre .0 .0 .framed .header) process), c .slots .ensures, all-first _, s .pre .1 .0, s .pre .1 .1)
 
 process-ok-requires : tie.Need-process-ok-requires Inv-loop μ-loop
 process-ok-requires c κs =
-    let s = c .before .before .before .before .before .before .before in
+    let s = c .before .before .before .before .before .before .before .before in
     let l = c .before .before .before .loop in (
-      (s .pre .0 .0, s .pre .0 .1, s .pre .0 .2, s .pre .0 .3, s .pre .0 .4, omega arith),
+      (s .pre .0 .0, s .pre .0 .1, s .pre .0 .2, s .pre .0 .3, s .pre .0 .4, omega (arith, l .inv .2, c .before .before .loop-test .taken)),
       (
-        record { long = l .inv .3 .long; room = λ i m. omega (arith, l .inv .3 .few i m) },
-        record { long = l .inv .4 .long; room = λ i m. omega (arith, l .inv .4 .few i m) },
+        record { long = l .inv .4 .long; room = λ i m. omega (arith, l .inv .4 .few i m, l .inv .2, c .before .before .loop-test .taken, s .pre .0 .0 .framed .small .few-processes) },
+        record { long = l .inv .5 .long; room = λ i m. omega (arith, l .inv .5 .few i m, l .inv .2, c .before .before .loop-test .taken, s .pre .0 .0 .framed .small .few-processes) },
       ),
     )
 
@@ -48,7 +55,7 @@ returns : tie.Need-returns Inv-loop μ-loop
 returns c =
     let l = c .before .before .before .before .before .before .before .before .before .loop in
     let bad = failed _ (c .if1 .taken) in (
-      sym (all-not _ _ (l .p) (omega (arith, l .inv .1)) (sym (c .before .before .before .before .before .process-ok .ensures .0) ∙ bad)),
+      sym (all-not _ _ (l .p) (omega (arith, l .inv .1, c .before .before .before .before .before .before .before .before .loop-test .taken)) (sym (c .before .before .before .before .before .process-ok .ensures .0) ∙ bad)),
       (λ e. absurd (true≢false (sym e)), λ e. absurd (true≢false (sym e))),
     )
 
@@ -64,9 +71,10 @@ loop-again c =
     let good = passed _ (c .if1 .left) in (
       search needs,
       search needs,
-      all-next _ (l .inv .2) (sym good ∙ c .before .before .before .before .before .process-ok .ensures .0),
-      tally-next _ _ _ (l .p) _ _ (l .inv .3) (c .before .before .before .before .before .process-ok .ensures .1 .0 good) (c .before .before .before .before .before .process-ok .kept .1 .1 .1 .1 .1 .1 .1 .0),
-      tally-next _ _ _ (l .p) _ _ (l .inv .4) (c .before .before .before .before .before .process-ok .ensures .1 .1 good) (c .before .before .before .before .before .process-ok .kept .1 .1 .1 .1 .1 .1 .1 .1 .0),
+      search needs,
+      all-next _ (l .inv .3) (sym good ∙ c .before .before .before .before .before .process-ok .ensures .0),
+      tally-next _ _ _ (l .p) _ _ (l .inv .4) (c .before .before .before .before .before .process-ok .ensures .1 .0 good) (c .before .before .before .before .before .process-ok .kept .1 .1 .1 .1 .1 .1 .1 .0),
+      tally-next _ _ _ (l .p) _ _ (l .inv .5) (c .before .before .before .before .before .process-ok .ensures .1 .1 good) (c .before .before .before .before .before .process-ok .kept .1 .1 .1 .1 .1 .1 .1 .1 .0),
     )
 
 same-length-3 : tie.Need-same-length-3 Inv-loop μ-loop
@@ -78,8 +86,8 @@ same-length-4 c = search needs
 returns-2 : tie.Need-returns-2 Inv-loop μ-loop
 returns-2 c =
     let l = c .before .loop in
-    let end : l .p ≡ slots (configuration (c .before .before .before .before .before .args .t .now)) process = omega (arith, l .inv .1) in
-    (all-last _ (l .inv .2) (l .inv .0) (c .loop-test .left) (l .inv .1), (λ e. rw end at (l .inv .3), λ e. rw end at (l .inv .4)))
+    let end : l .p ≡ slots (configuration (c .before .before .before .before .before .before .args .t .now)) process = omega (arith, l .inv .0, l .inv .1, c .loop-test .left) in
+    (all-last _ (l .inv .3) (l .inv .0) (c .loop-test .left) (l .inv .1), (λ e. rw end at (l .inv .4), λ e. rw end at (l .inv .5)))
 
 pub processes-ok-spec : {M : Type 1} → statement M
 processes-ok-spec =
@@ -87,6 +95,7 @@ processes-ok-spec =
     (tie.spec
     Inv-loop
     μ-loop
+    slots-requires
     loop-holds
     process-ok-requires
     same-length

@@ -1,9 +1,8 @@
 -- `records::record_ok` meets its contract, for a free record and for any other.
 use borrow.Author.Needs.{needs}
-use mathlib.Core.Path.{_≡_, sym, ap, ap₂, _∙_}
 use Rattle.rules.specs.Claim.{is}
 use Rattle.table.proofs.records.record_ok.Statement.{statement}
-use Rattle.table.specs.Kinds.{kindOf}
+use Rattle.layout.specs.Kinds.{kindOf}
 use Rattle.table.specs.Entries.{recordAt}
 use Rattle.table.proofs.Record.{free-record, other-record}
 use Rattle.table.proofs.records.record_ok.Tie as tie

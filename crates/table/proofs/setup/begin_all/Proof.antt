@@ -1,10 +1,10 @@
 -- `setup::begin_all` meets its contract: the first processes of the cells passed have begun.
-use borrow.Author.Needs.{needs}
 use native.Mathlib.Omega.{arith}
 use mathlib.Core.Path.{refl}
 use Prim.Native.Nat.{_-_}
-use Rattle.table.proofs.setup.begin_all.Statement.{statement}
 use Rattle.table.proofs.Begun.{Begun, begun-none, begun-long, begun-low, cell-in, record-in, slot-in, begun-more, begun-all}
+use borrow.Author.Needs.{needs}
+use Rattle.table.proofs.setup.begin_all.Statement.{statement}
 use Rattle.table.proofs.setup.begin_all.Tie as tie
 
 abbrev Inv-loop : tie.InvT-loop
@@ -14,10 +14,13 @@ abbrev μ-loop : tie.MeasureT-loop
 μ-loop t₀ base slot₀ c₀ c-end t slot c = c-end - c
 
 base-requires : tie.Need-base-requires Inv-loop μ-loop
-base-requires c κs = c .before .pre .0 .small
+base-requires c κs = search needs
+
+wide-requires : tie.Need-wide-requires Inv-loop μ-loop
+wide-requires c κs = search needs
 
 loop-holds : tie.Need-loop-holds Inv-loop μ-loop
-loop-holds c = begun-none _ _ _ (c .before .before .pre .0) (c .before .before .pre .1) (c .base .ensures)
+loop-holds c = rw (c .wide .ensures) (begun-none _ _ _ (c .before .before .before .pre .0) (c .before .before .before .pre .1) (c .before .base .ensures .0))
 
 mul-cell : tie.Need-mul-cell Inv-loop μ-loop
 mul-cell c = omega (arith, begun-low _ _ _ _ _ _ (c .before .loop .inv), cell-in _ _ _ _ _ _ (c .before .loop .inv) (c .loop-test .taken))
@@ -34,8 +37,8 @@ mul-wide c = omega (arith, begun-low _ _ _ _ _ _ (c .before .loop .inv), cell-in
 slice-read-wide : tie.Need-slice-read-wide Inv-loop μ-loop
 slice-read-wide c = omega (arith, cell-in _ _ _ _ _ _ (c .before .before .loop .inv) (c .before .loop-test .taken))
 
-wide-requires : tie.Need-wide-requires Inv-loop μ-loop
-wide-requires c κs = search needs
+wide-requires-2 : tie.Need-wide-requires-2 Inv-loop μ-loop
+wide-requires-2 c κs = search needs
 
 add-owner : tie.Need-add-owner Inv-loop μ-loop
 add-owner c = omega (arith, begun-low _ _ _ _ _ _ (c .before .before .before .loop .inv), cell-in _ _ _ _ _ _ (c .before .before .before .loop .inv) (c .before .before .loop-test .taken))
@@ -65,7 +68,7 @@ begin-requires : tie.Need-begin-requires Inv-loop μ-loop
 begin-requires c κs = omega (arith, record-in _ _ _ _ _ _ (c .before .before .before .before .before .before .loop .inv) (c .before .before .before .before .before .loop-test .taken))
 
 add-slot : tie.Need-add-slot Inv-loop μ-loop
-add-slot c = omega (arith, slot-in _ _ _ _ _ _ (c .before .before .before .before .before .before .before .before .before .loop .inv) (c .before .before .before .before .before .before .before .before .loop-test .taken) _ (c .before .before .before .before .before .before .wide .ensures))
+add-slot c = omega (arith, slot-in _ _ _ _ _ _ (c .before .before .before .before .before .before .before .before .before .loop .inv) (c .before .before .before .before .before .before .before .before .loop-test .taken) _ (c .before .before .before .before .before .before .wide2 .ensures))
 
 add-c : tie.Need-add-c Inv-loop μ-loop
 add-c c = omega (arith, c .before .before .before .before .before .before .before .before .loop-test .taken)
@@ -74,7 +77,7 @@ loop-less : tie.Need-loop-less Inv-loop μ-loop
 loop-less c = search needs
 
 loop-again : tie.Need-loop-again Inv-loop μ-loop
-loop-again c = begun-more _ _ _ _ _ _ (c .before .before .before .before .before .before .before .before .before .loop .inv) (c .before .before .before .before .before .before .before .before .loop-test .taken) _ _ _ _ (c .before .before .before .before .before .before .wide .ensures) refl refl (c .before .before .begin .ensures)
+loop-again c = begun-more _ _ _ _ _ _ (c .before .before .before .before .before .before .before .before .before .loop .inv) (c .before .before .before .before .before .before .before .before .loop-test .taken) _ _ _ _ (c .before .before .before .before .before .before .wide2 .ensures) refl refl (c .before .before .begin .ensures)
 
 same-length : tie.Need-same-length Inv-loop μ-loop
 same-length c = begun-long _ _ _ _ _ _ (c .before .loop .inv)
@@ -89,13 +92,14 @@ begin-all-spec =
     Inv-loop
     μ-loop
     base-requires
+    wide-requires
     loop-holds
     mul-cell
     add-cell
     add-wide
     mul-wide
     slice-read-wide
-    wide-requires
+    wide-requires-2
     add-owner
     mul-owner
     slice-read-owner

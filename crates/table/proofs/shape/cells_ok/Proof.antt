@@ -1,15 +1,15 @@
 -- `shape::cells_ok` meets its contract: `ok` says that every cell passed is right.
-use borrow.Author.Needs.{needs}
+use native.Mathlib.Omega.{arith}
 use mathlib.Core.Path.{_≡_, sym, _∙_}
 use Prim.Native.Nat.{_≤_, _-_}
-use lib.ListN.{getD}
 use Rattle.rules.specs.Words.{allBelow}
 use Rattle.rules.specs.Claim.{test}
 use Rattle.rules.specs.Layout.{cells, configuration}
 use Rattle.rules.specs.WellFormed.{cellOk}
-use Rattle.table.proofs.shape.cells_ok.Statement.{statement}
 use Rattle.table.proofs.Loops.{all-first, all-next, all-last}
 use Rattle.table.proofs.Config.{cells-read}
+use borrow.Author.Needs.{needs}
+use Rattle.table.proofs.shape.cells_ok.Statement.{statement}
 use Rattle.table.proofs.shape.cells_ok.Tie as tie
 
 abbrev Inv-loop : tie.InvT-loop
@@ -18,11 +18,15 @@ Inv-loop t ok₀ c₀ c-end ok c = (c ≤ c-end) × (c-end ≡ cells (configurat
 abbrev μ-loop : tie.MeasureT-loop
 μ-loop t ok₀ c₀ c-end ok c = c-end - c
 
+wide-requires : tie.Need-wide-requires Inv-loop μ-loop
+wide-requires c κs = search needs
+
 loop-holds : tie.Need-loop-holds Inv-loop μ-loop
-loop-holds c = (search needs, sym (cells-read _ _ (c .before .pre .header)), all-first _)
+loop-holds c = (search needs, c .wide .ensures ∙ sym (cells-read _ _ (c .before .before .pre .header)), all-first _)
 
 cell-ok-requires : tie.Need-cell-ok-requires Inv-loop μ-loop
-cell-ok-requires c κs = search needs
+cell-ok-requires c κs =
+    (omega (arith, c .before .before .wide .ensures, c .loop-test .taken, c .before .before .before .before .pre .header .cells-is), omega (arith, c .before .before .wide .ensures, c .loop-test .taken, c .before .before .before .before .pre .exact))
 
 add-c : tie.Need-add-c Inv-loop μ-loop
 add-c c = search needs
@@ -39,4 +43,13 @@ returns c = all-last _ (c .before .loop .inv .2) (c .before .loop .inv .0) (c .l
 pub cells-ok-spec : {M : Type 1} → statement M
 cells-ok-spec =
     tie.close
-    (tie.spec Inv-loop μ-loop loop-holds cell-ok-requires add-c loop-less loop-again returns)
+    (tie.spec
+    Inv-loop
+    μ-loop
+    wide-requires
+    loop-holds
+    cell-ok-requires
+    add-c
+    loop-less
+    loop-again
+    returns)

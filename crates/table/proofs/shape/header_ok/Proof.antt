@@ -1,14 +1,22 @@
 -- `shape::header_ok` meets its contract: the header's claims, word by word.
-use borrow.Author.Needs.{needs}
-use lib.ListN.{getD}
-use Rattle.rules.specs.Layout.{cells, slots, blocks, configuration, process, segment, file}
+use Rattle.rules.specs.Layout.{process, segment, file}
 use Rattle.rules.specs.WellFormed.{headerOk}
+use Rattle.table.proofs.Config.{head-word, cells-read, slots-read, blocks-read}
+use borrow.Author.Needs.{needs}
 use Rattle.table.proofs.shape.header_ok.Statement.{statement}
-use Rattle.table.proofs.Config.{head-word, cells-read, slots-read, base-read, blocks-read}
 use Rattle.table.proofs.shape.header_ok.Tie as tie
 
 cast-result : tie.Need-cast-result
 cast-result c = search needs
+
+cast-result-2 : tie.Need-cast-result-2
+cast-result-2 c = search needs
+
+cast-result-3 : tie.Need-cast-result-3
+cast-result-3 c = search needs
+
+cast-result-4 : tie.Need-cast-result-4
+cast-result-4 c = search needs
 
 shared-slice-read-result : tie.Need-shared-slice-read-result
 shared-slice-read-result c = search needs
@@ -41,6 +49,9 @@ header-ok-spec =
     tie.close
     (tie.spec
     cast-result
+    cast-result-2
+    cast-result-3
+    cast-result-4
     shared-slice-read-result
     shared-slice-read-result-2
     shared-slice-read-result-3

@@ -1,15 +1,16 @@
 -- `shape::levels_distinct` meets its contract: `ok` says that every cell passed has a level of its own.
-use borrow.Author.Needs.{needs}
-use mathlib.Core.Path.{_≡_, sym}
+use native.Mathlib.Omega.{arith}
+use mathlib.Core.Path.{_≡_, sym, _∙_}
 use mathlib.Core.Bool.{not}
 use Prim.Native.Nat.{_≤_, _-_}
 use Rattle.rules.specs.Words.{allBelow}
 use Rattle.rules.specs.Level.{equals}
 use Rattle.rules.specs.Layout.{cells, levelOf, configuration}
 use Rattle.rules.specs.WellFormed.{levelsDistinct}
-use Rattle.table.proofs.shape.levels_distinct.Statement.{statement}
 use Rattle.table.proofs.Loops.{all-first, all-next, all-last}
 use Rattle.table.proofs.Config.{cells-read}
+use borrow.Author.Needs.{needs}
+use Rattle.table.proofs.shape.levels_distinct.Statement.{statement}
 use Rattle.table.proofs.shape.levels_distinct.Tie as tie
 
 abbrev Inv-loop : tie.InvT-loop
@@ -18,11 +19,15 @@ Inv-loop t ok₀ d₀ d-end ok d = (d ≤ d-end) × (d-end ≡ cells (configurat
 abbrev μ-loop : tie.MeasureT-loop
 μ-loop t ok₀ d₀ d-end ok d = d-end - d
 
+wide-requires : tie.Need-wide-requires Inv-loop μ-loop
+wide-requires c κs = search needs
+
 loop-holds : tie.Need-loop-holds Inv-loop μ-loop
-loop-holds c = (search needs, sym (cells-read _ _ (c .before .pre .header)), all-first _)
+loop-holds c = (search needs, c .wide .ensures ∙ sym (cells-read _ _ (c .before .before .pre .header)), all-first _)
 
 level-fresh-requires : tie.Need-level-fresh-requires Inv-loop μ-loop
-level-fresh-requires c κs = search needs
+level-fresh-requires c κs =
+    (omega (arith, c .before .before .wide .ensures, c .loop-test .taken, c .before .before .before .before .pre .header .cells-is), omega (arith, c .before .before .wide .ensures, c .loop-test .taken, c .before .before .before .before .pre .exact))
 
 add-d : tie.Need-add-d Inv-loop μ-loop
 add-d c = search needs
@@ -40,4 +45,13 @@ returns c = all-last _ (c .before .loop .inv .2) (c .before .loop .inv .0) (c .l
 pub levels-distinct-spec : {M : Type 1} → statement M
 levels-distinct-spec =
     tie.close
-    (tie.spec Inv-loop μ-loop loop-holds level-fresh-requires add-d loop-less loop-again returns)
+    (tie.spec
+    Inv-loop
+    μ-loop
+    wide-requires
+    loop-holds
+    level-fresh-requires
+    add-d
+    loop-less
+    loop-again
+    returns)

@@ -1,0 +1,41 @@
+-- `once::key` meets its contract.
+use native.Mathlib.Omega.{arith}
+use mathlib.Core.Path.{ap₂, _∙_}
+use Prim.Native.Nat.{ℕ, _+_, _*_, _%_}
+use Rattle.laws.proofs.Seids.{index-small, serial-small}
+use borrow.Author.Needs.{needs}
+use Rattle.table.proofs.once.key.Statement.{statement}
+use Rattle.table.proofs.once.key.Tie as tie
+
+index-of-requires : tie.Need-index-of-requires
+index-of-requires c κs = search needs
+
+wide-requires : tie.Need-wide-requires
+wide-requires c κs = search needs
+
+serial-of-requires : tie.Need-serial-of-requires
+serial-of-requires c κs = search needs
+
+wide-requires-2 : tie.Need-wide-requires-2
+wide-requires-2 c κs = search needs
+
+mul-result : tie.Need-mul-result
+mul-result c = omega (arith, c .wide2 .ensures, c .before .serial-of .ensures, serial-small (c .before .before .before .before .args .s))
+
+add-result : tie.Need-add-result
+add-result c = omega (arith, c .wide2 .ensures, c .before .serial-of .ensures, serial-small (c .before .before .before .before .args .s), c .before .before .wide .ensures, c .before .before .before .index-of .ensures, index-small (c .before .before .before .before .args .s))
+
+returns : tie.Need-returns
+returns c = (ap₂ (λ (i x : ℕ). (i + 67 * x) % 256) (c .before .before .wide .ensures ∙ c .before .before .before .index-of .ensures) (c .wide2 .ensures ∙ c .before .serial-of .ensures), omega arith)
+
+pub key-spec : {M : Type 1} → statement M
+key-spec =
+    tie.close
+    (tie.spec
+    index-of-requires
+    wide-requires
+    serial-of-requires
+    wide-requires-2
+    mul-result
+    add-result
+    returns)

@@ -1,0 +1,35 @@
+-- `process::descriptors_ok` meets its contract: the used entries are listed, then judged.
+use borrow.Author.Needs.{needs}
+use Rattle.table.proofs.process.descriptors_ok.Statement.{statement}
+use Rattle.table.proofs.process.descriptors_ok.Tie as tie
+
+slice-aggregate-used : tie.Need-slice-aggregate-used
+slice-aggregate-used c = search needs
+
+used-requires : tie.Need-used-requires
+used-requires c κs = search needs
+
+slice-aggregate-entries-ok : tie.Need-slice-aggregate-entries-ok
+slice-aggregate-entries-ok c = search needs
+
+entries-ok-requires : tie.Need-entries-ok-requires
+entries-ok-requires c κs =
+    let s = c .before .before .before .before .before .before .before in
+    ((s .pre .0, s .pre .1, s .pre .2, s .pre .3, s .pre .4), (s .pre .5, search needs, c .before .before .before .used .ensures))
+
+same-length : tie.Need-same-length
+same-length c = search needs
+
+returns : tie.Need-returns
+returns c = c .before .before .entries-ok .ensures
+
+pub descriptors-ok-spec : {M : Type 1} → statement M
+descriptors-ok-spec =
+    tie.close
+    (tie.spec
+    slice-aggregate-used
+    used-requires
+    slice-aggregate-entries-ok
+    entries-ok-requires
+    same-length
+    returns)
