@@ -1,7 +1,10 @@
 // Identifiers: three kinds that cannot be mixed. Their fields are private, so each is made by its own class check alone.
 ghost use mathlib.Core.Path.{_≡_};
-ghost use Rattle.rules.specs.Seid.{isSeid, indexOf, serialOf};
+ghost use Rattle.rules.specs.Seid.{indexOf, serialOf};
 ghost use Rattle.ids.specs.Seid.{processOf, segmentOf, fileOf, seidOf};
+use layout::BYTE;
+use layout::CLASS_UNIT;
+use layout::INDEX_UNIT;
 use rules::FILE_CLASS;
 use rules::MAX_SERIAL;
 use rules::PROCESS_CLASS;
@@ -28,37 +31,11 @@ pub enum FileIs {
     Not,
 }
 
-// A class takes the word's high byte, an index the next, a serial the low half.
-const CLASS_UNIT: u32 = 16777216;
-
-const INDEX_UNIT: u32 = 65536;
-
-const BYTE: u32 = 256;
-
-fn index_of(w: u32) -> u32
-    ensures { λ r. ⌜ r ≡ indexOf w ⌝ }
-{
-    w / INDEX_UNIT % BYTE
-}
-
-fn serial_of(w: u32) -> u32
-    ensures { λ r. ⌜ r ≡ serialOf w ⌝ }
-{
-    w % INDEX_UNIT
-}
-
-// Whether a word has the form of an identifier of a class, in a table of that size.
-fn is_seid(class: u32, size: u32, w: u32) -> bool
-    ensures { λ r. ⌜ r ≡ isSeid class size w ⌝ }
-{
-    (w / CLASS_UNIT == class) & ((index_of(w) < size) & (0 < serial_of(w)))
-}
-
 impl ProcessId {
     pub fn check(w: u32, size: u32) -> ProcessIs
         ensures { λ r. ⌜ r ≡ processOf size w ⌝ }
     {
-        if is_seid(PROCESS_CLASS, size, w) {
+        if layout::is_seid(PROCESS_CLASS, size, w) {
             ProcessIs::Is(ProcessId(w))
         } else {
             ProcessIs::Not
@@ -68,13 +45,13 @@ impl ProcessId {
     pub fn index(self) -> u32
         ensures { λ r. ⌜ r ≡ indexOf (self .0) ⌝ }
     {
-        index_of(self.0)
+        layout::index_of(self.0)
     }
 
     pub fn serial(self) -> u32
         ensures { λ r. ⌜ r ≡ serialOf (self .0) ⌝ }
     {
-        serial_of(self.0)
+        layout::serial_of(self.0)
     }
 
     pub fn word(self) -> u32
@@ -88,7 +65,7 @@ impl SegmentId {
     pub fn check(w: u32, size: u32) -> SegmentIs
         ensures { λ r. ⌜ r ≡ segmentOf size w ⌝ }
     {
-        if is_seid(SEGMENT_CLASS, size, w) {
+        if layout::is_seid(SEGMENT_CLASS, size, w) {
             SegmentIs::Is(SegmentId(w))
         } else {
             SegmentIs::Not
@@ -98,13 +75,13 @@ impl SegmentId {
     pub fn index(self) -> u32
         ensures { λ r. ⌜ r ≡ indexOf (self .0) ⌝ }
     {
-        index_of(self.0)
+        layout::index_of(self.0)
     }
 
     pub fn serial(self) -> u32
         ensures { λ r. ⌜ r ≡ serialOf (self .0) ⌝ }
     {
-        serial_of(self.0)
+        layout::serial_of(self.0)
     }
 
     pub fn word(self) -> u32
@@ -118,7 +95,7 @@ impl FileId {
     pub fn check(w: u32, size: u32) -> FileIs
         ensures { λ r. ⌜ r ≡ fileOf size w ⌝ }
     {
-        if is_seid(FILE_CLASS, size, w) {
+        if layout::is_seid(FILE_CLASS, size, w) {
             FileIs::Is(FileId(w))
         } else {
             FileIs::Not
@@ -128,13 +105,13 @@ impl FileId {
     pub fn index(self) -> u32
         ensures { λ r. ⌜ r ≡ indexOf (self .0) ⌝ }
     {
-        index_of(self.0)
+        layout::index_of(self.0)
     }
 
     pub fn serial(self) -> u32
         ensures { λ r. ⌜ r ≡ serialOf (self .0) ⌝ }
     {
-        serial_of(self.0)
+        layout::serial_of(self.0)
     }
 
     pub fn word(self) -> u32
