@@ -35,11 +35,14 @@ fn main() {
     let tables = [("big", big()), ("small", small())];
     if wanted("check") {
         heading("The check alone");
-        for (name, world) in &tables {
-            line(&format!("{name} table, in use"), check(world));
+        for (name, worlds) in [("big", in_turn(16, 4, 64)), ("small", in_turn(2, 2, 1))] {
+            line(&format!("eight {name} tables in turn, in use"), check(&worlds));
         }
         for (name, world) in &tables {
-            line(&format!("{name} table, after set-up"), check(&after_setup(world)));
+            line(&format!("{name} table, in use"), check(std::slice::from_ref(world)));
+        }
+        for (name, world) in &tables {
+            line(&format!("{name} table, after set-up"), check(&[after_setup(world)]));
         }
     }
     if wanted("single") {
@@ -68,14 +71,23 @@ fn small() -> World {
     configured(2, 2, 1)
 }
 
-/// A table in use on which every call has an example that succeeds and one that is refused.
-fn configured(cells: u32, slots: u32, blocks: u32) -> World {
+/// Tables in use of that many cells and slots a cell, one for each seed.
+fn busy(cells: u32, slots: u32, blocks: u32) -> impl Iterator<Item = World> {
     let mut words = vec![cells, cells * slots, cells * slots, cells * slots, blocks, 0, 0, 0];
     for cell in 0..cells {
         words.extend([cell, 15 - cell, 0, slots, slots, slots, 0, 0]);
     }
-    (0..)
-        .map(|seed| tables::busy(&mut Rng::new(seed), &words))
+    (0..).map(move |seed| tables::busy(&mut Rng::new(seed), &words))
+}
+
+/// Eight tables to be checked in turn: one over and over would let the processor learn its branches by heart.
+fn in_turn(cells: u32, slots: u32, blocks: u32) -> Vec<World> {
+    busy(cells, slots, blocks).take(8).collect()
+}
+
+/// A table in use on which every call has an example that succeeds and one that is refused.
+fn configured(cells: u32, slots: u32, blocks: u32) -> World {
+    busy(cells, slots, blocks)
         .find(|world| Code::ALL.iter().all(|code| examples(world, code.number()).len() == 2))
         .expect("some table has them all")
 }
@@ -149,13 +161,22 @@ fn line(name: &str, ratio: Ratio) {
 
 // The check and single calls.
 
-fn check(world: &World) -> Ratio {
-    let bytes = world.store.len();
-    let table = std::hint::black_box(&world.table[..]);
-    let proved = |n| timed(n, || assert!(monitor::well_formed(table, bytes)));
-    let plain = |n| timed(n, || assert!(plain::check(table, bytes).is_some()));
+/// The check of these tables, one after the other; a repetition is all of them.
+fn check(worlds: &[World]) -> Ratio {
+    let all = |right: fn(&[u32], usize) -> bool| {
+        move |n| {
+            timed(n, || {
+                for world in worlds {
+                    assert!(right(std::hint::black_box(&world.table), world.store.len()));
+                }
+            })
+        }
+    };
+    let proved = all(monitor::well_formed);
+    let plain = all(|table, bytes| plain::check(table, bytes).is_some());
     let n = repetitions(plain);
-    ratio(ROUNDS, n, proved, plain)
+    let Ratio { median, low, high, plain } = ratio(ROUNDS, n, proved, plain);
+    Ratio { median, low, high, plain: plain / worlds.len() as u32 }
 }
 
 fn single_calls(name: &str, world: &World) {
