@@ -1,35 +1,45 @@
 -- What the block calls find, copy and write, in the rules' terms.
 use mathlib.Core.Path.{_≡_, refl, sym, ap, _∙_}
-use mathlib.Core.Bool.{Bool, true, false, cond, not}
-use mathlib.Core.List.{List, [], _∷_}
-use Prim.Native.Nat.{ℕ, suc, _+_, _*_, _-_, _≤_, _<_, max}
+use mathlib.Core.Bool.{Bool, true, false, not}
+use mathlib.Core.List.{List, [], _∷_, _++_}
+use Prim.Native.Nat.{ℕ, suc, _+_, _*_, _-_, _≤_, _<_, _^_, max}
 use native.Mathlib.Omega.{arith}
+use native.Mathlib.Decide.{ℕ-discrete}
 use native.Mathlib.Nat.{mul-le-mul-right}
 use lib.Dec.{eqb, leb}
 use lib.ListN.{length, set, take, drop, replicate, length-replicate, length-take, length-drop}
 use lib.Seq.{take-set-le, take-set-lt, drop-set-lt, drop-set-add, sets}
-use borrow.Author.Tests.{eqb-true, leb-false}
+use borrow.Author.Tests.{eqb-true, eqb-false, leb-false}
 use borrow.Rule.Slice.PartMut.{midOf, putMid, put-same}
 use Rattle.rules.specs.Words.{part}
-use Rattle.rules.specs.Layout.{blockBytes, process, file, configuration, blocks, storeBytes, Addr, at, rd, entries, size}
-use Rattle.rules.specs.Seid.{class, indexOf, present}
+use Rattle.rules.specs.Layout.{blockBytes, process, file, configuration, blocks, storeBytes, Addr, at, live, entries, heldAt, usedAt, size}
+use Rattle.rules.specs.Seid.{indexOf, formed, present}
 use Rattle.rules.specs.Modes.{reads, writes}
 use Rattle.rules.specs.Rights.{lacks}
-use Rattle.rules.specs.Rule.{firstRefusal, write, store}
-use Rattle.rules.specs.Find.{rightsAt}
+use Rattle.rules.specs.Errors.{XbSz, XbadOd, XnotReadable, XnotWritable, XnoObj, XdapViol, XbadBlockNo, XendOfFile}
+use Rattle.rules.specs.Rule.{Refusal, _⇒_, firstRefusal, write, store}
+use Rattle.rules.specs.Find.{stale, rightsAt}
 use Rattle.rules.specs.Call13.{block, readBlock}
 use Rattle.rules.specs.Call14.{blockWritten, writeBlock}
-use Rattle.laws.proofs.Tests.{passed}
+use Rattle.laws.proofs.Tests.{passed, both-ways}
+use Rattle.laws.proofs.Shape.{descriptor, file-record}
+use Rattle.layout.specs.declared.Header.{Header}
+use Rattle.layout.specs.Header.{placeOf}
 use Rattle.calls.specs.declared.Answer.{Answer}
-use Rattle.calls.specs.declared.World.{World}
-use Rattle.calls.specs.World.{offsetBy, rdBy, Known, Sound}
+use Rattle.calls.specs.declared.Caller.{Caller}
+use Rattle.calls.specs.declared.entries.Entry.{Entry}
+use Rattle.calls.specs.declared.objects.Seen.{Seen}
+use Rattle.calls.specs.World.{Known, Sound, wordsOf}
+use Rattle.calls.specs.Seen.{namedOf, seenAs}
+use Rattle.calls.specs.Entries.{entryOf}
+use Rattle.calls.specs.Calls.{blockTests}
+use Rattle.calls.specs.Refusing.{orRefuse, refusing}
 use Rattle.calls.specs.Left.{said, ruleAt}
-use Rattle.calls.specs.Blocks.{entryPast, usePast, ReadLeft, WriteLeft}
-use Rattle.calls.proofs.Worlds.{spot, see, blocks-is}
+use Rattle.calls.specs.Blocks.{ReadLeft, WriteLeft}
+use Rattle.calls.proofs.Worlds.{spot, shape, blocks-is}
+use Rattle.calls.proofs.Refusals.{refusing-first, Clear, clear-of}
+use Rattle.calls.proofs.Looks.{seen-formed, slot-is, slot-in}
 use Rattle.calls.proofs.Leaves.{left-refused, left-done, store-refused, store-done, buffer-refused, buffer-done}
-use Rattle.calls.proofs.Named.{Is}
-use Rattle.calls.proofs.Entries.{not-chosen, entry-filled, file-word}
-use Rattle.calls.proofs.FilesLaws.{sooner, later, never, slot-in, file-fits}
 
 -- ---- a part that is lent: bytes stored in it are stored in the whole
 
@@ -63,128 +73,169 @@ stretch-written s d l₁ l₂ x n k size b e hs hb q₁ q₂ =
 pub part-length : (s : List ℕ) (i n : ℕ) → i + n ≤ length s → length (take n (drop i s)) ≡ n
 part-length s i n h = omega (arith, length-take n (drop i s), length-drop i s)
 
--- ---- the refusals
+-- ---- the refusals: entry d is read, its file is seen as f, and held says whether the entry has the mode
 
-module _ (a b c : Bool) (x : ℕ) where
-  sooner-three : (_≡_ {A = ℕ} (cond a 5 (cond b 10 (cond c 10 0))) 0 → ⊥) → _≡_ {A = ℕ} (cond a 5 (cond b 10 (cond c 10 0))) (cond a 5 (cond b 10 (cond c 10 x)))
-  sooner-three = sooner a 5 (cond b 10 (cond c 10 0)) (cond b 10 (cond c 10 x)) (sooner b 10 (cond c 10 0) (cond c 10 x) (sooner c 10 0 x (never x)))
+-- the tests of the code, and of the rules, with what follows them
+abbrev usedTests : ℕ → ℕ → ℕ → Bool → ℕ → Seen → Bool → Bool → ℕ → ℕ → List Refusal → List Refusal
+usedTests bytes a s held number f read write blocks b rest = (not (eqb bytes blockBytes) ⇒ XbSz) ∷ blockTests a s held number f read write blocks b ++ rest
 
-  later-three : _≡_ {A = ℕ} (cond a 5 (cond b 10 (cond c 10 0))) 0 → _≡_ {A = ℕ} (cond a 5 (cond b 10 (cond c 10 x))) x
-  later-three =
-      later a 5 (cond b 10 (cond c 10 0)) (cond b 10 (cond c 10 x)) x (omega arith)
-      (later b 10 (cond c 10 0) (cond c 10 x) x (omega arith) (later c 10 0 x x (omega arith) (λ z. refl)))
+abbrev ruleTests : List ℕ → (Addr → ℕ) → ℕ → ℕ → ℕ → ℕ → Bool → ℕ → Bool → Bool → ℕ → List Refusal → List Refusal
+ruleTests h r p bytes a s held number read write b rest =
+    (not (eqb bytes blockBytes) ⇒ XbSz) ∷ (leb entries a ⇒ XbadOd) ∷ (eqb s 0 ⇒ XbadOd) ∷ (not held ⇒ number) ∷ (stale r file s ⇒ XnoObj)
+    ∷ (lacks (rightsAt r p file (indexOf s)) read write ⇒ XdapViol) ∷ (leb (blocks h) b ⇒ XbadBlockNo) ∷ rest
 
--- the code's number of the first stage, and of the second
-pub entry-number : (n a s : ℕ) {y x z e : ℕ} → y ≡ a → x ≡ cond (eqb s 0) 10 0 → z ≡ cond (leb entries y) 10 x → e ≡ cond (not (eqb n blockBytes)) 5 z → e ≡ entryPast n a s
-unfolding entryPast
-entry-number n a s ye xe ze ee = rw (ee, ze, xe, ye)
+-- what the code has found of entry a and of its file, past all tests
+pub record Used (t : List ℕ) (n : Header) (c : Caller) (a : ℕ) (d : Entry) (f : Seen) (z : ℕ) : Type 0 where
+  pub sound : Sound t n c
+  pub entry : d ≡ entryOf (wordsOf t) file (c .slot) a
+  pub seen : f ≡ seenAs (configuration t) (wordsOf t) (c .slot) file (namedOf n file (d .held))
+  pub sized : z ≡ wordsOf t (at file (f .slot) size)
 
-pub use-number : {t : List ℕ} {w : World} → Known t w → (s : ℕ) (held : Bool) (number : ℕ) (read write : Bool) (b rest : ℕ) {there lacking : Bool} {i rights x y z e : ℕ}
-    → there ≡ present (rd (configuration t) t) file s → i ≡ indexOf s → rights ≡ rightsAt (rd (configuration t) t) (w .me) file i → lacking ≡ lacks rights read write
-    → x ≡ cond (leb (w .blocks) b) 22 rest → y ≡ cond lacking 16 x → z ≡ cond (not there) 12 y → e ≡ cond (not held) number z
-    → e ≡ usePast (configuration t) (rd (configuration t) t) (w .me) s held number read write b rest
-unfolding usePast
-use-number known s held number read write b rest te ie re le xe ye ze ee = rw (ee, ze, ye, xe, te, le, re, ie, blocks-is known)
+module _ {t : List ℕ} {n : Header} {c : Caller} {a : ℕ} {d : Entry} {f : Seen} {z : ℕ} (u : Used t n c a d f z) where
+  held-is : d .held ≡ wordsOf t (at process (c .slot) (heldAt file a))
+  held-is = ap (λ (x : Entry). x .held) (u .entry)
 
--- what is known of an entry past the first stage
-pub record Entered (n a s : ℕ) : Type 0 where
-  pub bytes : n ≡ blockBytes
-  pub entry : leb entries a ≡ false
-  pub some : eqb s 0 ≡ false
+  used-is : d .used ≡ wordsOf t (at process (c .slot) (usedAt file a))
+  used-is = ap (λ (x : Entry). x .used) (u .entry)
 
-pub entry-past : (n a s : ℕ) {e : ℕ} → e ≡ entryPast n a s → e ≡ 0 → Entered n a s
-unfolding entryPast
-entry-past n a s ee z =
-    let p = not-chosen (not (eqb n blockBytes)) 5 _ (omega arith) (sym ee ∙ z) in
-    let q = entry-filled 10 10 0 (omega arith) (omega arith) {a = a} {z = a} s refl refl refl (p .1) in
-    record { bytes = eqb-true n blockBytes (passed (eqb n blockBytes) (p .0)); entry = q .0; some = q .1 }
+  -- a filled entry holds a file's seid
+  form : leb entries a ≡ false → eqb (d .held) 0 ≡ false → formed (configuration t) file (d .held) ≡ true
+  form l some =
+      let e = descriptor (configuration t) (wordsOf t) (u .sound .records) (c .slot) a (u .sound .caller) (leb-false entries a l) in
+      rw held-is (e .held (λ q. eqb-false (d .held) 0 some (held-is ∙ q)) .form)
 
--- past the second the block is one of the file's stretch
-pub use-past : (h : List ℕ) (r : Addr → ℕ) (p s : ℕ) (held : Bool) (number : ℕ) (read write : Bool) (b rest : ℕ) {e : ℕ} → 0 < number
-    → e ≡ usePast h r p s held number read write b rest → e ≡ 0 → b < blocks h
-unfolding usePast
-use-past h r p s held number read write b rest l ee z =
-    let x = not-chosen (not held) number _ l (sym ee ∙ z) in
-    let y = not-chosen (not (present r file s)) 12 _ (omega arith) (x .1) in
-    let v = not-chosen (lacks (rightsAt r p file (indexOf s)) read write) 16 _ (omega arith) (y .1) in
-    leb-false (blocks h) b (not-chosen (leb (blocks h) b) 22 rest (omega arith) (v .1) .0)
+  -- the code's number is the rules'; what follows may be known by the form
+  module _ (bytes : ℕ) (held : Bool) (number : ℕ) (read write : Bool) (b : ℕ) (xs ys : List Refusal)
+      (rest : formed (configuration t) file (d .held) ≡ true → firstRefusal xs ≡ firstRefusal ys) where
+    by-entry : (l some : Bool) → leb entries a ≡ l → eqb (d .held) 0 ≡ some → firstRefusal (usedTests bytes a (d .held) held number f read write (n .blocks) b xs)
+        ≡ firstRefusal (ruleTests (configuration t) (wordsOf t) (c .slot) bytes a (d .held) held number read write b ys)
+    unfolding present
+    by-entry true some l q = rw l
+    by-entry false true l q = rw (l, q)
+    by-entry false false l q =
+        let formed-so = form l q in
+        rw (l, q, rest formed-so, blocks-is (u .sound .known), seen-formed (u .sound .known) (c .slot) file (d .held) (u .seen) formed-so)
 
--- ---- what the calls find: s is what descriptor a holds, whose number the code has as y
+    same-number : firstRefusal (usedTests bytes a (d .held) held number f read write (n .blocks) b xs)
+        ≡ firstRefusal (ruleTests (configuration t) (wordsOf t) (c .slot) bytes a (d .held) held number read write b ys)
+    same-number = by-entry (leb entries a) (eqb (d .held) 0) refl refl
 
-module _ {t : List ℕ} {w : World} (known : Known t w) (st : List ℕ) (a b : ℕ) (buf : List ℕ) {y s e : ℕ} (ye : y ≡ a) (se : s ≡ rdBy w t (at process (w .me) (8 + 2 * y)))
-    (ee : e ≡ entryPast (length buf) a s) where
-  held-is : s ≡ rd (configuration t) t (at process (w .me) (8 + 2 * a))
-  held-is = file-word known (w .me) a ye se
+  pub stretch-fits : {x : ℕ} → x ≡ n .blocks → x * blockBytes < 2 ^ 64
+  stretch-fits xe = omega (arith, xe, blocks-is (u .sound .known), shape (u .sound .known) .few-blocks)
 
-  first-is : e ≡ entryPast (length buf) a (rd (configuration t) t (at process (w .me) (8 + 2 * a)))
-  first-is = ee ∙ ap (entryPast (length buf) a) held-is
+  module _ (formed-so : formed (configuration t) file (d .held) ≡ true) where
+    at-slot : f .slot ≡ indexOf (d .held)
+    at-slot = slot-is (u .sound .known) (c .slot) file (d .held) (u .seen) formed-so
 
-  pub read-sooner : (e ≡ 0 → ⊥) → e ≡ firstRefusal (ruleAt t (λ h q. readBlock h q st (w .me) a b buf) .refusals)
-  unfolding readBlock entryPast
-  read-sooner n =
-      first-is
-      ∙ sooner-three (not (eqb (length buf) blockBytes)) (leb entries a) (eqb (rd (configuration t) t (at process (w .me) (8 + 2 * a))) 0) _ (λ z. n (first-is ∙ z))
+    -- the file's stretch is within the store, and its size within the stretch, also where the record is free
+    stretch-of : (m : ℕ) → m ≡ storeBytes (configuration t) → {v x : ℕ} → x ≡ n .blocks → v ≡ f .slot → v * (x * blockBytes) + x * blockBytes ≤ m
+    stretch-of m long xe ve =
+        let span = blocks (configuration t) * blockBytes in
+        let l = mul-le-mul-right span (slot-in (u .sound .known) (c .slot) file (d .held) (u .seen) formed-so) in
+        let s : suc (f .slot) * span ≡ f .slot * span + span = native.Mathlib.Nat.suc-mul (f .slot) span in
+        rw (xe, ve, blocks-is (u .sound .known)) (omega arith)
 
-  pub write-sooner : (e ≡ 0 → ⊥) → e ≡ firstRefusal (ruleAt t (λ h q. writeBlock h q (w .me) a b buf) .refusals)
-  unfolding writeBlock entryPast
-  write-sooner n =
-      first-is
-      ∙ sooner-three (not (eqb (length buf) blockBytes)) (leb entries a) (eqb (rd (configuration t) t (at process (w .me) (8 + 2 * a))) 0) _ (λ z. n (first-is ∙ z))
+    size-of : z ≤ blocks (configuration t)
+    size-of =
+        let x = file-record (configuration t) (wordsOf t) (u .sound .records) (f .slot) (slot-in (u .sound .known) (c .slot) file (d .held) (u .seen) formed-so) in
+        elim (ℕ-discrete (wordsOf t (at file (f .slot) live)) 1) [
+          | yes y ↦ omega (arith, u .sized, x .alive y .size-fits)
+          | no q ↦ omega (arith, u .sized, x .free (omega (arith, x .flag)) size (omega arith) (omega arith))
+        ]
 
-  module _ (none : e ≡ 0) {f i m n : ℕ} (is : Is (w .files) (class file) s f) (ie : i ≡ indexOf f) (me : m ≡ rdBy w t (at process (w .me) (8 + 2 * y + 1)))
-      (ne : n ≡ rdBy w t (at file i size)) where
-    modes-is : m ≡ rd (configuration t) t (at process (w .me) (9 + 2 * a))
-    modes-is = me ∙ see known (at process (w .me) (8 + 2 * y + 1)) ∙ (let x : 8 + 2 * y + 1 ≡ 9 + 2 * a = omega arith in rw x)
+-- ---- the two calls: e is the number that the code has found
 
-    slot-is : i ≡ indexOf (rd (configuration t) t (at process (w .me) (8 + 2 * a)))
-    slot-is = ie ∙ ap indexOf (is .same ∙ held-is)
+abbrev pub readTests : ℕ → ℕ → Entry → Seen → ℕ → ℕ → ℕ → List Refusal
+readTests bytes a d f z blocks b = usedTests bytes a (d .held) (reads (d .used)) XnotReadable f true false blocks b ((leb z b ⇒ XendOfFile) ∷ [])
 
-    size-is : n ≡ rd (configuration t) t (at file (indexOf (rd (configuration t) t (at process (w .me) (8 + 2 * a)))) size)
-    size-is = ne ∙ see known (at file i size) ∙ ap (λ (x : ℕ). rd (configuration t) t (at file x size)) slot-is
+abbrev pub writeTests : ℕ → ℕ → Entry → Seen → ℕ → ℕ → List Refusal
+writeTests bytes a d f blocks b = usedTests bytes a (d .held) (writes (d .used)) XnotWritable f false true blocks b []
 
-    pub read-later : {x e2 : ℕ} {held : Bool} → held ≡ reads m → x ≡ cond (leb n b) 23 0 → e2 ≡ usePast (configuration t) (rd (configuration t) t) (w .me) f held 20 true false b x
-        → e2 ≡ firstRefusal (ruleAt t (λ h q. readBlock h q st (w .me) a b buf) .refusals)
-    unfolding readBlock entryPast usePast
-    read-later he xe e2e =
-        rw (e2e, xe, he, modes-is, size-is, is .same, held-is)
-        (sym (later-three (not (eqb (length buf) blockBytes)) (leb entries a) (eqb (rd (configuration t) t (at process (w .me) (8 + 2 * a))) 0) _ (sym first-is ∙ none)))
+-- the slot, the block and the file's blocks as the code has them: v, y and x
+module _ {t : List ℕ} {n : Header} {c : Caller} {a : ℕ} {d : Entry} {f : Seen} {z : ℕ} (u : Used t n c a d f z) (st : List ℕ) (b : ℕ) (buf : List ℕ) {e : ℕ} where
+  pub read-told : {held : Bool} {e1 e2 : ℕ} → held ≡ reads (d .used) → e1 ≡ orRefuse 0 (not (eqb (length buf) blockBytes)) XbSz
+      → e2 ≡ refusing e1 (blockTests a (d .held) held XnotReadable f true false (n .blocks) b) → e ≡ orRefuse e2 (leb z b) XendOfFile
+      → e ≡ firstRefusal (readTests (length buf) a d f z (n .blocks) b)
+  read-told held long tests end = rw (end, tests, held, long) (refusing-first (readTests (length buf) a d f z (n .blocks) b) refl)
 
-    pub write-later : {e2 : ℕ} {held : Bool} → held ≡ writes m → e2 ≡ usePast (configuration t) (rd (configuration t) t) (w .me) f held 21 false true b 0
-        → e2 ≡ firstRefusal (ruleAt t (λ h q. writeBlock h q (w .me) a b buf) .refusals)
-    unfolding writeBlock entryPast usePast
-    write-later he e2e =
-        rw (e2e, he, modes-is, is .same, held-is)
-        (sym (later-three (not (eqb (length buf) blockBytes)) (leb entries a) (eqb (rd (configuration t) t (at process (w .me) (8 + 2 * a))) 0) _ (sym first-is ∙ none)))
+  pub write-told : {held : Bool} {e1 : ℕ} → held ≡ writes (d .used) → e1 ≡ orRefuse 0 (not (eqb (length buf) blockBytes)) XbSz
+      → e ≡ refusing e1 (blockTests a (d .held) held XnotWritable f false true (n .blocks) b) → e ≡ firstRefusal (writeTests (length buf) a d f (n .blocks) b)
+  write-told held long tests = rw (tests, held, long) (refusing-first (writeTests (length buf) a d f (n .blocks) b) refl)
 
-    -- the block copied out: v, c and x are the slot, the block and B as the code has them
-    pub read-buffer : {v c x : ℕ} {buf′ : List ℕ} → x ≡ w .blocks → v ≡ i → c ≡ b → buf′ ≡ part st (v * (x * blockBytes) + c * blockBytes) blockBytes
-        → buf′ ≡ ruleAt t (λ h q. readBlock h q st (w .me) a b buf) .effects .buffer
-    unfolding readBlock block
-    read-buffer xe ve ce be = be ∙ rw (xe, ve, ce, slot-is, blocks-is known)
+  module _ (told : e ≡ firstRefusal (readTests (length buf) a d f z (n .blocks) b)) where
+    size-test : formed (configuration t) file (d .held) ≡ true
+        → firstRefusal ((leb z b ⇒ XendOfFile) ∷ []) ≡ firstRefusal ((leb (wordsOf t (at file (indexOf (d .held)) size)) b ⇒ XendOfFile) ∷ [])
+    size-test g = rw (u .sized, at-slot u g)
 
-    -- the bytes and the size written
-    pub write-bytes : {v c x z : ℕ} {st′ : List ℕ} → x ≡ w .blocks → v ≡ i → z ≡ n → c ≡ b
-        → st′ ≡ sets (sets st (v * (x * blockBytes) + z * blockBytes) (replicate ((c - z) * blockBytes) 0)) (v * (x * blockBytes) + c * blockBytes) buf
-        → st′ ≡ store (configuration t) st (ruleAt t (λ h q. writeBlock h q (w .me) a b buf) .effects .bytes)
-    unfolding writeBlock blockWritten
-    write-bytes xe ve ze ce be = be ∙ rw (xe, ve, ze, ce, size-is, slot-is, blocks-is known)
+    pub read-number : e ≡ firstRefusal (ruleAt t (λ h q. readBlock h q st (c .slot) a b buf) .refusals)
+    unfolding readBlock
+    read-number =
+        told
+        ∙ same-number u (length buf) (reads (d .used)) XnotReadable true false b ((leb z b ⇒ XendOfFile) ∷ [])
+        ((leb (wordsOf t (at file (indexOf (d .held)) size)) b ⇒ XendOfFile) ∷ []) size-test
+        ∙ rw (held-is u, used-is u)
 
-    pub write-words : {l : ℕ} {t′ : List ℕ} → l ≡ max n (b + 1) → t′ ≡ set t (offsetBy w (at file i size)) l
-        → t′ ≡ write (configuration t) t (ruleAt t (λ h q. writeBlock h q (w .me) a b buf) .effects .words)
+    module _ (none : e ≡ 0) where
+      read-clear : Clear (readTests (length buf) a d f z (n .blocks) b)
+      read-clear = clear-of (readTests (length buf) a d f z (n .blocks) b) refl (sym told ∙ none)
+
+      read-formed : formed (configuration t) file (d .held) ≡ true
+      read-formed = form u (read-clear .1 .0) (read-clear .1 .1 .0)
+
+      pub read-within : {v x y : ℕ} → length st ≡ storeBytes (configuration t) → x ≡ n .blocks → v ≡ f .slot → y ≡ b
+          → (v * (x * blockBytes) + x * blockBytes ≤ length st) × (y * blockBytes + blockBytes ≤ x * blockBytes) × (length buf ≡ blockBytes)
+      read-within long xe ve ye = (
+        stretch-of u read-formed (length st) long xe ve,
+        omega (arith, leb-false (n .blocks) b (read-clear .1 .1 .1 .1 .1 .1 .0)),
+        eqb-true (length buf) blockBytes (passed (eqb (length buf) blockBytes) (read-clear .0)),
+      )
+
+      pub read-buffer : {v x y : ℕ} {buf′ : List ℕ} → x ≡ n .blocks → v ≡ f .slot → y ≡ b → buf′ ≡ part st (v * (x * blockBytes) + y * blockBytes) blockBytes
+          → buf′ ≡ ruleAt t (λ h q. readBlock h q st (c .slot) a b buf) .effects .buffer
+      unfolding readBlock block
+      read-buffer xe ve ye be = be ∙ rw (xe, ve, ye, at-slot u read-formed, held-is u, blocks-is (u .sound .known))
+
+  module _ (told : e ≡ firstRefusal (writeTests (length buf) a d f (n .blocks) b)) where
+    pub write-number : e ≡ firstRefusal (ruleAt t (λ h q. writeBlock h q (c .slot) a b buf) .refusals)
     unfolding writeBlock
-    write-words le te = te ∙ rw (le, spot known (at file i size), size-is, slot-is)
+    write-number = told ∙ same-number u (length buf) (writes (d .used)) XnotWritable false true b [] [] (λ _. refl) ∙ rw (held-is u, used-is u)
 
--- ---- the file's stretch is within the store
+    module _ (none : e ≡ 0) where
+      write-clear : Clear (writeTests (length buf) a d f (n .blocks) b)
+      write-clear = clear-of (writeTests (length buf) a d f (n .blocks) b) refl (sym told ∙ none)
 
-module _ {t : List ℕ} {w : World} (sound : Sound t w) (m : ℕ) (long : m ≡ storeBytes (configuration t)) {s f i : ℕ} (is : Is (w .files) (class file) s f) (ie : i ≡ indexOf f) where
-  pub stretch-in : {v x : ℕ} → x ≡ w .blocks → v ≡ i → v * (x * blockBytes) + x * blockBytes ≤ m
-  stretch-in xe ve =
-      let l = mul-le-mul-right (blocks (configuration t) * blockBytes) (slot-in (sound .known) is ie) in
-      let d : suc i * (blocks (configuration t) * blockBytes) ≡ i * (blocks (configuration t) * blockBytes) + blocks (configuration t) * blockBytes = native.Mathlib.Nat.suc-mul i (blocks (configuration t) * blockBytes) in
-      rw (xe, ve, blocks-is (sound .known)) (omega arith)
+      write-formed : formed (configuration t) file (d .held) ≡ true
+      write-formed = form u (write-clear .1 .0) (write-clear .1 .1 .0)
 
-  pub size-in : {n : ℕ} → n ≡ rdBy w t (at file i size) → n ≤ blocks (configuration t)
-  size-in ne = omega (arith, ne, see (sound .known) (at file i size), file-fits sound is ie .1)
+      block-in : b < n .blocks
+      block-in = leb-false (n .blocks) b (write-clear .1 .1 .1 .1 .1 .1 .0)
+
+      pub next-small : b + 1 < 2 ^ 32
+      next-small = omega (arith, block-in, blocks-is (u .sound .known), shape (u .sound .known) .few-blocks)
+
+      size-is : z ≡ wordsOf t (at file (indexOf (wordsOf t (at process (c .slot) (heldAt file a)))) size)
+      size-is = rw (← (held-is u), ← (at-slot u write-formed)) (u .sized)
+
+      pub write-within : {v x y w : ℕ} → length st ≡ storeBytes (configuration t) → x ≡ n .blocks → v ≡ f .slot → w ≡ z → y ≡ b
+          → (v * (x * blockBytes) + x * blockBytes ≤ length st) × (w * blockBytes ≤ x * blockBytes) × (y * blockBytes + length buf ≤ x * blockBytes) × (y < 2 ^ 32)
+      write-within long xe ve we ye = (
+        stretch-of u write-formed (length st) long xe ve,
+        omega (arith, size-of u write-formed, blocks-is (u .sound .known)),
+        omega (arith, block-in, eqb-true (length buf) blockBytes (passed (eqb (length buf) blockBytes) (write-clear .0))),
+        omega (arith, next-small),
+      )
+
+      -- the bytes and the size written
+      pub write-bytes : {v x y w : ℕ} {st′ : List ℕ} → x ≡ n .blocks → v ≡ f .slot → w ≡ z → y ≡ b
+          → st′ ≡ sets (sets st (v * (x * blockBytes) + w * blockBytes) (replicate ((y - w) * blockBytes) 0)) (v * (x * blockBytes) + y * blockBytes) buf
+          → st′ ≡ store (configuration t) st (ruleAt t (λ h q. writeBlock h q (c .slot) a b buf) .effects .bytes)
+      unfolding writeBlock blockWritten
+      write-bytes xe ve we ye be = be ∙ rw (xe, ve, we, ye, size-is, at-slot u write-formed, held-is u, blocks-is (u .sound .known))
+
+      pub write-words : {l : ℕ} {t′ : List ℕ} → l ≡ max z (b + 1) → t′ ≡ set t (placeOf n (at file (f .slot) size)) l
+          → t′ ≡ write (configuration t) t (ruleAt t (λ h q. writeBlock h q (c .slot) a b buf) .effects .words)
+      unfolding writeBlock
+      write-words le te = te ∙ rw (le, spot (u .sound .known) (at file (f .slot) size), size-is, at-slot u write-formed, held-is u)
 
 -- ---- what the calls leave
 

@@ -6,9 +6,10 @@ use Prim.Native.Nat.{ℕ}
 use lib.Dec.{eqb}
 use lib.ListN.{length}
 use Rattle.rules.specs.Claim.{test}
-use Rattle.rules.specs.Layout.{Addr, process, segment, configuration, rd}
+use Rattle.rules.specs.Layout.{Addr, process, segment, file, configuration, rd}
 use Rattle.rules.specs.Seid.{class, classOf, orSelf}
 use Rattle.rules.specs.WellFormed.{wellFormed}
+use Rattle.rules.specs.Errors.{XnSgDes, XbSgDes, XbadOd}
 use Rattle.rules.specs.Rule.{Refusal, Rule, rule, firstRefusal, store}
 use Rattle.rules.specs.Call01.{spawn}
 use Rattle.rules.specs.Call02.{releaseProcess}
@@ -33,6 +34,7 @@ use Rattle.laws.proofs.Tests.{split}
 use Rattle.calls.specs.declared.Answer.{Answer}
 use Rattle.calls.specs.Left.{said, ruleAt, answerOf, tableOf, storeOf, bufferOf, Left}
 use Rattle.calls.specs.Blocks.{ReadLeft, WriteLeft}
+use Rattle.calls.specs.Calls.{giveUpRule}
 use Rattle.calls.specs.Did.{stateOf, callOf, ruleAnswer, Did, Through, ruleIn, Plain}
 use Rattle.calls.proofs.Leaves.{left-same}
 
@@ -76,10 +78,10 @@ module _ (t : List ℕ) (p code a b c : ℕ) {r : Answer} {t′ : List ℕ} wher
   plain-4 e l s buffer =
       plain-by t p code a b c s buffer (λ h q. rendezvous h q p a b buffer) (coded t s p a b c buffer e) refl refl (l buffer)
 
-  pub plain-5 : code ≡ 5 → ((buffer : List ℕ) → Left t (λ h q. releaseSegment h q p a buffer) r t′) → (s buffer : List ℕ) → Plain t p code a b c r t′ s buffer
+  pub plain-5 : code ≡ 5 → ((buffer : List ℕ) → Left t (λ h q. giveUpRule h q segment p a XnSgDes XbSgDes buffer) r t′) → (s buffer : List ℕ) → Plain t p code a b c r t′ s buffer
   unfolding ruleOf releaseSegment
   plain-5 e l s buffer =
-      plain-by t p code a b c s buffer (λ h q. releaseSegment h q p a buffer) (coded t s p a b c buffer e) refl refl (l buffer)
+      plain-by t p code a b c s buffer (λ h q. giveUpRule h q segment p a XnSgDes XbSgDes buffer) (coded t s p a b c buffer e) refl refl (l buffer)
 
   pub plain-6 : code ≡ 6 → ((buffer : List ℕ) → Left t (λ h q. setAccess h q p a b buffer) r t′) → (s buffer : List ℕ) → Plain t p code a b c r t′ s buffer
   unfolding ruleOf setAccess
@@ -96,10 +98,10 @@ module _ (t : List ℕ) (p code a b c : ℕ) {r : Answer} {t′ : List ℕ} wher
   plain-8 e l s buffer =
       plain-by t p code a b c s buffer (λ h q. openFile h q p a b buffer) (coded t s p a b c buffer e) refl refl (l buffer)
 
-  pub plain-9 : code ≡ 9 → ((buffer : List ℕ) → Left t (λ h q. close h q p a buffer) r t′) → (s buffer : List ℕ) → Plain t p code a b c r t′ s buffer
+  pub plain-9 : code ≡ 9 → ((buffer : List ℕ) → Left t (λ h q. giveUpRule h q file p a XbadOd XbadOd buffer) r t′) → (s buffer : List ℕ) → Plain t p code a b c r t′ s buffer
   unfolding ruleOf close
   plain-9 e l s buffer =
-      plain-by t p code a b c s buffer (λ h q. close h q p a buffer) (coded t s p a b c buffer e) refl refl (l buffer)
+      plain-by t p code a b c s buffer (λ h q. giveUpRule h q file p a XbadOd XbadOd buffer) (coded t s p a b c buffer e) refl refl (l buffer)
 
   pub plain-10 : code ≡ 10 → ((buffer : List ℕ) → Left t (λ h q. link h q p a buffer) r t′) → (s buffer : List ℕ) → Plain t p code a b c r t′ s buffer
   unfolding ruleOf link

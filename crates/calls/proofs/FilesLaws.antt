@@ -1,344 +1,282 @@
--- What the calls on files find and write, in the rules' terms.
+-- What the calls on files find and write, in the rules' terms: their refusals are the rules', and so are the words that they write.
 use mathlib.Core.Path.{_≡_, refl, sym, ap, _∙_}
 use mathlib.Core.Bool.{Bool, true, false, cond, _&&_, _||_, not}
-use mathlib.Core.List.{List, [], _++_}
+use mathlib.Core.List.{List, [], _∷_, _++_}
 use Prim.Native.Nat.{ℕ, _+_, _*_, _-_, _≤_, _<_}
 use native.Mathlib.Omega.{arith}
 use native.Mathlib.Decide.{ℕ-discrete}
 use lib.Dec.{eqb, leb, ltb}
 use lib.ListN.{getD, set}
 use borrow.Author.Tests.{eq-eqb, ne-eqb, eqb-true}
-use Rattle.rules.specs.Words.{someBelow}
-use Rattle.rules.specs.Layout.{maxBits, maxLinks, maxSerial, Kind, process, segment, file, configuration, slots, blocks, cellWord, cellSlots, firstSlot, cellOf, Addr, at, offset, rd, entries, live, serial, owner, group, bits, links, size, opens}
-use Rattle.rules.specs.Seid.{class, classOf, seid, indexOf, isSeid, orSelf, present}
-use Rattle.rules.specs.Modes.{validModes, reads, writes}
+use Rattle.rules.specs.Layout.{maxBits, maxLinks, maxSerial, Kind, process, segment, file, configuration, slots, blocks, cellOf, Addr, at, offset, entries, heldAt, usedAt, cellWord, cellSlotsWord, live, serial, owner, group, bits, links, size, opens, recordWords}
+use Rattle.rules.specs.Seid.{class, classOf, seid, indexOf, isSeid, formed, orSelf}
+use Rattle.rules.specs.Modes.{validModes, reads, writes, clash}
 use Rattle.rules.specs.Rights.{lacks}
-use Rattle.rules.specs.Rule.{firstRefusal, write}
-use Rattle.rules.specs.Find.{inOwnCell, flowsToCaller, rightsAt, freeSlot, freeEntry, entered}
+use Rattle.rules.specs.Rule.{_⇒_, firstRefusal, write}
+use Rattle.rules.specs.Find.{inOwnCell, flowsToCaller, rightsAt, freeSlot, noSlot, freeEntry, noEntry, entered, own, find}
 use Rattle.rules.specs.Call07.{created, create}
 use Rattle.rules.specs.Call08.{clashesAt, clashes, openFile}
 use Rattle.rules.specs.Call10.{link}
 use Rattle.rules.specs.Call11.{unlinked, unlink}
 use Rattle.rules.specs.Call12.{setBitsOf, setBits}
-use Rattle.laws.proofs.Tests.{cond-true, cond-false}
+use Rattle.rules.specs.Words.{someBelow}
+use Rattle.laws.proofs.Tests.{cond-true, cond-false, passed}
 use Rattle.laws.proofs.Below.{some-none, some-of}
 use Rattle.laws.proofs.Seids.{is-formed, class-some}
-use Rattle.laws.proofs.Shape.{file-record, descriptor}
 use Rattle.modes.specs.Clash.{clashOf}
 use Rattle.modes.proofs.Numbers.{clash-valid}
+use Rattle.laws.proofs.Shape.{file-record, descriptor}
+use Rattle.layout.specs.declared.Header.{Header}
+use Rattle.layout.specs.Header.{recordOf, placeOf}
+use Rattle.calls.specs.declared.Caller.{Caller}
+use Rattle.calls.specs.declared.objects.Seen.{Seen}
+use Rattle.calls.specs.World.{Known, Sound, wordsOf, Clashable, firstBy}
+use Rattle.calls.specs.Left.{ruleAt}
+use Rattle.calls.specs.Refusing.{orRefuse, refusing}
+use Rattle.calls.specs.Seen.{namedOf, seenAs, findTests, ownTests, slotFound}
+use Rattle.calls.specs.declared.room.Slot.{Slot}
 use Rattle.ids.specs.Seid.{seidOf}
-use Rattle.calls.specs.declared.Answer.{Answer}
-use Rattle.calls.specs.declared.World.{World}
-use Rattle.calls.specs.World.{offsetBy, rdBy, Known, Sound, firstBy, freedAt}
-use Rattle.calls.specs.Finds.{findPast, ownPast, openPast, madeAt, takenUpAt}
-use Rattle.calls.specs.Left.{said, ruleAt, Left}
-use Rattle.calls.proofs.Worlds.{spot, see, files-is, segments-is, home-is, first-by-kind}
-use Rattle.calls.proofs.Leaves.{left-refused, left-same}
-use Rattle.calls.proofs.Named.{Is}
-use Rattle.calls.proofs.Entries.{not-chosen, cond-some}
-use Rattle.calls.proofs.Given.{a-file, freed-is}
-use Rattle.calls.proofs.Holders.{made-is, entered-is, taken-is, one-fits}
-use Rattle.calls.proofs.Finds.{self-formed}
-use Rattle.calls.proofs.Room.{made-seid}
+use Rattle.calls.specs.Calls.{giveUpRule, openTests}
+use Rattle.calls.specs.declared.entries.Entry.{Entry}
+use Rattle.calls.specs.Entries.{entryOf, freedAt, madeAt, takenUpAt}
+use Rattle.calls.proofs.Worlds.{spot, shape, first-by-kind}
+use Rattle.calls.proofs.Refusals.{numbered, refusing-first, past, only-then, Clear, clear-of}
+use Rattle.calls.proofs.Looks.{own-numbered, form-past, find-first, own-first, seen-formed, own-is, slot-is, slot-in}
+use Rattle.calls.proofs.Given.{begins, freed-is}
+use Rattle.calls.proofs.Holders.{made-is, entered-is, one-fits, taken-told}
+use Rattle.calls.proofs.Searches.{new-seid}
 
--- ---- choices of numbers
+-- ---- 5 and 9: an entry given up. x is what it holds
 
--- a chain of choices that comes to a number that is not 0 comes to it whatever follows
-pub sooner : (b : Bool) (n x y : ℕ) → ((x ≡ 0 → ⊥) → x ≡ y) → (cond b n x ≡ 0 → ⊥) → cond b n x ≡ cond b n y
-sooner true n x y f e = refl
-sooner false n x y f e = f e
+pub give-up-number : (h : List ℕ) (r : Addr → ℕ) (k : Kind) (p a beyond empty : ℕ) (buffer : List ℕ) → 0 < beyond → 0 < empty → {x z e₁ e₂ : ℕ}
+    → x ≡ r (at process p (heldAt k a)) → z ≡ a → e₁ ≡ orRefuse 0 (leb entries z) beyond → e₂ ≡ orRefuse e₁ (eqb x 0) empty
+    → e₂ ≡ firstRefusal (giveUpRule h r k p a beyond empty buffer .refusals)
+give-up-number h r k p a beyond empty buffer lb le xe ze ee₁ ee₂ =
+    rw (ee₂, ee₁, ze, xe)
+    (refusing-first ((leb entries a ⇒ beyond) ∷ (eqb (r (at process p (heldAt k a))) 0 ⇒ empty) ∷ []) (rw (ne-eqb beyond 0 (λ q. omega arith), ne-eqb empty 0 (λ q. omega arith))))
 
--- and one that comes to 0 comes to what follows
-pub later : (b : Bool) (n x y z : ℕ) → 0 < n → (x ≡ 0 → y ≡ z) → cond b n x ≡ 0 → cond b n y ≡ z
-later true n x y z l f e = absurd (omega arith)
-later false n x y z l f e = f e
+-- ---- 10 and 11: link and unlink. s is the seid, f what is seen of it, m its links
 
--- the four choices that refuse an open before the search
-pub never : (x : ℕ) → (_≡_ {A = ℕ} 0 0 → ⊥) → 0 ≡ x
-never x n = absurd (n refl)
-
-module _ (a b c d : Bool) (x : ℕ) where
-  sooner-four : (_≡_ {A = ℕ} (cond a 7 (cond b 13 (cond c 12 (cond d 16 0)))) 0 → ⊥) → _≡_ {A = ℕ} (cond a 7 (cond b 13 (cond c 12 (cond d 16 0)))) (cond a 7 (cond b 13 (cond c 12 (cond d 16 x))))
-  sooner-four =
-      sooner a 7 (cond b 13 (cond c 12 (cond d 16 0))) (cond b 13 (cond c 12 (cond d 16 x)))
-      (sooner b 13 (cond c 12 (cond d 16 0)) (cond c 12 (cond d 16 x)) (sooner c 12 (cond d 16 0) (cond d 16 x) (sooner d 16 0 x (never x))))
-
-  later-four : _≡_ {A = ℕ} (cond a 7 (cond b 13 (cond c 12 (cond d 16 0)))) 0 → _≡_ {A = ℕ} (cond a 7 (cond b 13 (cond c 12 (cond d 16 x)))) x
-  later-four =
-      later a 7 (cond b 13 (cond c 12 (cond d 16 0))) (cond b 13 (cond c 12 (cond d 16 x))) x (omega arith)
-      (later b 13 (cond c 12 (cond d 16 0)) (cond c 12 (cond d 16 x)) x (omega arith)
-      (later c 12 (cond d 16 0) (cond d 16 x) x (omega arith) (later d 16 0 x x (omega arith) (λ z. refl))))
-
-and-same : (x y z : Bool) → (x ≡ true → y ≡ z) → x && y ≡ x && z
-and-same true y z f = f refl
-and-same false y z f = refl
-
--- ---- a file that a seid names: s is the seid, f the identifier that it is
-
-module _ {t : List ℕ} {w : World} (known : Known t w) (a : ℕ) (buffer : List ℕ) {s : ℕ} (self : s ≡ orSelf (rd (configuration t) t) (w .me) a) where
-  no-form : isSeid (class file) (w .files) s ≡ false → isSeid (class file) (slots (configuration t) file) (orSelf (rd (configuration t) t) (w .me) a) ≡ false
-  no-form n = rw (← self, ← files-is known) n
-
-  pub link-absent : isSeid (class file) (w .files) s ≡ false → 12 ≡ firstRefusal (ruleAt t (λ h q. link h q (w .me) a buffer) .refusals)
-  unfolding link
-  link-absent n = rw (no-form n)
-
-  pub unlink-absent : isSeid (class file) (w .files) s ≡ false → 12 ≡ firstRefusal (ruleAt t (λ h q. unlink h q (w .me) a buffer) .refusals)
-  unfolding unlink
-  unlink-absent n = rw (no-form n)
-
-  module _ {f : ℕ} (is : Is (w .files) (class file) s f) {i n : ℕ} (slot : i ≡ indexOf f) (count : n ≡ rdBy w t (at file i links)) where
-    form : isSeid (class file) (slots (configuration t) file) (orSelf (rd (configuration t) t) (w .me) a) ≡ true
-    form = rw (← self, ← files-is known) (is .form)
-
-    pub link-number : {x e : ℕ} → x ≡ cond (eqb n maxLinks) 24 0 → e ≡ ownPast (configuration t) (rd (configuration t) t) (w .me) file f x
-        → e ≡ firstRefusal (ruleAt t (λ h q. link h q (w .me) a buffer) .refusals)
-    unfolding link ownPast findPast
-    link-number xe ee = rw (ee, xe, count, see known (at file i links), slot, is .same, self, form)
-
-    pub link-words : set t (offsetBy w (at file i links)) (n + 1) ≡ write (configuration t) t (ruleAt t (λ h q. link h q (w .me) a buffer) .effects .words)
+module _ {t : List ℕ} {n : Header} {c : Caller} (sound : Sound t n c) (a : ℕ) (buffer : List ℕ) {s m e₁ e₂ : ℕ} {f : Seen} (self : s ≡ orSelf (wordsOf t) (c .slot) a)
+    (seen : f ≡ seenAs (configuration t) (wordsOf t) (c .slot) file (namedOf n file s)) (count : m ≡ wordsOf t (at file (f .slot) links))
+    (found : e₁ ≡ refusing 0 (ownTests f file)) where
+  module _ (last : e₂ ≡ orRefuse e₁ (eqb m maxLinks) 24) where
+    pub link-number : e₂ ≡ firstRefusal (ruleAt t (λ h q. link h q (c .slot) a buffer) .refusals)
     unfolding link
-    link-words = rw (count, see known (at file i links), spot known (at file i links), slot, is .same, self)
+    link-number =
+        rw (last, found, ← self)
+        (refusing-first (ownTests f file ++ (eqb m maxLinks ⇒ 24) ∷ []) refl
+        ∙ own-first (sound .known) (c .slot) file s seen ((eqb m maxLinks ⇒ 24) ∷ []) ((eqb (wordsOf t (at file (indexOf s) links)) maxLinks ⇒ 24) ∷ [])
+        (λ form. rw (count, slot-is (sound .known) (c .slot) file s seen form)))
 
-    pub unlink-number : {x e : ℕ} → x ≡ cond (eqb n 0) 24 0 → e ≡ ownPast (configuration t) (rd (configuration t) t) (w .me) file f x
-        → e ≡ firstRefusal (ruleAt t (λ h q. unlink h q (w .me) a buffer) .refusals)
-    unfolding unlink ownPast findPast
-    unlink-number xe ee = rw (ee, xe, count, see known (at file i links), slot, is .same, self, form)
-
-    pub unlink-words : write (configuration t) t (unlinked (rd (configuration t) t) i) ≡ write (configuration t) t (ruleAt t (λ h q. unlink h q (w .me) a buffer) .effects .words)
+  module _ (last : e₂ ≡ orRefuse e₁ (eqb m 0) 24) where
+    pub unlink-number : e₂ ≡ firstRefusal (ruleAt t (λ h q. unlink h q (c .slot) a buffer) .refusals)
     unfolding unlink
-    unlink-words = rw (slot, is .same, self)
+    unlink-number =
+        rw (last, found, ← self)
+        (refusing-first (ownTests f file ++ (eqb m 0 ⇒ 24) ∷ []) refl
+        ∙ own-first (sound .known) (c .slot) file s seen ((eqb m 0 ⇒ 24) ∷ []) ((eqb (wordsOf t (at file (indexOf s) links)) 0 ⇒ 24) ∷ [])
+        (λ form. rw (count, slot-is (sound .known) (c .slot) file s seen form)))
 
--- the slot of a file that a seid names
-pub slot-in : {t : List ℕ} {w : World} → Known t w → {s f i : ℕ} → Is (w .files) (class file) s f → i ≡ indexOf f → i < slots (configuration t) file
-slot-in {w = w} known {s} is slot = omega (arith, is-formed (class file) (w .files) s (is .form) .index-in, files-is known, slot ∙ ap indexOf (is .same))
+  -- past the refusals the seid is formed
+  pub linked-form : (b : Bool) → e₂ ≡ orRefuse e₁ b 24 → e₂ ≡ 0 → formed (configuration t) file s ≡ true
+  linked-form b last none =
+      let tests = ownTests f file ++ (b ⇒ 24) ∷ [] in
+      form-past (sound .known) (c .slot) file s seen (clear-of tests refl (sym (refusing-first tests refl) ∙ (sym (rw found at last) ∙ none)) .0)
 
--- its links stay in a byte and its size in its stretch, also where the record is free
-pub file-fits : {t : List ℕ} {w : World} → Sound t w → {s f i : ℕ} → Is (w .files) (class file) s f → i ≡ indexOf f
-    → (rd (configuration t) t (at file i links) ≤ maxLinks) × (rd (configuration t) t (at file i size) ≤ blocks (configuration t))
-file-fits {t} sound {i = i} is slot =
-    let x = file-record (configuration t) (rd (configuration t) t) (sound .records) i (slot-in (sound .known) is slot) in
-    elim (ℕ-discrete (rd (configuration t) t (at file i live)) 1) [
-      | yes y ↦ (x .alive y .links-fit, x .alive y .size-fits)
-      | no z ↦ let free = x .free (omega (arith, x .flag)) in (omega (arith, free links (omega arith) (omega arith)), omega (arith, free size (omega arith) (omega arith)))
-    ]
+  -- its links stay in a byte
+  pub links-few : (b : Bool) → e₂ ≡ orRefuse e₁ b 24 → e₂ ≡ 0 → m ≤ maxLinks
+  links-few b last none =
+      let form = linked-form b last none in
+      let i = slot-in (sound .known) (c .slot) file s seen form in
+      let x = file-record (configuration t) (wordsOf t) (sound .records) (f .slot) i in
+      elim (ℕ-discrete (wordsOf t (at file (f .slot) live)) 1) [
+        | yes y ↦ omega (arith, count, x .alive y .links-fit)
+        | no z ↦ omega (arith, count, x .free (omega (arith, x .flag)) links (omega arith) (omega arith))
+      ]
 
-pub links-few : {t : List ℕ} {w : World} → Sound t w → {s f i n : ℕ} → Is (w .files) (class file) s f → i ≡ indexOf f → n ≡ rdBy w t (at file i links) → n ≤ maxLinks
-links-few sound {i = i} is slot count = omega (arith, count, see (sound .known) (at file i links), file-fits sound is slot .0)
+  pub link-words : (b : Bool) → e₂ ≡ orRefuse e₁ b 24 → e₂ ≡ 0
+      → set t (placeOf n (at file (f .slot) links)) (m + 1) ≡ write (configuration t) t (ruleAt t (λ h q. link h q (c .slot) a buffer) .effects .words)
+  unfolding link
+  link-words b last none =
+      rw (count, spot (sound .known) (at file (f .slot) links), slot-is (sound .known) (c .slot) file s seen (linked-form b last none), self)
 
--- ---- one link less
+  pub unlink-words : (b : Bool) → e₂ ≡ orRefuse e₁ b 24 → e₂ ≡ 0
+      → write (configuration t) t (unlinked (wordsOf t) (f .slot)) ≡ write (configuration t) t (ruleAt t (λ h q. unlink h q (c .slot) a buffer) .effects .words)
+  unfolding unlink
+  unlink-words b last none = rw (slot-is (sound .known) (c .slot) file s seen (linked-form b last none), self)
 
-module _ {t : List ℕ} {w : World} (known : Known t w) (i : ℕ) {n held : ℕ} (count : n ≡ rdBy w t (at file i links)) (holders : held ≡ rdBy w t (at file i opens)) where
-  same-test : eqb n 1 && eqb held 0 ≡ eqb (rd (configuration t) t (at file i links)) 1 && eqb (rd (configuration t) t (at file i opens)) 0
-  same-test = rw (count, holders, see known (at file i links), see known (at file i opens))
+-- one link less
 
-  pub drop-freed : {o : ℕ} → o ≡ offsetBy w (at file i 0) → eqb n 1 && eqb held 0 ≡ true → freedAt t o 8 ≡ write (configuration t) t (unlinked (rd (configuration t) t) i)
+module _ {t : List ℕ} {n : Header} (known : Known t n) (i : ℕ) {m held : ℕ} (count : m ≡ wordsOf t (at file i links)) (holders : held ≡ wordsOf t (at file i opens)) where
+  same-test : eqb m 1 && eqb held 0 ≡ eqb (wordsOf t (at file i links)) 1 && eqb (wordsOf t (at file i opens)) 0
+  same-test = rw (count, holders)
+
+  pub drop-freed : {o : ℕ} → o ≡ recordOf n file i → eqb m 1 && eqb held 0 ≡ true → freedAt t o (recordWords file) ≡ write (configuration t) t (unlinked (wordsOf t) i)
   unfolding unlinked
   drop-freed oe b =
-      rw (oe, spot known (at file i 0)) (sym (freed-is (configuration t) t file i))
+      rw (oe, begins known file i) (sym (freed-is (configuration t) t file i))
       ∙ ap (write (configuration t) t) (sym (cond-true _ _ _ (sym same-test ∙ b)))
 
-  pub drop-counted : {m : ℕ} → m ≡ n - 1 → eqb n 1 && eqb held 0 ≡ false → set t (offsetBy w (at file i links)) m ≡ write (configuration t) t (unlinked (rd (configuration t) t) i)
+  pub drop-counted : {x : ℕ} → x ≡ m - 1 → eqb m 1 && eqb held 0 ≡ false → set t (placeOf n (at file i links)) x ≡ write (configuration t) t (unlinked (wordsOf t) i)
   unfolding unlinked
-  drop-counted me b =
-      rw (me, count, see known (at file i links), spot known (at file i links))
+  drop-counted xe b =
+      rw (xe, count, spot known (at file i links))
       (ap (write (configuration t) t) (sym (cond-false _ _ _ (sym same-test ∙ b))))
 
--- ---- set bits
+-- ---- 12: set bits, of a kind
 
-module _ (h : List ℕ) (r : Addr → ℕ) (p s b : ℕ) (buffer : List ℕ) (k : Kind) where
-  pub bits-number : {x e : ℕ} → isSeid (class k) (slots h k) s ≡ true → x ≡ ownPast h r p k s 0 → e ≡ cond (ltb maxBits b) 4 x
-      → e ≡ firstRefusal (setBitsOf h r p s b buffer k .refusals)
-  unfolding ownPast findPast
-  bits-number form xe ee = rw (ee, xe, form)
+module _ {t : List ℕ} {n : Header} {c : Caller} (sound : Sound t n c) (k : Kind) (s b : ℕ) (buffer : List ℕ) {e₁ e₂ : ℕ} {x : Seen}
+    (seen : x ≡ seenAs (configuration t) (wordsOf t) (c .slot) k (namedOf n k s)) (first : e₁ ≡ orRefuse 0 (ltb maxBits b) 4) (last : e₂ ≡ refusing e₁ (ownTests x k)) where
+  pub bits-number : e₂ ≡ firstRefusal (setBitsOf (configuration t) (wordsOf t) (c .slot) s b buffer k .refusals)
+  bits-number =
+      rw (last, first)
+      (refusing-first ((ltb maxBits b ⇒ 4) ∷ ownTests x k) (own-numbered x k [] refl)
+      ∙ past (ltb maxBits b) 4 (ownTests x k) (own (configuration t) (wordsOf t) (c .slot) k s) (λ _. own-first (sound .known) (c .slot) k s seen [] [] (λ _. refl)))
 
-  bits-absent : {e : ℕ} → isSeid (class k) (slots h k) s ≡ false → e ≡ cond (ltb maxBits b) 4 (Rattle.rules.specs.Find.absent k)
-      → e ≡ firstRefusal (setBitsOf h r p s b buffer k .refusals)
-  bits-absent form ee = rw (ee, form)
+  pub bits-words : e₂ ≡ 0 → {j : ℕ} → j ≡ bits k
+      → set t (placeOf n (at k (x .slot) j)) b ≡ write (configuration t) t (setBitsOf (configuration t) (wordsOf t) (c .slot) s b buffer k .effects .words)
+  bits-words none je =
+      let z = clear-of ((ltb maxBits b ⇒ 4) ∷ ownTests x k) (own-numbered x k [] refl) (sym (refusing-first ((ltb maxBits b ⇒ 4) ∷ ownTests x k) (own-numbered x k [] refl)) ∙ (sym (rw first at last) ∙ none)) in
+      rw (je, spot (sound .known) (at k (x .slot) (bits k)), slot-is (sound .known) (c .slot) k s seen (form-past (sound .known) (c .slot) k s seen (z .1 .0)))
 
--- the word written, at slot i
-pub bits-words : {t : List ℕ} {w : World} → Known t w → (p s b : ℕ) (buffer : List ℕ) (k : Kind) {i : ℕ} → i ≡ indexOf s
-    → set t (offsetBy w (at k i (bits k))) b ≡ write (configuration t) t (setBitsOf (configuration t) (rd (configuration t) t) p s b buffer k .effects .words)
-bits-words known p s b buffer k {i} slot = rw (spot known (at k i (bits k)), slot)
-
+-- it goes by the seid's class
 module _ (h : List ℕ) (r : Addr → ℕ) (p a b : ℕ) (buffer : List ℕ) {s c : ℕ} (self : s ≡ orSelf r p a) (cl : c ≡ classOf s) where
-  at-class : c ≡ classOf (orSelf r p a)
-  at-class = cl ∙ ap classOf self
-
-  pub by-segment : {x : ℕ} → x ≡ s → c ≡ class segment → setBitsOf h r p x b buffer segment ≡ setBits h r p a b buffer
+  pub by-segment : c ≡ class segment → setBitsOf h r p s b buffer segment ≡ setBits h r p a b buffer
   unfolding setBits
-  by-segment xe ce = rw (xe, self) (sym (cond-true _ _ _ (eq-eqb _ 5 (sym at-class ∙ ce))))
+  by-segment ce = rw (← self) (sym (cond-true _ _ _ (eq-eqb _ 5 (sym cl ∙ ce))))
 
-  pub by-file : {x : ℕ} → x ≡ s → (c ≡ class segment → ⊥) → setBitsOf h r p x b buffer file ≡ setBits h r p a b buffer
+  pub by-file : (c ≡ class segment → ⊥) → setBitsOf h r p s b buffer file ≡ setBits h r p a b buffer
   unfolding setBits
-  by-file xe ce = rw (xe, self) (sym (cond-false _ _ _ (ne-eqb _ 5 (λ e. ce (at-class ∙ e)))))
+  by-file ce = rw (← self) (sym (cond-false _ _ _ (ne-eqb _ 5 (λ e. ce (cl ∙ e)))))
 
--- a seid of no form: it goes by the class all the same
-module _ {t : List ℕ} {w : World} (known : Known t w) (a b : ℕ) (buffer : List ℕ) {s c e : ℕ} {r : Answer} (self : s ≡ orSelf (rd (configuration t) t) (w .me) a) (cl : c ≡ classOf s)
-    (re : r ≡ said e 0 0) where
-  pub segment-absent : c ≡ class segment → isSeid (class segment) (w .segments) s ≡ false → e ≡ cond (ltb maxBits b) 4 11 → Left t (λ h q. setBits h q (w .me) a b buffer) r t
-  segment-absent ce n ee =
-      left-same t (λ h q. setBitsOf h q (w .me) s b buffer segment) (λ h q. setBits h q (w .me) a b buffer) (by-segment (configuration t) (rd (configuration t) t) (w .me) a b buffer self cl refl ce)
-      (left-refused t (λ h q. setBitsOf h q (w .me) s b buffer segment) (bits-absent (configuration t) (rd (configuration t) t) (w .me) s b buffer segment (rw (segments-is known) at n) ee)
-      (λ z. cond-some (ltb maxBits b) 4 11 (omega arith) (omega arith) (sym ee ∙ z)) re)
+-- ---- 7: create. d is the descriptor and f the slot that were found
 
-  pub file-absent : (c ≡ class segment → ⊥) → isSeid (class file) (w .files) s ≡ false → e ≡ cond (ltb maxBits b) 4 12 → Left t (λ h q. setBits h q (w .me) a b buffer) r t
-  file-absent ce n ee =
-      left-same t (λ h q. setBitsOf h q (w .me) s b buffer file) (λ h q. setBits h q (w .me) a b buffer) (by-file (configuration t) (rd (configuration t) t) (w .me) a b buffer self cl refl ce)
-      (left-refused t (λ h q. setBitsOf h q (w .me) s b buffer file) (bits-absent (configuration t) (rd (configuration t) t) (w .me) s b buffer file (rw (files-is known) at n) ee)
-      (λ z. cond-some (ltb maxBits b) 4 12 (omega arith) (omega arith) (sym ee ∙ z)) re)
+module _ {t : List ℕ} {n : Header} {c : Caller} (sound : Sound t n c) (a b : ℕ) (buffer : List ℕ) {d z e₁ e₂ e₃ e₄ : ℕ} {ok : Bool} {f : Slot}
+    (slot : f ≡ slotFound (configuration t) (wordsOf t) file (c .cell)) (entry : d ≡ freeEntry (wordsOf t) file (c .slot)) (first : e₁ ≡ orRefuse 0 (ltb maxBits a) 4)
+    (modes : ok ≡ validModes b) (second : e₂ ≡ orRefuse e₁ (not ok) 7) (wide : z ≡ d) (third : e₃ ≡ orRefuse e₂ (leb entries z) 25) (last : e₄ ≡ orRefuse e₃ (f .none) 26) where
+  create-found : e₄ ≡ firstRefusal ((ltb maxBits a ⇒ 4) ∷ (not (validModes b) ⇒ 7) ∷ (leb entries d ⇒ 25) ∷ (f .none ⇒ 26) ∷ [])
+  create-found =
+      rw (last, third, wide, second, modes, first)
+      (refusing-first ((ltb maxBits a ⇒ 4) ∷ (not (validModes b) ⇒ 7) ∷ (leb entries d ⇒ 25) ∷ (f .none ⇒ 26) ∷ []) refl)
 
--- ---- create
+  pub create-number : e₄ ≡ firstRefusal (ruleAt t (λ h q. create h q (c .slot) a b buffer) .refusals)
+  unfolding create
+  create-number = create-found ∙ rw (entry, slot, sound .home)
 
-module _ {t : List ℕ} {w : World} (known : Known t w) (f d a b : ℕ) where
-  -- what the code reads, makes and writes: n is the slot's serial, u and g the caller's owner and group
-  module _ (small : f < 256) (room : rd (configuration t) t (at file f serial) < maxSerial) {n u g : ℕ} (ne : n ≡ rdBy w t (at file f serial))
-      (ue : u ≡ rdBy w t (at process (w .me) owner)) (ge : g ≡ rdBy w t (at process (w .me) group)) {s : ℕ} (se : s ≡ seidOf (class file) f (n + 1)) where
-    serial-is : n ≡ rd (configuration t) t (at file f serial)
-    serial-is = ne ∙ see known (at file f serial)
+  pub create-room : e₄ ≡ 0 → f .none ≡ false
+  create-room q = clear-of ((ltb maxBits a ⇒ 4) ∷ (not (validModes b) ⇒ 7) ∷ (leb entries d ⇒ 25) ∷ (f .none ⇒ 26) ∷ []) refl (sym create-found ∙ q) .1 .1 .1 .0
 
-    pub made-words : {o y place : ℕ} {t1 t2 : List ℕ} → o ≡ offsetBy w (at file f 0) → t1 ≡ madeAt t o (n + 1) u g a 0 0 → y ≡ d
-        → place ≡ offsetBy w (at process (w .me) (8 + 2 * y)) → t2 ≡ set (set t1 place s) (place + 1) b
-        → t2 ≡ write (configuration t) t (created (rd (configuration t) t) (w .me) a f (rd (configuration t) t (at file f serial) + 1) ++ entered file (w .me) d (seid (class file) f (rd (configuration t) t (at file f serial) + 1)) b)
-    made-words {y = y} oe e1 ye pe e2 =
-        e2
-        ∙ rw (e1, oe, pe, made-seid known file small room ne se, serial-is, ue, ge, see known (at process (w .me) owner), see known (at process (w .me) group), spot known (at file f 0), spot known (at process (w .me) (8 + 2 * y)), ye)
-        (sym (made-is (configuration t) t file f (rd (configuration t) t (at file f serial) + 1) (rd (configuration t) t (at process (w .me) owner)) (rd (configuration t) t (at process (w .me) group)) a 0 0
-        (entered file (w .me) d (seid (class file) f (rd (configuration t) t (at file f serial) + 1)) b)
-        ∙ entered-is (configuration t)
-        (madeAt t (offset (configuration t) (at file f 0)) (rd (configuration t) t (at file f serial) + 1) (rd (configuration t) t (at process (w .me) owner)) (rd (configuration t) t (at process (w .me) group)) a 0 0)
-        (w .me) d (seid (class file) f (rd (configuration t) t (at file f serial) + 1)) b [] a-file))
-
-module _ {t : List ℕ} {w : World} (known : Known t w) (a b : ℕ) (buffer : List ℕ) {d f : ℕ} (de : d ≡ freeEntry (rd (configuration t) t) file (w .me))
-    (fe : f ≡ freeSlot (configuration t) (rd (configuration t) t) file (cellOf (configuration t) process (w .me))) where
-  module _ {end : ℕ} (ee : end ≡ firstSlot (configuration t) file (cellOf (configuration t) process (w .me)) + cellSlots (configuration t) file (cellOf (configuration t) process (w .me)))
-      {y x z v e : ℕ} {ok : Bool} (ye : y ≡ d) (xe : x ≡ cond (leb end f) 26 0) (ze : z ≡ cond (leb entries y) 25 x) (oe : ok ≡ validModes b) (ve : v ≡ cond (not ok) 7 z)
-      (last : e ≡ cond (ltb maxBits a) 4 v) where
-    pub create-number : e ≡ firstRefusal (ruleAt t (λ h q. create h q (w .me) a b buffer) .refusals)
+  -- x is the slot's serial, u and g the caller's owner and group, s the new seid
+  module _ (none : e₄ ≡ 0) {x u g s : ℕ} (xe : x ≡ wordsOf t (at file (f .index) serial)) (ue : u ≡ wordsOf t (at process (c .slot) owner)) (ge : g ≡ wordsOf t (at process (c .slot) group))
+      (se : s ≡ seidOf (class file) (f .index) (x + 1)) where
+    pub create-seid : s ≡ ruleAt t (λ h q. create h q (c .slot) a b buffer) .effects .first
     unfolding create
-    create-number = rw (last, ve, oe, ze, xe, ye, de, fe, ee)
+    create-seid = new-seid sound file slot (create-room none) xe se ∙ rw (slot, sound .home)
 
-    -- past the refusals there is a free slot
-    pub create-room : e ≡ 0 → leb end f ≡ false
-    create-room q =
-        let p1 = not-chosen (ltb maxBits a) 4 v (omega arith) (sym last ∙ q) in
-        let p2 = not-chosen (not ok) 7 z (omega arith) (sym ve ∙ p1 .1) in
-        let p3 = not-chosen (leb entries y) 25 x (omega arith) (sym ze ∙ p2 .1) in
-        not-chosen (leb end f) 26 0 (omega arith) (sym xe ∙ p3 .1) .0
+    pub create-words : {o place : ℕ} {t₁ t₂ : List ℕ} → o ≡ recordOf n file (f .index) → t₁ ≡ madeAt t o (x + 1) u g a 0 0
+        → place ≡ recordOf n process (c .slot) + heldAt file d → t₂ ≡ set (set t₁ place s) (place + 1) b
+        → t₂ ≡ write (configuration t) t (ruleAt t (λ h q. create h q (c .slot) a b buffer) .effects .words)
+    unfolding create
+    create-words oe e₁ pe e₂ =
+        e₂
+        ∙ rw (e₁, oe, pe, begins (sound .known) file (f .index), spot (sound .known) (at process (c .slot) (heldAt file d)), new-seid sound file slot (create-room none) xe se, xe, ue, ge)
+        (sym (made-is (configuration t) t file (f .index) (wordsOf t (at file (f .index) serial) + 1) (wordsOf t (at process (c .slot) owner)) (wordsOf t (at process (c .slot) group)) a 0 0
+        (entered file (c .slot) d (seid (class file) (f .index) (wordsOf t (at file (f .index) serial) + 1)) b)
+        ∙ entered-is (configuration t) (madeAt t (offset (configuration t) (at file (f .index) 0)) (wordsOf t (at file (f .index) serial) + 1) (wordsOf t (at process (c .slot) owner)) (wordsOf t (at process (c .slot) group)) a 0 0) file (c .slot) d (seid (class file) (f .index) (wordsOf t (at file (f .index) serial) + 1)) b [] refl)
+        ∙ rw (slot, entry, sound .home))
 
-  pub create-said : {s : ℕ} {r : Answer} → s ≡ seid (class file) f (rd (configuration t) t (at file f serial) + 1) → r ≡ said 0 s d
-      → r ≡ said 0 (ruleAt t (λ h q. create h q (w .me) a b buffer) .effects .first) (ruleAt t (λ h q. create h q (w .me) a b buffer) .effects .second)
-  unfolding create
-  create-said se re = re ∙ rw (se, fe, de)
+-- ---- 8: open. The search for a clash: x is entry d of process p
 
-  pub create-words : {t′ : List ℕ} → t′ ≡ write (configuration t) t (created (rd (configuration t) t) (w .me) a f (rd (configuration t) t (at file f serial) + 1) ++ entered file (w .me) d (seid (class file) f (rd (configuration t) t (at file f serial) + 1)) b)
-      → t′ ≡ write (configuration t) t (ruleAt t (λ h q. create h q (w .me) a b buffer) .effects .words)
-  unfolding create
-  create-words e = e ∙ rw (fe, de)
-
--- ---- open: the search for a clash
-
-module _ {t : List ℕ} {w : World} (sound : Sound t w) (s b : ℕ) (form : isSeid (class file) (w .files) s ≡ true) (modes : validModes b ≡ true) where
-  clash-told : (p d : ℕ) → p < slots (configuration t) process → d < entries → {y held used v : ℕ} {c : Bool} → y ≡ d → held ≡ rdBy w t (at process p (8 + 2 * y))
-      → used ≡ rdBy w t (at process p (8 + 2 * y + 1)) → v ≡ s → c ≡ clashOf used b → eqb held v && c ≡ clashesAt (rd (configuration t) t) s b p d
-  unfolding clashesAt
-  clash-told p d lp ld {y} ye he ue ve ce =
-      let nine : 8 + 2 * d + 1 ≡ 9 + 2 * d = omega arith in
-      rw (he, ce, ue, ve, see (sound .known) (at process p (8 + 2 * y)), see (sound .known) (at process p (8 + 2 * y + 1)), ye, nine)
-      (and-same (eqb (rd (configuration t) t (at process p (8 + 2 * d))) s) _ _
-      (λ e. clash-valid _ b (descriptor (configuration t) (rd (configuration t) t) (sound .records) p d lp ld .valid (λ z. class-some s 129 (omega arith) (is-formed (class file) (w .files) s form .class-is) (sym (eqb-true _ s e) ∙ z))) modes))
-
+module _ {t : List ℕ} {n : Header} {s b : ℕ} (good : Clashable t n s b) (p d : ℕ) (lp : p < slots (configuration t) process) (ld : d < entries) {x : Entry}
+    (read : x ≡ entryOf (wordsOf t) file p d) where
   -- an entry that does not hold the file clashes with nothing, and of one that does the modes alone are asked
-  pub clash-none : (p d : ℕ) → p < slots (configuration t) process → d < entries → {y held v : ℕ} → y ≡ d → held ≡ rdBy w t (at process p (8 + 2 * y))
-      → v ≡ s → eqb held v ≡ false → false ≡ clashesAt (rd (configuration t) t) s b p d
-  clash-none p d lp ld {y} {held} {v} ye he ve e =
-      ap (λ (x : Bool). x && clashOf (rdBy w t (at process p (8 + 2 * y + 1))) b) (sym e) ∙ clash-told p d lp ld ye he refl ve refl
+  pub clash-none : (x .held ≡ s → ⊥) → false ≡ clashesAt (wordsOf t) s b p d
+  unfolding clashesAt
+  clash-none other = sym (ap (λ (y : Bool). y && clash (wordsOf t (at process p (usedAt file d))) b) (ne-eqb _ s (λ e. other (ap (λ (y : Entry). y .held) read ∙ e))))
 
-  pub clash-held : (p d : ℕ) → p < slots (configuration t) process → d < entries → {y held used v : ℕ} {c : Bool} → y ≡ d → held ≡ rdBy w t (at process p (8 + 2 * y))
-      → used ≡ rdBy w t (at process p (8 + 2 * y + 1)) → v ≡ s → c ≡ clashOf used b → eqb held v ≡ true → c ≡ clashesAt (rd (configuration t) t) s b p d
-  clash-held p d lp ld {y} {held} {used} {v} {c} ye he ue ve ce e =
-      ap (λ (x : Bool). x && c) (sym e) ∙ clash-told p d lp ld ye he ue ve ce
+  pub clash-held : x .held ≡ s → {c : Bool} → c ≡ clashOf (x .used) b → c ≡ clashesAt (wordsOf t) s b p d
+  unfolding clashesAt
+  clash-held e ce =
+      let held : wordsOf t (at process p (heldAt file d)) ≡ s = sym (ap (λ (y : Entry). y .held) read) ∙ e in
+      let some : wordsOf t (at process p (heldAt file d)) ≡ 0 → ⊥ = λ z. class-some s 129 (omega arith) (is-formed (class file) _ s (good .form) .class-is) (sym held ∙ z) in
+      let valid = descriptor (configuration t) (wordsOf t) (good .records) p d lp ld .valid some in
+      ce
+      ∙ ap (λ (y : Entry). clashOf (y .used) b) read
+      ∙ clash-valid _ b valid (good .modes)
+      ∙ sym (ap (λ (y : Bool). y && clash (wordsOf t (at process p (usedAt file d))) b) (eq-eqb _ s held))
 
-module _ {t : List ℕ} {w : World} (known : Known t w) (s b : ℕ) {from n : ℕ} (fe : from ≡ firstBy (configuration t) 3 (w .home)) (ne : n ≡ cellWord (configuration t) (w .home) 3) where
-  from-is : from ≡ firstSlot (configuration t) process (cellOf (configuration t) process (w .me))
-  from-is = fe ∙ first-by-kind (configuration t) process (w .home) ∙ ap (firstSlot (configuration t) process) (home-is known)
-
-  count-is : n ≡ cellSlots (configuration t) process (cellOf (configuration t) process (w .me))
-  count-is = ne ∙ ap (λ (c : ℕ). cellWord (configuration t) c 3) (home-is known)
-
-  pub none-clash : ((k : ℕ) → k < n → someBelow entries (clashesAt (rd (configuration t) t) s b (from + k)) ≡ false)
-      → clashes (configuration t) (rd (configuration t) t) (cellOf (configuration t) process (w .me)) s b ≡ false
+-- the processes of the caller's cell: from is the first, m how many there are
+module _ (t : List ℕ) (cell s b : ℕ) {from m : ℕ} (fe : from ≡ firstBy (configuration t) (cellSlotsWord process) cell) (me : m ≡ cellWord (configuration t) cell (cellSlotsWord process)) where
+  pub none-clash : ((k : ℕ) → k < m → someBelow entries (clashesAt (wordsOf t) s b (from + k)) ≡ false) → clashes (configuration t) (wordsOf t) cell s b ≡ false
   unfolding clashes
-  none-clash h = rw (← from-is, ← count-is) (some-none n (λ i. someBelow entries (clashesAt (rd (configuration t) t) s b (from + i))) h)
+  none-clash h = rw (← first-by-kind (configuration t) process cell, ← fe, ← me) (some-none m (λ i. someBelow entries (clashesAt (wordsOf t) s b (from + i))) h)
 
-  pub some-clash : (k d : ℕ) → k < n → d < entries → clashesAt (rd (configuration t) t) s b (from + k) d ≡ true
-      → clashes (configuration t) (rd (configuration t) t) (cellOf (configuration t) process (w .me)) s b ≡ true
+  pub some-clash : (k d : ℕ) → k < m → d < entries → clashesAt (wordsOf t) s b (from + k) d ≡ true → clashes (configuration t) (wordsOf t) cell s b ≡ true
   unfolding clashes
   some-clash k d lk ld e =
-      rw (← from-is, ← count-is)
-      (some-of n (λ i. someBelow entries (clashesAt (rd (configuration t) t) s b (from + i))) k lk (some-of entries (clashesAt (rd (configuration t) t) s b (from + k)) d ld e))
+      rw (← first-by-kind (configuration t) process cell, ← fe, ← me)
+      (some-of m (λ i. someBelow entries (clashesAt (wordsOf t) s b (from + i))) k lk (some-of entries (clashesAt (wordsOf t) s b (from + k)) d ld e))
 
--- ---- open: the refusals
+-- the refusals: s is the seid, f what is seen of it, d the descriptor that was found
+module _ {t : List ℕ} {n : Header} {c : Caller} (sound : Sound t n c) (a b : ℕ) (buffer : List ℕ) {s d e₁ : ℕ} {f : Seen} (self : s ≡ orSelf (wordsOf t) (c .slot) a)
+    (seen : f ≡ seenAs (configuration t) (wordsOf t) (c .slot) file (namedOf n file s)) (entry : d ≡ freeEntry (wordsOf t) file (c .slot)) (first : e₁ ≡ refusing 0 (openTests f b)) where
+  -- past the first stage the search may be made
+  pub may-clash : e₁ ≡ 0 → Clashable t n s b
+  may-clash none =
+      let clear = clear-of (openTests f b) refl (sym (refusing-first (openTests f b) refl) ∙ (sym first ∙ none)) in
+      record {
+        known = sound .known;
+        records = sound .records;
+        form = form-past (sound .known) (c .slot) file s seen (clear .1 .0);
+        modes = passed (validModes b) (clear .0);
+      }
 
-pub open-number : (h : List ℕ) (q : Addr → ℕ) (p s b : ℕ) {i x y z e rights : ℕ} {reading writing flow there lacking ok here : Bool} → reading ≡ reads b → writing ≡ writes b → flow ≡ flowsToCaller h p file s
-    → there ≡ present q file s → i ≡ indexOf s → rights ≡ rightsAt q p file i → lacking ≡ lacks rights reading writing → here ≡ inOwnCell h p file s
-    → x ≡ cond lacking 16 0 → y ≡ cond (not there) 12 x → ok ≡ validModes b → z ≡ cond (not flow || (writing && not here)) 13 y → e ≡ cond (not ok) 7 z
-    → e ≡ openPast h q p s b
-unfolding openPast findPast
-open-number h q p s b re we fe te ie ge le he xe ye oe ze ee = rw (ee, oe, ze, ye, xe, le, fe, we, re, te, he, ge, ie)
+  module _ {z e₂ e₃ : ℕ} {clashing : Bool} (searched : clashing ≡ eqb e₁ 0 && (f .own && clashes (configuration t) (wordsOf t) (c .cell) s b)) (second : e₂ ≡ orRefuse e₁ clashing 19) (wide : z ≡ d)
+      (last : e₃ ≡ orRefuse e₂ (leb entries z) 25) where
+    pub open-found : e₃ ≡ firstRefusal (openTests f b ++ (f .own && clashes (configuration t) (wordsOf t) (c .cell) s b ⇒ 19) ∷ (leb entries d ⇒ 25) ∷ [])
+    open-found =
+        rw (last, wide, second, searched, only-then e₁ (f .own && clashes (configuration t) (wordsOf t) (c .cell) s b) 19, first)
+        (refusing-first (openTests f b ++ (f .own && clashes (configuration t) (wordsOf t) (c .cell) s b ⇒ 19) ∷ (leb entries d ⇒ 25) ∷ []) refl)
 
-module _ {t : List ℕ} {w : World} (known : Known t w) (s b : ℕ) (buffer : List ℕ) (form : isSeid (class file) (w .files) s ≡ true) where
-  itself : orSelf (rd (configuration t) t) (w .me) s ≡ s
-  itself = self-formed (rd (configuration t) t) (w .me) file (w .files) s form
+    pub open-number : e₃ ≡ firstRefusal (ruleAt t (λ h q. openFile h q (c .slot) a b buffer) .refusals)
+    unfolding openFile
+    open-number =
+        open-found
+        ∙ rw (← self, entry, sound .home)
+        (past (not (validModes b)) 7
+        (findTests f file (not (f .flows) || (writes b && not (f .own)))
+        ++ (lacks (f .rights) (reads b) (writes b) ⇒ 16) ∷ (f .own && clashes (configuration t) (wordsOf t) (cellOf (configuration t) process (c .slot)) s b ⇒ 19)
+        ∷ (noEntry (wordsOf t) file (c .slot) ⇒ 25) ∷ [])
+        (find (configuration t) (wordsOf t) file s (not (flowsToCaller (configuration t) (c .slot) file s) || (writes b && not (inOwnCell (configuration t) (c .slot) file s)))
+        ++ (lacks (rightsAt (wordsOf t) (c .slot) file (indexOf s)) (reads b) (writes b) ⇒ 16)
+        ∷ (inOwnCell (configuration t) (c .slot) file s && clashes (configuration t) (wordsOf t) (cellOf (configuration t) process (c .slot)) s b ⇒ 19)
+        ∷ (noEntry (wordsOf t) file (c .slot) ⇒ 25) ∷ [])
+        (λ _. find-first (sound .known) (c .slot) file s seen (not (f .flows) || (writes b && not (f .own)))
+        (not (flowsToCaller (configuration t) (c .slot) file s) || (writes b && not (inOwnCell (configuration t) (c .slot) file s)))
+        ((lacks (f .rights) (reads b) (writes b) ⇒ 16) ∷ (f .own && clashes (configuration t) (wordsOf t) (cellOf (configuration t) process (c .slot)) s b ⇒ 19)
+        ∷ (noEntry (wordsOf t) file (c .slot) ⇒ 25) ∷ [])
+        ((lacks (rightsAt (wordsOf t) (c .slot) file (indexOf s)) (reads b) (writes b) ⇒ 16)
+        ∷ (inOwnCell (configuration t) (c .slot) file s && clashes (configuration t) (wordsOf t) (cellOf (configuration t) process (c .slot)) s b ⇒ 19)
+        ∷ (noEntry (wordsOf t) file (c .slot) ⇒ 25) ∷ [])
+        (λ form. rw (seen-formed (sound .known) (c .slot) file s seen form)) (λ form. rw (seen-formed (sound .known) (c .slot) file s seen form))))
 
-  good : isSeid (class file) (slots (configuration t) file) s ≡ true
-  good = rw (← files-is known) form
+    -- past the refusals the seid is formed
+    pub open-form : e₃ ≡ 0 → formed (configuration t) file s ≡ true
+    open-form none =
+        let clear = clear-of (openTests f b ++ (f .own && clashes (configuration t) (wordsOf t) (c .cell) s b ⇒ 19) ∷ (leb entries d ⇒ 25) ∷ []) refl (sym open-found ∙ none) in
+        form-past (sound .known) (c .slot) file s seen (clear .1 .0)
 
-  pub open-sooner : {e : ℕ} → e ≡ openPast (configuration t) (rd (configuration t) t) (w .me) s b → (e ≡ 0 → ⊥) → e ≡ firstRefusal (ruleAt t (λ h q. openFile h q (w .me) s b buffer) .refusals)
-  unfolding openFile openPast findPast
-  open-sooner ee ne =
-      ee
-      ∙ rw (itself, good)
-      (sooner-four (not (validModes b)) (not (flowsToCaller (configuration t) (w .me) file s) || (writes b && not (inOwnCell (configuration t) (w .me) file s))) (not (present (rd (configuration t) t) file s))
-      (lacks (rightsAt (rd (configuration t) t) (w .me) file (indexOf s)) (reads b) (writes b)) _ (rw ee at ne))
+    pub open-fits : e₃ ≡ 0 → {object : ℕ} → object ≡ recordOf n file (f .slot) → getD t (object + opens) 0 ≤ 1024
+    open-fits none oe = one-fits sound file (f .slot) refl (slot-in (sound .known) (c .slot) file s seen (open-form none)) oe
 
-  module _ {here hit : Bool} {d e y x e2 : ℕ} (ee : e ≡ openPast (configuration t) (rd (configuration t) t) (w .me) s b) (none : e ≡ 0) (he : here ≡ inOwnCell (configuration t) (w .me) file s)
-      (be : hit ≡ here && clashes (configuration t) (rd (configuration t) t) (cellOf (configuration t) process (w .me)) s b) (de : d ≡ freeEntry (rd (configuration t) t) file (w .me)) where
-    pub open-later : y ≡ d → x ≡ cond (leb entries y) 25 0 → e2 ≡ cond hit 19 x → e2 ≡ firstRefusal (ruleAt t (λ h q. openFile h q (w .me) s b buffer) .refusals)
-    unfolding openFile openPast findPast
-    open-later ye xe e2e =
-        rw (e2e, xe, ye, be, he, de, itself, good)
-        (sym (later-four (not (validModes b)) (not (flowsToCaller (configuration t) (w .me) file s) || (writes b && not (inOwnCell (configuration t) (w .me) file s))) (not (present (rd (configuration t) t) file s))
-        (lacks (rightsAt (rd (configuration t) t) (w .me) file (indexOf s)) (reads b) (writes b)) _ (sym ee ∙ none)))
+    pub open-words : e₃ ≡ 0 → {place object : ℕ} → place ≡ recordOf n process (c .slot) + heldAt file d → object ≡ recordOf n file (f .slot)
+        → takenUpAt t file place s b object (f .own) ≡ write (configuration t) t (ruleAt t (λ h q. openFile h q (c .slot) a b buffer) .effects .words)
+    unfolding openFile
+    open-words none pe oe =
+        let form = open-form none in
+        taken-told (sound .known) file (c .slot) d s b refl (slot-is (sound .known) (c .slot) file s seen form) (own-is (sound .known) (c .slot) file s seen form) pe oe ∙ rw (entry, self)
 
-  pub open-words : {here : Bool} {d i v y entry object : ℕ} → here ≡ inOwnCell (configuration t) (w .me) file s → d ≡ freeEntry (rd (configuration t) t) file (w .me) → i ≡ indexOf s → v ≡ s → y ≡ d
-      → entry ≡ offsetBy w (at process (w .me) (8 + 2 * y)) → object ≡ offsetBy w (at file i 0)
-      → takenUpAt t entry v b object here ≡ write (configuration t) t (ruleAt t (λ h q. openFile h q (w .me) s b buffer) .effects .words)
-  unfolding openFile
-  open-words {i = i} {y = y} he de ie ve ye ne oe =
-      rw (ne, oe, spot known (at process (w .me) (8 + 2 * y)), spot known (at file i 0), ye, ie, ve, he, de, itself)
-      (sym (taken-is (configuration t) t (w .me) (freeEntry (rd (configuration t) t) file (w .me)) s b a-file))
-
-  pub open-said : {d : ℕ} {r : Answer} → d ≡ freeEntry (rd (configuration t) t) file (w .me) → r ≡ said 0 d 0
-      → r ≡ said 0 (ruleAt t (λ h q. openFile h q (w .me) s b buffer) .effects .first) (ruleAt t (λ h q. openFile h q (w .me) s b buffer) .effects .second)
-  unfolding openFile
-  open-said de re = re ∙ rw de
-
--- past the first stage the modes are valid
-pub open-modes : (h : List ℕ) (q : Addr → ℕ) (p s b : ℕ) {e : ℕ} → e ≡ openPast h q p s b → e ≡ 0 → validModes b ≡ true
-unfolding openPast
-open-modes h q p s b ee z = Rattle.laws.proofs.Tests.passed (validModes b) (not-chosen (not (validModes b)) 7 _ (omega arith) (sym ee ∙ z) .0)
-
--- the count of a file that is opened
-pub open-fits : {t : List ℕ} {w : World} → Sound t w → (s : ℕ) {i object : ℕ} → isSeid (class file) (w .files) s ≡ true → i ≡ indexOf s → object ≡ offsetBy w (at file i 0) → getD t (object + opens) 0 ≤ 1024
-open-fits sound s {i} form ie oe = one-fits sound i a-file (omega (arith, is-formed (class file) _ s form .index-in, files-is (sound .known))) oe
-
--- a file's seid opened is the argument's
-pub open-self : (h : List ℕ) (q : Addr → ℕ) (p n a b : ℕ) (buffer : List ℕ) {s x : ℕ} → s ≡ orSelf q p a → x ≡ s → isSeid (class file) n x ≡ true → openFile h q p x b buffer ≡ openFile h q p a b buffer
-unfolding openFile
-open-self h q p n a b buffer {s} {x} se xe form = let e : orSelf q p x ≡ orSelf q p a = self-formed q p file n x form ∙ xe ∙ se in rw e
-
-pub open-absent : {t : List ℕ} {w : World} → Known t w → (a b : ℕ) (buffer : List ℕ) {s e : ℕ} {ok : Bool} → s ≡ orSelf (rd (configuration t) t) (w .me) a → isSeid (class file) (w .files) s ≡ false → ok ≡ validModes b → e ≡ cond (not ok) 7 12
-    → e ≡ firstRefusal (ruleAt t (λ h q. openFile h q (w .me) a b buffer) .refusals)
-unfolding openFile
-open-absent known a b buffer se n oe ee = rw (ee, oe, no-form known a buffer se n)
+pub and-none : (x : Bool) → x && false ≡ false
+and-none true = refl
+and-none false = refl

@@ -1,19 +1,19 @@
--- Laws that the calls' proofs share.
+-- Laws that the proofs of the functions cite.
 pub mod Worlds
+pub mod Searches
+pub mod Refusals
+pub mod Names
+pub mod Looks
 pub mod Leaves
 pub mod Given
-pub mod Named
-pub mod Entries
-pub mod Queues
-pub mod Room
 pub mod Holders
-pub mod Finds
-pub mod Posts
 pub mod FilesLaws
-pub mod BlocksLaws
 pub mod SegmentsLaws
 pub mod ProcessesLaws
+pub mod Queues
+pub mod Posts
 pub mod Statuses
+pub mod BlocksLaws
 pub mod Codes
 pub mod Whole
 pub mod Link

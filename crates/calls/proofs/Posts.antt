@@ -1,122 +1,140 @@
 -- Posts: what refuses one, the message's words, and the two ends of the call.
 use mathlib.Core.Path.{_≡_, refl, sym, ap, _∙_}
 use mathlib.Core.Bool.{Bool, true, false, cond, _&&_, not}
-use mathlib.Core.List.{List, []}
+use mathlib.Core.List.{List, [], _∷_}
 use Prim.Native.Nat.{ℕ, _+_, _*_, _<_}
 use native.Mathlib.Omega.{arith}
 use lib.Dec.{ltb, leb, eqb}
 use lib.ListN.{length, getD, set}
+use borrow.Author.Tests.{leb-true, leb-false, lt-ltb, le-ltb}
 use Rattle.rules.specs.Words.{word4}
-use Rattle.rules.specs.Layout.{process, configuration, cellOf, flows, flowMatrix, slots, Addr, at, offset, rd, queue, messages, messagesAt, messageAt, messageWords}
-use Rattle.rules.specs.Seid.{class, indexOf, isSeid, present, orSelf}
-use Rattle.rules.specs.Rule.{write, firstRefusal}
+use Rattle.rules.specs.Layout.{process, configuration, cellOf, flows, flowMatrix, Addr, at, offset, queue, messages, messagesAt, messageAt, messageWords}
+use Rattle.rules.specs.Seid.{indexOf, formed, present, seidAt, orSelf}
+use Rattle.rules.specs.Errors.{XbSz, XbPrSd, XnoAcc, XpostEh}
+use Rattle.rules.specs.Rule.{Refusal, _⇒_, write, firstRefusal}
+use Rattle.rules.specs.Find.{inOwnCell}
 use Rattle.rules.specs.Call15.{textBytes, queued, post}
-use borrow.Author.Tests.{ltb-true}
-use Rattle.laws.proofs.Tests.{and-right}
+use Rattle.laws.proofs.Tests.{passed, failed, and-right}
 use Rattle.levels.proofs.Cells.{matrix-any}
-use Rattle.calls.specs.declared.World.{World}
+use Rattle.layout.specs.declared.Header.{Header}
+use Rattle.layout.specs.Header.{recordOf, placeOf}
 use Rattle.calls.specs.declared.Answer.{Answer}
-use Rattle.calls.specs.World.{offsetBy, rdBy, Known, Sound}
+use Rattle.calls.specs.declared.Caller.{Caller}
+use Rattle.calls.specs.declared.objects.Seen.{Seen}
+use Rattle.calls.specs.World.{Known, Sound, wordsOf}
+use Rattle.calls.specs.Seen.{nameOf, namedOf, seenAs}
+use Rattle.calls.specs.Entries.{fourAt}
 use Rattle.calls.specs.Left.{said, ruleAt, Left}
-use Rattle.calls.specs.Finds.{fourAt}
-use Rattle.calls.specs.Mail.{postPast}
-use Rattle.calls.proofs.Worlds.{see, spot, shape, home-is}
-use Rattle.calls.proofs.Leaves.{left-refused, left-done, left-same}
-use Rattle.calls.proofs.Entries.{cond-some}
-use Rattle.calls.proofs.Finds.{self-formed}
+use Rattle.calls.specs.Refusing.{orRefuse}
+use Rattle.calls.proofs.Worlds.{spot, shape}
+use Rattle.calls.proofs.Refusals.{refusing-first, clear-of}
+use Rattle.calls.proofs.Looks.{formed-is, seen-formed, slot-is}
+use Rattle.calls.proofs.Leaves.{left-refused, left-done}
 
--- a post's rule hangs on its seid alone
-post-by : (h : List ℕ) (r : Addr → ℕ) (p : ℕ) (b : List ℕ) (x a : ℕ) → orSelf r p x ≡ orSelf r p a → post h r p x b ≡ post h r p a b
-unfolding post
-post-by h r p b x a e = rw e
+-- the words of a message delivered: x is where q's record begins, y what waits there
+pub deliver-words : {t : List ℕ} {n : Header} → Known t n → (q me waiting : ℕ) (b : List ℕ) {x y x1 x2 x3 : ℕ} {u z : List ℕ} → x ≡ recordOf n process q → y ≡ waiting
+    → u ≡ set t (placeOf n (at process q queue)) (waiting + 1) → x1 ≡ word4 b 0 → x2 ≡ word4 b 4 → x3 ≡ word4 b 8
+    → z ≡ fourAt u (x + (messagesAt + messageWords * y)) me x1 x2 x3 → z ≡ write (configuration t) t (queued me q b waiting)
+unfolding queued fourAt
+deliver-words {t} known q me waiting b {x} {y} xe ye ue a1 a2 a3 ze =
+    let h = configuration t in
+    let from = x + (messagesAt + messageWords * y) in
+    let first : from ≡ offset h (at process q (messageAt waiting 0)) = omega (arith, xe, ye, spot known (at process q (messageAt waiting 0))) in
+    let f1 : from + 1 ≡ offset h (at process q (messageAt waiting 1)) = omega arith in
+    let f2 : from + 2 ≡ offset h (at process q (messageAt waiting 2)) = omega arith in
+    let f3 : from + 3 ≡ offset h (at process q (messageAt waiting 3)) = omega arith in
+    rw (ze, f1, f2, f3, first, ue, spot known (at process q queue), a1, a2, a3)
 
-post-none : (h : List ℕ) (r : Addr → ℕ) (p a : ℕ) (b : List ℕ) {e : ℕ} → isSeid (class process) (slots h process) (orSelf r p a) ≡ false
-    → e ≡ cond (not (eqb (length b) textBytes)) 5 2 → e ≡ firstRefusal (post h r p a b .refusals)
-unfolding post
-post-none h r p a b n ee = rw n ee
+-- room is what a full queue has not
+room-is : (m n : ℕ) → not (leb m n) ≡ ltb n m
+room-is m n = by (leb m n) refl
+  where
+    by : (b : Bool) → leb m n ≡ b → not b ≡ ltb n m
+    by true e = sym (le-ltb n m (leb-true m n e))
+    by false e = sym (lt-ltb n m (leb-false m n e))
 
-module _ {t : List ℕ} {w : World} (known : Known t w) where
-  -- the words of a message delivered
-  pub deliver-words : (q me n : ℕ) (b : List ℕ) {y from x1 x2 x3 : ℕ} {u z : List ℕ} → y ≡ n → from ≡ offsetBy w (at process q (messagesAt + messageWords * y))
-      → u ≡ set t (offsetBy w (at process q queue)) (n + 1) → x1 ≡ word4 b 0 → x2 ≡ word4 b 4 → x3 ≡ word4 b 8 → z ≡ fourAt u from me x1 x2 x3
-      → z ≡ write (configuration t) t (queued me q b n)
-  unfolding queued fourAt
-  deliver-words q me n b {y} {from} ye fe ue a1 a2 a3 ze =
-      let h = configuration t in
-      let ff : from ≡ offset h (at process q (messageAt n 0)) = fe ∙ spot known (at process q (messagesAt + messageWords * y)) ∙ rw ye (omega arith) in
-      let f1 : from + 1 ≡ offset h (at process q (messageAt n 1)) = omega arith in
-      let f2 : from + 2 ≡ offset h (at process q (messageAt n 2)) = omega arith in
-      let f3 : from + 3 ≡ offset h (at process q (messageAt n 3)) = omega arith in
-      rw (ze, f1, f2, f3, ff, ue, spot known (at process q queue), a1, a2, a3)
+pub room-told : (here : Bool) {y n : ℕ} → here && not (leb messages y) ≡ true → y ≡ n → n < messages
+room-told here {y} test e = omega (arith, e, leb-false messages y (failed (leb messages y) (and-right here _ test)))
 
-  -- the number that refuses, past the seid's form
-  pub post-told : (s k : ℕ) (m : List (List Bool)) {i cell n y x1 x2 x3 e : ℕ} {here flow : Bool} → m ≡ flowMatrix (configuration t) → i ≡ indexOf s
-      → cell ≡ cellOf (configuration t) process i → here ≡ present (rd (configuration t) t) process s → n ≡ rdBy w t (at process i queue)
-      → flow ≡ getD (getD m (w .home) []) cell false → y ≡ n
-      → x1 ≡ cond (eqb cell (w .home) && leb messages y) 28 0 → x2 ≡ cond (eqb cell (w .home) && not here) 2 x1 → x3 ≡ cond (not flow) 13 x2
-      → e ≡ cond (not (eqb k textBytes)) 5 x3 → e ≡ postPast (configuration t) (rd (configuration t) t) (w .me) s k
-  unfolding postPast
-  post-told s k m {i} {cell} me ie ce he ne fe ye e1 e2 e3 ee =
-      let h = configuration t in
-      let fl : getD (getD m (w .home) []) cell false ≡ flows h (w .home) cell = rw me (matrix-any h (shape known .few-cells) (w .home) cell) in
-      rw (ee, e3, e2, e1, fe, fl, he, ye, ne, see known (at process i queue), ce, ie, home-is known)
+self-zero : (r : Addr → ℕ) (p : ℕ) → orSelf r p 0 ≡ seidAt r process p
+unfolding orSelf
+self-zero r p = refl
 
-module _ {t : List ℕ} {w : World} (sound : Sound t w) (s : ℕ) (b : List ℕ) (form : isSeid (class process) (slots (configuration t) process) s ≡ true) where
-  self : orSelf (rd (configuration t) t) (w .me) s ≡ s
-  self = self-formed (rd (configuration t) t) (w .me) process (slots (configuration t) process) s form
+-- what refuses a post to the process that is seen: flow says whether the caller's level flows to its
+abbrev postTests : Seen → Bool → ℕ → ℕ → List Refusal
+postTests to flow bytes waiting =
+    (not (eqb bytes textBytes) ⇒ XbSz) ∷ (not (to .formed) ⇒ XbPrSd) ∷ (not flow ⇒ XnoAcc) ∷ (to .own && not (to .present) ⇒ XbPrSd)
+    ∷ (to .own && leb messages waiting ⇒ XpostEh) ∷ []
 
-  post-number : {e : ℕ} → e ≡ postPast (configuration t) (rd (configuration t) t) (w .me) s (length b)
-      → e ≡ firstRefusal (ruleAt t (λ h q. post h q (w .me) s b) .refusals)
-  unfolding post postPast
-  post-number ee = rw (self, form) ee
+-- whether the caller's level flows to the receiver's
+abbrev flowsTo : List ℕ → ℕ → Seen → Bool
+flowsTo t p to = flows (configuration t) (cellOf (configuration t) process p) (to .cell)
 
-  -- the message is delivered, or dropped
-  pub post-delivered : {i n me y : ℕ} {here : Bool} {z : List ℕ} → i ≡ indexOf s → n ≡ rdBy w t (at process i queue) → me ≡ orSelf (rd (configuration t) t) (w .me) 0
-      → here ≡ present (rd (configuration t) t) process s → y ≡ n → here && ltb y messages ≡ true → z ≡ write (configuration t) t (queued me i b n)
-      → z ≡ write (configuration t) t (ruleAt t (λ h q. post h q (w .me) s b) .effects .words)
-  unfolding post orSelf
-  post-delivered {i} ie ne me he ye test ze =
-      let n′ = ne ∙ see (sound .known) (at process i queue) in
-      let te : present (rd (configuration t) t) process s && ltb (rd (configuration t) t (at process (indexOf s) queue)) messages ≡ true
-      = rw (← ie, ← n′, ← ye, ← he) test in
-      rw (self, te) (ze ∙ rw (me, n′, ie))
+-- a post past its last test: what the code has found of the receiver and of what waits there, and the number that refuses
+pub record Posted (t : List ℕ) (n : Header) (c : Caller) (a : ℕ) (b : List ℕ) (to : Seen) (waiting y e : ℕ) : Type 0 where
+  pub sound : Sound t n c
+  pub seen : to ≡ seenAs (configuration t) (wordsOf t) (c .slot) process (namedOf n process (orSelf (wordsOf t) (c .slot) a))
+  pub waits : waiting ≡ wordsOf t (at process (to .slot) queue)
+  pub wide : y ≡ waiting
+  pub told : e ≡ firstRefusal (postTests to (flowsTo t (c .slot) to) (length b) y)
 
-  pub post-dropped : {i n y : ℕ} {here : Bool} → i ≡ indexOf s → n ≡ rdBy w t (at process i queue)
-      → here ≡ present (rd (configuration t) t) process s → y ≡ n → here && ltb y messages ≡ false
-      → t ≡ write (configuration t) t (ruleAt t (λ h q. post h q (w .me) s b) .effects .words)
-  unfolding post
-  post-dropped {i} ie ne he ye test =
-      let n′ = ne ∙ see (sound .known) (at process i queue) in
-      let te : present (rd (configuration t) t) process s && ltb (rd (configuration t) t (at process (indexOf s) queue)) messages ≡ false
-      = rw (← ie, ← n′, ← ye, ← he) test in
-      rw (self, te) refl
+pub posted : {t : List ℕ} {n : Header} {c : Caller} → Sound t n c → {m : List (List Bool)} → m ≡ flowMatrix (configuration t) → (a : ℕ) (b : List ℕ)
+    {s waiting y e e2 e3 e4 e5 : ℕ} {to : Seen} {flow : Bool} → s ≡ orSelf (wordsOf t) (c .slot) a
+    → to ≡ seenAs (configuration t) (wordsOf t) (c .slot) process (namedOf n process s) → waiting ≡ wordsOf t (at process (to .slot) queue) → y ≡ waiting
+    → flow ≡ getD (getD m (c .cell) []) (to .cell) false → e ≡ orRefuse 0 (not (eqb (length b) textBytes)) XbSz → e2 ≡ orRefuse e (not (to .formed)) XbPrSd
+    → e3 ≡ orRefuse e2 (not flow) XnoAcc → e4 ≡ orRefuse e3 (to .own && not (to .present)) XbPrSd → e5 ≡ orRefuse e4 (to .own && leb messages y) XpostEh
+    → Posted t n c a b to waiting y e5
+posted {t} {n} {c} sound {m} matrix a b {y = y} {to = to} {flow} named seen waits wide flow-is long form level here full =
+    let f : flow ≡ flowsTo t (c .slot) to
+    = flow-is ∙ rw (matrix, sound .home) (matrix-any (configuration t) (shape (sound .known) .few-cells) _ _) in
+    record {
+      sound = sound;
+      seen = rw (← named) seen;
+      waits = waits;
+      wide = wide;
+      told = rw (← f, full, here, level, form, long) (refusing-first (postTests to flow (length b) y) refl);
+    }
 
-  pub post-refused : {e : ℕ} {r : Answer} → e ≡ postPast (configuration t) (rd (configuration t) t) (w .me) s (length b) → (e ≡ 0 → ⊥) → r ≡ said e 0 0
-      → Left t (λ h q. post h q (w .me) s b) r t
-  post-refused ee n re = left-refused t _ (post-number ee) n re
+module _ {t : List ℕ} {n : Header} {c : Caller} {a : ℕ} {b : List ℕ} {to : Seen} {waiting y e : ℕ} (p : Posted t n c a b to waiting y e) where
+  named : ℕ
+  named = orSelf (wordsOf t) (c .slot) a
 
-  pub post-done : {e : ℕ} {r : Answer} {z : List ℕ} → e ≡ postPast (configuration t) (rd (configuration t) t) (w .me) s (length b) → e ≡ 0 → r ≡ said 0 0 0
-      → z ≡ write (configuration t) t (ruleAt t (λ h q. post h q (w .me) s b) .effects .words) → Left t (λ h q. post h q (w .me) s b) r z
-  unfolding post
-  post-done ee n re ze = left-done t (λ h q. post h q (w .me) s b) (post-number ee) n re ze
+  by-form : (f : Bool) → formed (configuration t) process named ≡ f
+      → firstRefusal (postTests to (flowsTo t (c .slot) to) (length b) y) ≡ firstRefusal (ruleAt t (λ h q. post h q (c .slot) a b) .refusals)
+  unfolding post present named
+  by-form true f = rw (p .wide, p .waits, seen-formed (p .sound .known) (c .slot) process named (p .seen) f, f)
+  by-form false f = rw (formed-is (p .sound .known) (c .slot) process named (p .seen), f)
 
--- seid 0 is the caller: the rule is that of the seid itself
-module _ {t : List ℕ} {w : World} (sound : Sound t w) (a : ℕ) (b : List ℕ) {s : ℕ} (own : s ≡ orSelf (rd (configuration t) t) (w .me) a) where
-  pub post-same : {x : ℕ} {r : Answer} {z : List ℕ} → x ≡ s → isSeid (class process) (slots (configuration t) process) s ≡ true
-      → Left t (λ h q. post h q (w .me) x b) r z → Left t (λ h q. post h q (w .me) a b) r z
-  post-same {x} xe form l =
-      left-same t (λ h q. post h q (w .me) x b) (λ h q. post h q (w .me) a b)
-      (post-by (configuration t) (rd (configuration t) t) (w .me) b x a
-      (ap (orSelf (rd (configuration t) t) (w .me)) xe ∙ self-formed (rd (configuration t) t) (w .me) process (slots (configuration t) process) s form ∙ own))
-      l
+  post-number : e ≡ firstRefusal (ruleAt t (λ h q. post h q (c .slot) a b) .refusals)
+  post-number = p .told ∙ by-form (formed (configuration t) process named) refl
 
-  -- no process's form
-  pub post-absent : {e : ℕ} {r : Answer} → isSeid (class process) (slots (configuration t) process) s ≡ false → e ≡ cond (not (eqb (length b) textBytes)) 5 2 → r ≡ said e 0 0
-      → Left t (λ h q. post h q (w .me) a b) r t
-  post-absent f ee re =
-      left-refused t (λ h q. post h q (w .me) a b) (post-none (configuration t) (rd (configuration t) t) (w .me) a b (rw own at f) ee)
-      (λ z. cond-some (not (eqb (length b) textBytes)) 5 2 (omega arith) (omega arith) (sym ee ∙ z)) re
+  pub post-refused : (e ≡ 0 → ⊥) → {r : Answer} → r ≡ said e 0 0 → Left t (λ h q. post h q (c .slot) a b) r t
+  post-refused ne re = left-refused t _ post-number ne re
 
--- there is room
-pub room-told : (here : Bool) (y : ℕ) {n : ℕ} → here && ltb y messages ≡ true → y ≡ n → n < messages
-room-told here y t e = omega (arith, e, ltb-true y messages (and-right here (ltb y messages) t))
+  -- past the refusals the message is delivered, or dropped
+  module _ (none : e ≡ 0) where
+    formed-past : formed (configuration t) process named ≡ true
+    unfolding named
+    formed-past =
+        let clear = clear-of (postTests to (flowsTo t (c .slot) to) (length b) y) refl (sym (p .told) ∙ none) in
+        passed _ (rw (formed-is (p .sound .known) (c .slot) process named (p .seen)) at (clear .1 .0))
+
+    test-is : (to .present && not (leb messages y)) ≡ (present (wordsOf t) process named && ltb (wordsOf t (at process (indexOf named) queue)) messages)
+    unfolding present named
+    test-is = rw (room-is messages y, p .wide, p .waits, seen-formed (p .sound .known) (c .slot) process named (p .seen) formed-past)
+
+    pub post-delivered : {me : ℕ} {z : List ℕ} → me ≡ orSelf (wordsOf t) (c .slot) 0 → to .present && not (leb messages y) ≡ true
+        → z ≡ write (configuration t) t (queued me (to .slot) b waiting) → z ≡ write (configuration t) t (ruleAt t (λ h q. post h q (c .slot) a b) .effects .words)
+    unfolding post named
+    post-delivered me-is test ze =
+        rw (← test-is, test)
+        (ze ∙ rw (me-is, self-zero (wordsOf t) (c .slot), p .waits, slot-is (p .sound .known) (c .slot) process named (p .seen) formed-past))
+
+    pub post-dropped : to .present && not (leb messages y) ≡ false → t ≡ write (configuration t) t (ruleAt t (λ h q. post h q (c .slot) a b) .effects .words)
+    unfolding post named
+    post-dropped test = rw (← test-is, test) refl
+
+    pub post-done : {r : Answer} {z : List ℕ} → z ≡ write (configuration t) t (ruleAt t (λ h q. post h q (c .slot) a b) .effects .words) → r ≡ said 0 0 0
+        → Left t (λ h q. post h q (c .slot) a b) r z
+    unfolding post
+    post-done ze re = left-done t (λ h q. post h q (c .slot) a b) post-number none re ze

@@ -6,53 +6,65 @@ use Prim.Native.Nat.{ℕ, zero, suc, _+_, _-_, _≤_, _<_}
 use native.Mathlib.Omega.{arith}
 use native.Mathlib.Numerals.{add-one}
 use lib.Dec.{eqb}
-use borrow.Author.Tests.{eqb-false, ne-eqb}
+use borrow.Author.Tests.{eqb-false, eq-eqb, ne-eqb}
 use Rattle.rules.specs.Words.{tabFrom}
 use Rattle.rules.specs.Layout.{Kind, process, segment, file, recordWords, configuration, slots, Addr, at, Valid, rd, live, entries, heldAt, usedAt, links, holders}
 use Rattle.rules.specs.Seid.{class, isSeid, indexOf}
 use Rattle.rules.specs.Rule.{Word, _≔_, write, over}
 use Rattle.rules.specs.Find.{inOwnCell, zeros, freed, kept, oneLess, givenUp}
 use Rattle.rules.specs.Call02.{dropped, droppedTo, released}
-use Rattle.laws.proofs.Tests.{split, both-ways}
-use Rattle.laws.proofs.Seids.{is-formed, class-some, class-pos}
+use Rattle.laws.proofs.Tests.{both-ways}
+use Rattle.laws.proofs.Seids.{is-formed}
 use Rattle.laws.proofs.Written.{AllOf, nil, also, all-append, all-if, all-map, Valids, over-append, write-append, over-same, over-miss, length-write, rd-write, conf-write}
-use Rattle.calls.specs.declared.World.{World}
-use Rattle.calls.specs.World.{offsetBy, Known, freedAt}
-use Rattle.calls.specs.Holding.{EntryFormed, HoldingAt, Holding}
-use Rattle.calls.proofs.Worlds.{spot}
-use Rattle.calls.proofs.Named.{Is}
-use Rattle.calls.proofs.Given.{Thing, a-segment, a-file, freed-is}
+use Rattle.layout.specs.declared.Header.{Header}
+use Rattle.layout.specs.Header.{recordOf}
+use Rattle.calls.specs.declared.Caller.{Caller}
+use Rattle.calls.specs.declared.entries.Entry.{Entry}
+use Rattle.calls.specs.World.{Known, wordsOf, holdable}
+use Rattle.calls.specs.Entries.{entryOf, freedAt}
+use Rattle.calls.specs.Holding.{HoldingAt, Holding}
+use Rattle.calls.proofs.Given.{begins, freed-is}
 
 -- two readings that agree at each word of a record
 abbrev Agree : List ℕ → (Addr → ℕ) → (Addr → ℕ) → Type 0
 Agree h r q = (a : Addr) → Valid h a → r a ≡ q a
 
+-- what entry d of process q holds has the form of its kind
+abbrev EntryFormed : List ℕ → (Addr → ℕ) → Kind → ℕ → ℕ → Type 0
+EntryFormed h r k q d = (r (at process q (heldAt k d)) ≡ 0 → ⊥) → isSeid (class k) (slots h k) (r (at process q (heldAt k d))) ≡ true
+
 -- ---- where an entry lies, and where its object's words lie
 
-held-in : {k : Kind} → Thing k → (d : ℕ) → d < entries → heldAt k d < recordWords process
-held-in a-segment d l = omega arith
-held-in a-file d l = omega arith
+held-in : (k : Kind) → holdable k ≡ true → (d : ℕ) → d < entries → heldAt k d < recordWords process
+held-in process th d l = both-ways false th refl
+held-in segment th d l = omega arith
+held-in file th d l = omega arith
 
-used-in : {k : Kind} → Thing k → (d : ℕ) → d < entries → usedAt k d < recordWords process
-used-in a-segment d l = omega arith
-used-in a-file d l = omega arith
+used-in : (k : Kind) → holdable k ≡ true → (d : ℕ) → d < entries → usedAt k d < recordWords process
+used-in process th d l = both-ways false th refl
+used-in segment th d l = omega arith
+used-in file th d l = omega arith
 
-holders-in : {k : Kind} → Thing k → holders k < recordWords k
-holders-in a-segment = omega arith
-holders-in a-file = omega arith
+holders-in : (k : Kind) → holdable k ≡ true → holders k < recordWords k
+holders-in process th = both-ways false th refl
+holders-in segment th = omega arith
+holders-in file th = omega arith
 
-record-some : {k : Kind} → Thing k → 2 < recordWords k
-record-some a-segment = omega arith
-record-some a-file = omega arith
+record-some : (k : Kind) → 2 < recordWords k
+record-some process = omega arith
+record-some segment = omega arith
+record-some file = omega arith
 
-no-process : {k : Kind} → Thing k → class process ≡ class k → ⊥
-no-process a-segment e = omega arith
-no-process a-file e = omega arith
+no-process : (k : Kind) → holdable k ≡ true → class process ≡ class k → ⊥
+no-process process th e = both-ways false th refl
+no-process segment th e = omega arith
+no-process file th e = omega arith
 
 -- entries of one number are apart from those of another
-apart : {k : Kind} → Thing k → (d e : ℕ) → e < d → (heldAt k d ≡ heldAt k e → ⊥) × (heldAt k d ≡ usedAt k e → ⊥)
-apart a-segment d e l = (λ q. omega arith, λ q. omega arith)
-apart a-file d e l = (λ q. omega arith, λ q. omega arith)
+apart : (k : Kind) → holdable k ≡ true → (d e : ℕ) → e < d → (heldAt k d ≡ heldAt k e → ⊥) × (heldAt k d ≡ usedAt k e → ⊥)
+apart process th d e l = both-ways false th refl
+apart segment th d e l = (λ q. omega arith, λ q. omega arith)
+apart file th d e l = (λ q. omega arith, λ q. omega arith)
 
 -- ---- one entry
 
@@ -61,10 +73,10 @@ record Fits (h : List ℕ) (k : Kind) (q d : ℕ) (x : Word) : Type 0 where
   valid : Valid h (x .at)
   misses : (j : ℕ) → (j ≡ heldAt k d → ⊥) → (j ≡ usedAt k d → ⊥) → at process q j ≡ x .at → ⊥
 
-module _ (h : List ℕ) {k : Kind} (th : Thing k) (q d : ℕ) where
+module _ (h : List ℕ) (k : Kind) (th : holdable k ≡ true) (q d : ℕ) where
   -- a word of the object
   object-fits : (i j v : ℕ) → i < slots h k → j < recordWords k → Fits h k q d (at k i j ≔ v)
-  object-fits i j v l m = record { valid = (l, m); misses = λ _ _ _ e. no-process th (ap (λ (a : Addr). class (a .kind)) e) }
+  object-fits i j v l m = record { valid = (l, m); misses = λ _ _ _ e. no-process k th (ap (λ (a : Addr). class (a .kind)) e) }
 
   zeros-fit : (i j n : ℕ) → i < slots h k → j + n ≤ recordWords k → AllOf (Fits h k q d) (zeros k i j n)
   unfolding zeros tabFrom
@@ -75,14 +87,14 @@ module _ (h : List ℕ) {k : Kind} (th : Thing k) (q d : ℕ) where
   unfolding oneLess
   less-fits r i l =
       all-if _ (eqb (r (at k i (holders k))) 1 && not (kept r k i)) (freed k i) ((at k i (holders k) ≔ r (at k i (holders k)) - 1) ∷ [])
-      (λ _. also (object-fits i live 0 l (omega (arith, record-some th))) (zeros-fit i 2 (recordWords k - 2) l (omega (arith, record-some th))))
-      (λ _. also (object-fits i (holders k) _ l (holders-in th)) nil)
+      (λ _. also (object-fits i live 0 l (omega (arith, record-some k))) (zeros-fit i 2 (recordWords k - 2) l (omega (arith, record-some k))))
+      (λ _. also (object-fits i (holders k) _ l (holders-in k th)) nil)
 
   given-fits : (r : Addr → ℕ) (s : ℕ) → q < slots h process → d < entries → isSeid (class k) (slots h k) s ≡ true → AllOf (Fits h k q d) (givenUp h r k q d s)
   unfolding givenUp
   given-fits r s ql dl f =
-      also (record { valid = (ql, held-in th d dl); misses = λ j a b e. a (ap (λ (x : Addr). x .word) e) })
-      (also (record { valid = (ql, used-in th d dl); misses = λ j a b e. b (ap (λ (x : Addr). x .word) e) })
+      also (record { valid = (ql, held-in k th d dl); misses = λ j a b e. a (ap (λ (x : Addr). x .word) e) })
+      (also (record { valid = (ql, used-in k th d dl); misses = λ j a b e. b (ap (λ (x : Addr). x .word) e) })
       (all-if _ (inOwnCell h q k s) (oneLess r k (indexOf s)) [] (λ _. less-fits r (indexOf s) (is-formed (class k) (slots h k) s f .index-in)) (λ _. nil)))
 
   dropped-fits : (r : Addr → ℕ) → q < slots h process → d < entries
@@ -93,21 +105,22 @@ module _ (h : List ℕ) {k : Kind} (th : Thing k) (q d : ℕ) where
       (λ e. given-fits r (r (at process q (heldAt k d))) ql dl (f (eqb-false _ 0 e)))
 
 -- what it writes hangs on the words that the table has
-kept-same : (h : List ℕ) {k : Kind} → Thing k → (r r′ : Addr → ℕ) → Agree h r r′ → (i : ℕ) → i < slots h k → kept r k i ≡ kept r′ k i
-kept-same h a-segment r r′ a i l = refl
-kept-same h a-file r r′ a i l = rw (a (at file i links) (l, omega arith))
+kept-same : (h : List ℕ) (k : Kind) (r r′ : Addr → ℕ) → Agree h r r′ → (i : ℕ) → i < slots h k → kept r k i ≡ kept r′ k i
+kept-same h process r r′ a i l = refl
+kept-same h segment r r′ a i l = refl
+kept-same h file r r′ a i l = rw (a (at file i links) (l, omega arith))
 
-module _ (h : List ℕ) {k : Kind} (th : Thing k) (q d : ℕ) (r r′ : Addr → ℕ) (agree : Agree h r r′) where
+module _ (h : List ℕ) (k : Kind) (th : holdable k ≡ true) (q d : ℕ) (r r′ : Addr → ℕ) (agree : Agree h r r′) where
   given-same : (s : ℕ) → isSeid (class k) (slots h k) s ≡ true → givenUp h r k q d s ≡ givenUp h r′ k q d s
   unfolding givenUp oneLess
   given-same s f =
       let l : indexOf s < slots h k = is-formed (class k) (slots h k) s f .index-in in
-      rw (agree (at k (indexOf s) (holders k)) (l, holders-in th), kept-same h th r r′ agree (indexOf s) l)
+      rw (agree (at k (indexOf s) (holders k)) (l, holders-in k th), kept-same h k r r′ agree (indexOf s) l)
 
   dropped-same : q < slots h process → d < entries → EntryFormed h r k q d
       → dropped h r k q d ≡ dropped h r′ k q d
   unfolding dropped
-  dropped-same ql dl f = rw (← agree (at process q (heldAt k d)) (ql, held-in th d dl)) (go (eqb (r (at process q (heldAt k d))) 0) refl)
+  dropped-same ql dl f = rw (← agree (at process q (heldAt k d)) (ql, held-in k th d dl)) (go (eqb (r (at process q (heldAt k d))) 0) refl)
     where
       go : (b : Bool) → eqb (r (at process q (heldAt k d))) 0 ≡ b
           → cond b [] (givenUp h r k q d (r (at process q (heldAt k d)))) ≡ cond b [] (givenUp h r′ k q d (r (at process q (heldAt k d))))
@@ -116,14 +129,14 @@ module _ (h : List ℕ) {k : Kind} (th : Thing k) (q d : ℕ) (r r′ : Addr →
 
 -- ---- the first n entries
 
-module _ (h : List ℕ) {k : Kind} (th : Thing k) (q : ℕ) (ql : q < slots h process) (r : Addr → ℕ) (holds : (d : ℕ) → d < entries → EntryFormed h r k q d) where
+module _ (h : List ℕ) (k : Kind) (th : holdable k ≡ true) (q : ℕ) (ql : q < slots h process) (r : Addr → ℕ) (holds : (d : ℕ) → d < entries → EntryFormed h r k q d) where
   pub record SoFar (n : ℕ) : Type 0 where
     pub valid : Valids h (droppedTo h r k q n)
     pub beside : (j : ℕ) → ((d : ℕ) → d < n → (j ≡ heldAt k d → ⊥) × (j ≡ usedAt k d → ⊥)) → over r (droppedTo h r k q n) (at process q j) ≡ r (at process q j)
 
   -- the next entry is what it was
   next : (n : ℕ) → SoFar n → over r (droppedTo h r k q n) (at process q (heldAt k n)) ≡ r (at process q (heldAt k n))
-  next n s = s .beside (heldAt k n) (λ d l. apart th n d l)
+  next n s = s .beside (heldAt k n) (λ d l. apart k th n d l)
 
   next-formed : (n : ℕ) → n < entries → SoFar n → EntryFormed h (over r (droppedTo h r k q n)) k q n
   next-formed n l s = rw (next n s) (holds n l)
@@ -135,7 +148,7 @@ module _ (h : List ℕ) {k : Kind} (th : Thing k) (q : ℕ) (ql : q < slots h pr
       let s = so-far n (omega arith) in
       let ws : List Word = droppedTo h r k q n in
       let vs : List Word = dropped h (over r ws) k q n in
-      let fit = dropped-fits h th q n (over r ws) ql l (next-formed n l s) in
+      let fit = dropped-fits h k th q n (over r ws) ql l (next-formed n l s) in
       record {
         valid = all-append vs (s .valid) (all-map (λ x y. y .valid) fit);
         beside = λ j f. rw (over-append r ws vs) (over-miss (at process q j) (all-map (λ x y. y .misses j (f n (omega arith) .0) (f n (omega arith) .1)) fit) (over r ws)
@@ -150,104 +163,93 @@ module _ (h : List ℕ) {k : Kind} (th : Thing k) (q : ℕ) (ql : q < slots h pr
       let s = so-far n (omega arith) in
       let ws : List Word = droppedTo h r k q n in
       let e : ws ≡ droppedTo h r′ k q n = all-same r′ agree n (omega arith) in
-      rw (← e) (ap (λ (vs : List Word). ws ++ vs) (dropped-same h th q n (over r ws) (over r′ ws) (over-same h ws r r′ agree) ql l (next-formed n l s)))
+      rw (← e) (ap (λ (vs : List Word). ws ++ vs) (dropped-same h k th q n (over r ws) (over r′ ws) (over-same h ws r r′ agree) ql l (next-formed n l s)))
 
 -- ---- the table while the entries are given up: t is the table at the start, u once n of them are
 
 -- a known table stays known while words of records are written
-known-write : {t : List ℕ} {w : World} → Known t w → (ws : List Word) → Known (write (configuration t) t ws) w
+known-write : {t : List ℕ} {n : Header} → Known t n → (ws : List Word) → Known (write (configuration t) t ws) n
 known-write {t} known ws =
     let c = conf-write (configuration t) t ws refl in
-    record { conf = rw c (known .conf); world = rw c (known .world) }
+    record { conf = rw c (known .conf); header = rw c (known .header) }
 
--- one entry, by what its word s is: an identifier of the kind, or not
-module _ (h t : List ℕ) (k : Kind) (q d : ℕ) {n s : ℕ} (size : n ≡ slots h k) (word : s ≡ rd h t (at process q (heldAt k d))) where
-  pub drop-some : {x : ℕ} → Is n (class k) s x → write h t (givenUp h (rd h t) k q d x) ≡ write h t (dropped h (rd h t) k q d)
+-- one entry: s is what it holds
+module _ (h t : List ℕ) (k : Kind) (q d : ℕ) {x : Entry} (entry : x ≡ entryOf (rd h t) k q d) where
+  pub drop-some : (x .held ≡ 0 → ⊥) → write h t (givenUp h (rd h t) k q d (x .held)) ≡ write h t (dropped h (rd h t) k q d)
   unfolding dropped
-  drop-some i =
-      let some : eqb s 0 ≡ false = ne-eqb s 0 (class-some s (class k) (class-pos k) (is-formed (class k) n s (i .form) .class-is)) in
-      rw (← word, some, i .same)
+  drop-some some = let e : x .held ≡ rd h t (at process q (heldAt k d)) = ap (λ (y : Entry). y .held) entry in rw (← e, ne-eqb (x .held) 0 some)
 
-  pub drop-none : EntryFormed h (rd h t) k q d → isSeid (class k) n s ≡ false → t ≡ write h t (dropped h (rd h t) k q d)
+  pub drop-none : x .held ≡ 0 → t ≡ write h t (dropped h (rd h t) k q d)
   unfolding dropped
-  drop-none f fails =
-      split (t ≡ write h t (cond (eqb (rd h t (at process q (heldAt k d))) 0) [] (givenUp h (rd h t) k q d (rd h t (at process q (heldAt k d)))))) (eqb s 0)
-      (λ z. rw (← word, z))
-      (λ z. both-ways (isSeid (class k) n s) (rw (size, word) (f (λ x. eqb-false s 0 z (word ∙ x)))) fails)
+  drop-none none = let e : x .held ≡ rd h t (at process q (heldAt k d)) = ap (λ (y : Entry). y .held) entry in rw (← e, eq-eqb (x .held) 0 none)
 
--- n of them given up
-module _ {t : List ℕ} {w : World} {k : Kind} (th : Thing k) (q : ℕ) (holding : Holding t w k q) where
-  far : (n : ℕ) → n ≤ entries → SoFar (configuration t) th q (holding .here) (rd (configuration t) t) (holding .formed) n
-  far = so-far (configuration t) th q (holding .here) (rd (configuration t) t) (holding .formed)
+-- m of them given up
+module _ {t : List ℕ} {n : Header} {c : Caller} (k : Kind) (q : ℕ) (holding : Holding t n c k q) where
+  far : (m : ℕ) → m ≤ entries → SoFar (configuration t) k (holding .at-all .held) q (holding .here) (wordsOf t) (holding .formed) m
+  far = so-far (configuration t) k (holding .at-all .held) q (holding .here) (wordsOf t) (holding .formed)
 
-  reads : (n : ℕ) → n ≤ entries
-      → Agree (configuration t) (over (rd (configuration t) t) (droppedTo (configuration t) (rd (configuration t) t) k q n))
-      (rd (configuration t) (write (configuration t) t (droppedTo (configuration t) (rd (configuration t) t) k q n)))
-  reads n l a v = sym (rd-write (configuration t) t (far n l .valid) (holding .words) a v)
+  reads : (m : ℕ) → m ≤ entries
+      → Agree (configuration t) (over (wordsOf t) (droppedTo (configuration t) (wordsOf t) k q m))
+      (rd (configuration t) (write (configuration t) t (droppedTo (configuration t) (wordsOf t) k q m)))
+  reads m l a v = sym (rd-write (configuration t) t (far m l .valid) (holding .words) a v)
 
-  pub ready : (n : ℕ) → n < entries → {u : List ℕ} → u ≡ write (configuration t) t (droppedTo (configuration t) (rd (configuration t) t) k q n) → HoldingAt u w k q n
-  ready n l {u} e =
-      let ws : List Word = droppedTo (configuration t) (rd (configuration t) t) k q n in
-      let c : configuration (write (configuration t) t ws) ≡ configuration t = conf-write (configuration t) t ws refl in
-      rw e (record {
-        known = known-write (holding .known) ws;
-        homed = rw c (holding .homed);
-        formed = rw (c, ← reads n (omega arith) (at process q (heldAt k n)) (holding .here, held-in th n l))
-            (next-formed (configuration t) th q (holding .here) (rd (configuration t) t) (holding .formed) n l (far n (omega arith)));
-      })
+  pub ready : {u : List ℕ} (m : ℕ) → u ≡ write (configuration t) t (droppedTo (configuration t) (wordsOf t) k q m) → HoldingAt u n c k q
+  ready m e =
+      let ws : List Word = droppedTo (configuration t) (wordsOf t) k q m in
+      let same : configuration (write (configuration t) t ws) ≡ configuration t = conf-write (configuration t) t ws refl in
+      rw e (record { known = known-write (holding .at-all .known) ws; held = holding .at-all .held; homed = rw same (holding .at-all .homed) })
 
-  pub one-more : (n : ℕ) → n < entries → {u u′ : List ℕ} → u ≡ write (configuration t) t (droppedTo (configuration t) (rd (configuration t) t) k q n)
-      → u′ ≡ write (configuration u) u (dropped (configuration u) (rd (configuration u) u) k q n)
-      → u′ ≡ write (configuration t) t (droppedTo (configuration t) (rd (configuration t) t) k q (n + 1))
+  pub one-more : (m : ℕ) → m < entries → {u u′ : List ℕ} → u ≡ write (configuration t) t (droppedTo (configuration t) (wordsOf t) k q m)
+      → u′ ≡ write (configuration u) u (dropped (configuration u) (wordsOf u) k q m)
+      → u′ ≡ write (configuration t) t (droppedTo (configuration t) (wordsOf t) k q (m + 1))
   unfolding droppedTo
-  one-more n l {u} {u′} e f =
-      let r : Addr → ℕ = rd (configuration t) t in
-      let ws : List Word = droppedTo (configuration t) r k q n in
-      let c : configuration (write (configuration t) t ws) ≡ configuration t = conf-write (configuration t) t ws refl in
-      let d = dropped-same (configuration t) th q n (over r ws) (rd (configuration t) (write (configuration t) t ws)) (reads n (omega arith)) (holding .here) l
-      (next-formed (configuration t) th q (holding .here) r (holding .formed) n l (far n (omega arith))) in
-      let g : u′ ≡ write (configuration t) (write (configuration t) t ws) (dropped (configuration t) (over r ws) k q n) = f ∙ rw (e, c, d) in
+  one-more m l {u} {u′} e f =
+      let h : List ℕ = configuration t in
+      let r : Addr → ℕ = wordsOf t in
+      let th = holding .at-all .held in
+      let ws : List Word = droppedTo h r k q m in
+      let same : configuration (write h t ws) ≡ h = conf-write h t ws refl in
+      let d = dropped-same h k th q m (over r ws) (rd h (write h t ws)) (reads m (omega arith)) (holding .here) l
+      (next-formed h k th q (holding .here) r (holding .formed) m l (far m (omega arith))) in
+      let g : u′ ≡ write h (write h t ws) (dropped h (over r ws) k q m) = f ∙ rw (e, same, d) in
       rw (add-one, write-append) g
 
-  pub none-yet : t ≡ write (configuration t) t (droppedTo (configuration t) (rd (configuration t) t) k q 0)
+  pub none-yet : t ≡ write (configuration t) t (droppedTo (configuration t) (wordsOf t) k q 0)
   unfolding droppedTo
   none-yet = refl
 
 -- ---- a process released
 
 -- the designators once the descriptors are given up
-module _ {t : List ℕ} {w : World} (q : ℕ) (files : Holding t w file q) (segments : Holding t w segment q) {t₁ : List ℕ}
-    (e₁ : t₁ ≡ write (configuration t) t (droppedTo (configuration t) (rd (configuration t) t) file q entries)) where
-  pub then-segments : Holding t₁ w segment q
+module _ {t : List ℕ} {n : Header} {c : Caller} (q : ℕ) (files : Holding t n c file q) (segments : Holding t n c segment q) {t₁ : List ℕ}
+    (first : t₁ ≡ write (configuration t) t (droppedTo (configuration t) (wordsOf t) file q entries)) where
+  pub then-segments : Holding t₁ n c segment q
   then-segments =
       let h : List ℕ = configuration t in
-      let r : Addr → ℕ = rd h t in
-      let ws : List Word = droppedTo h r file q entries in
-      let c : configuration (write h t ws) ≡ h = conf-write h t ws refl in
-      let same : (d : ℕ) → d < entries → rd h (write h t ws) (at process q (heldAt segment d)) ≡ r (at process q (heldAt segment d)) =
-      λ d l. sym (reads a-file q files entries (omega arith) (at process q (heldAt segment d)) (files .here, held-in a-segment d l))
-      ∙ far a-file q files entries (omega arith) .beside (heldAt segment d) (λ e m. (λ x. omega arith, λ x. omega arith)) in
-      rw e₁ (record {
-        known = known-write (files .known) ws;
-        words = rw (c, length-write h t ws) (files .words);
-        here = rw c (files .here);
-        homed = rw c (files .homed);
-        formed = rw c (λ d l. rw (same d l) (segments .formed d l));
+      let ws : List Word = droppedTo h (wordsOf t) file q entries in
+      let conf : configuration (write h t ws) ≡ h = conf-write h t ws refl in
+      let same : (d : ℕ) → d < entries → rd h (write h t ws) (at process q (heldAt segment d)) ≡ wordsOf t (at process q (heldAt segment d)) =
+      λ d l. sym (reads file q files entries (omega arith) (at process q (heldAt segment d)) (files .here, held-in segment refl d l))
+      ∙ far file q files entries (omega arith) .beside (heldAt segment d) (λ e m. (λ x. omega arith, λ x. omega arith)) in
+      rw first (record {
+        at-all = record { known = known-write (files .at-all .known) ws; held = refl; homed = rw conf (files .at-all .homed) };
+        words = rw (conf, length-write h t ws) (files .words);
+        here = rw conf (files .here);
+        formed = rw conf (λ d l. rw (same d l) (segments .formed d l));
       })
 
   -- the record cleared, which begins at a place
-  pub released-is : {t₂ t₃ : List ℕ} {place : ℕ}
-      → t₂ ≡ write (configuration t₁) t₁ (droppedTo (configuration t₁) (rd (configuration t₁) t₁) segment q entries) → place ≡ offsetBy w (at process q 0)
-      → t₃ ≡ freedAt t₂ place (recordWords process) → t₃ ≡ write (configuration t) t (released (configuration t) (rd (configuration t) t) q)
+  pub released-is : {t₂ t₃ : List ℕ} {place : ℕ} → t₂ ≡ write (configuration t₁) t₁ (droppedTo (configuration t₁) (wordsOf t₁) segment q entries)
+      → place ≡ recordOf n process q → t₃ ≡ freedAt t₂ place (recordWords process) → t₃ ≡ write (configuration t) t (released (configuration t) (wordsOf t) q)
   unfolding released
-  released-is {t₂} {t₃} {place} e₂ pe e₃ =
+  released-is {t₂} {t₃} {place} second begin third =
       let h : List ℕ = configuration t in
-      let r : Addr → ℕ = rd h t in
+      let r : Addr → ℕ = wordsOf t in
       let ws : List Word = droppedTo h r file q entries in
-      let c : configuration t₁ ≡ h = ap configuration e₁ ∙ conf-write h t ws refl in
-      let then : Holding t₁ w segment q = then-segments in
-      let agree : Agree h (rd h t₁) (over r ws) = λ a v. ap (λ (u : List ℕ). rd h u a) e₁ ∙ sym (reads a-file q files entries (omega arith) a v) in
+      let conf : configuration t₁ ≡ h = ap configuration first ∙ conf-write h t ws refl in
+      let then : Holding t₁ n c segment q = then-segments in
+      let agree : Agree h (rd h t₁) (over r ws) = λ a v. ap (λ (u : List ℕ). rd h u a) first ∙ sym (reads file q files entries (omega arith) a v) in
       let same : droppedTo h (rd h t₁) segment q entries ≡ droppedTo h (over r ws) segment q entries =
-      all-same h a-segment q (files .here) (rd h t₁) (rw c at (then .formed)) (over r ws) agree entries (omega arith) in
-      let two : t₂ ≡ write h t₁ (droppedTo h (over r ws) segment q entries) = e₂ ∙ rw (c, same) in
-      rw (write-append h t ws, write-append, ← e₁, ← two) (e₃ ∙ rw (pe, spot (files .known) (at process q 0)) (sym (freed-is h t₂ process q)))
+      all-same h segment refl q (files .here) (rd h t₁) (rw conf at (then .formed)) (over r ws) agree entries (omega arith) in
+      let two : t₂ ≡ write h t₁ (droppedTo h (over r ws) segment q entries) = second ∙ rw (conf, same) in
+      rw (write-append h t ws, write-append, ← first, ← two) (third ∙ rw (begin, begins (files .at-all .known) process q) (sym (freed-is h t₂ process q)))

@@ -1,31 +1,34 @@
--- Messages: a message shown as bytes, the queue moved up, in the rule's words.
+-- Messages: a message shown as bytes, the queue moved up, in the rule's words; and the two ends of a receive.
 use mathlib.Core.Path.{_≡_, refl, sym, ap, _∙_}
-use mathlib.Core.Bool.{cond, not}
+use mathlib.Core.Bool.{not}
 use mathlib.Core.List.{List, _++_, append-nil}
 use Prim.Native.Nat.{ℕ, zero, suc, _+_, _*_, _-_, _≤_, _<_}
 use native.Mathlib.Omega.{arith}
 use native.Mathlib.Numerals.{add-one}
 use lib.Dec.{eqb}
-use borrow.Author.Tests.{eqb-true}
 use lib.ListN.{length, getD, set, length-set, replicate}
 use lib.Seq.{sets, length-sets, sets-eq, drop-length, getD-set-other}
+use borrow.Author.Tests.{eqb-true}
 use Rattle.rules.specs.Words.{tabFrom, bytes4}
-use Rattle.rules.specs.Layout.{process, configuration, at, offset, rd, queue, messages, messageWords, messagesAt, messageAt}
+use Rattle.rules.specs.Layout.{Kind, process, configuration, at, offset, rd, queue, messages, messageWords, messagesAt, messageAt}
+use Rattle.rules.specs.Errors.{XbSz, XbNoMes}
 use Rattle.rules.specs.Rule.{_≔_, write, firstRefusal}
 use Rattle.rules.specs.Find.{zeros}
 use Rattle.rules.specs.Call16.{movedUp, receive, messageBytes}
 use Rattle.laws.proofs.Tab.{tab-more}
-use Rattle.laws.proofs.Written.{write-append}
-use Rattle.calls.specs.declared.World.{World}
-use Rattle.calls.specs.World.{offsetBy, rdBy, Known, Sound}
-use Rattle.calls.specs.declared.Answer.{Answer}
-use Rattle.calls.specs.Left.{said, ruleAt, bufferOf, Left}
-use Rattle.calls.proofs.Leaves.{left-refused, left-done, buffer-refused, buffer-done}
-use Rattle.calls.specs.Mail.{shownAt, movedAt}
-use Rattle.calls.proofs.Worlds.{see, spot}
 use Rattle.laws.proofs.Tests.{passed}
-use Rattle.calls.proofs.Given.{beyond, zeros-is}
-use Rattle.calls.proofs.Entries.{not-chosen}
+use Rattle.laws.proofs.Written.{write-append}
+use Rattle.layout.specs.declared.Header.{Header}
+use Rattle.layout.specs.Header.{recordOf, placeOf}
+use Rattle.calls.specs.declared.Answer.{Answer}
+use Rattle.calls.specs.declared.Caller.{Caller}
+use Rattle.calls.specs.World.{wordsOf, Known, Sound}
+use Rattle.calls.specs.Left.{said, ruleAt, bufferOf, Left}
+use Rattle.calls.specs.Refusing.{orRefuse}
+use Rattle.calls.specs.Mail.{shownAt, movedAt}
+use Rattle.calls.proofs.Worlds.{spot}
+use Rattle.calls.proofs.Refusals.{refusing-first, clear-of}
+use Rattle.calls.proofs.Leaves.{left-refused, left-done, buffer-refused, buffer-done}
 
 -- ---- a message shown
 
@@ -77,19 +80,32 @@ moved-next t l from i e =
     ∙ ap (λ (v : ℕ). set (movedAt t from i) (from + i) v) (moved-later t from i (from + i + messageWords) (omega arith))
     ∙ sym (moved-more t from i)
 
--- the caller's messages lie within the table, also once a word was stored
-pub messages-within : {t u : List ℕ} {w : World} {from : ℕ} (i v : ℕ) → Sound t w → from ≡ offsetBy w (at process (w .me) messagesAt) → u ≡ set t i v → from + 28 + messageWords ≤ length u
-messages-within {t} {w = w} i v s fe ue = rw (fe, ue, length-set t i v, spot (s .known) (at process (w .me) messagesAt), s .words) (omega (arith, s .caller))
+-- the caller's messages lie within the table, also once a word was stored; x is where its record begins
+pub messages-within : {t u : List ℕ} {n : Header} {c : Caller} → Sound t n c → {x : ℕ} (i v : ℕ) → x ≡ recordOf n process (c .slot) → u ≡ set t i v
+    → x + messagesAt + messageWords * (messages - 1) + messageWords ≤ length u
+messages-within {t} {c = c} s i v xe ue =
+    let e = spot (s .known) (at process (c .slot) messagesAt) in
+    rw (ue, length-set t i v, s .words) (omega (arith, xe, e, s .caller))
+
+-- zeros from a word of a record on
+zeros-is : (h t : List ℕ) (k : Kind) (i j n : ℕ) → write h t (zeros k i j n) ≡ sets t (offset h (at k i j)) (replicate n 0)
+unfolding zeros tabFrom
+zeros-is h t k i j zero = refl
+zeros-is h t k i j (suc n) =
+    zeros-is h (set t (offset h (at k i j)) 0) k i (suc j) n
+    ∙ ap (λ (x : ℕ). sets (set t (offset h (at k i j)) 0) x (replicate n 0)) (omega arith)
 
 -- t is the table that is read, u the one that is written: they agree at the words to be moved
-moved-is : (h t u : List ℕ) (p n : ℕ) → ((j : ℕ) → j < n → rd h t (at process p (messagesAt + j + messageWords)) ≡ getD u (offset h (at process p messagesAt) + j + messageWords) 0)
+moved-is : (h t u : List ℕ) (p n : ℕ)
+    → ((j : ℕ) → j < n → rd h t (at process p (messagesAt + j + messageWords)) ≡ getD u (offset h (at process p messagesAt) + j + messageWords) 0)
     → write h u (tabFrom messagesAt n (λ k. at process p k ≔ rd h t (at process p (k + messageWords)))) ≡ movedAt u (offset h (at process p messagesAt)) n
 unfolding tabFrom movedAt
 moved-is h t u p zero e = refl
 moved-is h t u p (suc n) e =
+    let further : offset h (at process p (messagesAt + n)) ≡ offset h (at process p messagesAt) + n = omega arith in
     ap (write h u) (tab-more messagesAt n (λ k. at process p k ≔ rd h t (at process p (k + messageWords))))
     ∙ write-append h u (tabFrom messagesAt n (λ k. at process p k ≔ rd h t (at process p (k + messageWords)))) _
-    ∙ rw (moved-is h t u p n (λ j l. e j (omega arith)), e n (omega arith), beyond h process p messagesAt n)
+    ∙ rw (moved-is h t u p n (λ j l. e j (omega arith)), e n (omega arith), further)
 
 -- a message word is not the queue's length
 kept-word : (h t : List ℕ) (p j v : ℕ) → rd h t (at process p (messagesAt + j + messageWords))
@@ -100,62 +116,60 @@ kept-word h t p j v =
     ap (λ (k : ℕ). getD t k 0) e
     ∙ sym (getD-set-other t (offset h (at process p queue)) (offset h (at process p messagesAt) + j + messageWords) v 0 (λ q. omega arith))
 
--- ---- receive, in the numbers that the code has found
+-- ---- receive, in the numbers that the code has found: what waits, and the number that refuses
 
-module _ {t : List ℕ} {w : World} (known : Known t w) (p : ℕ) (b : List ℕ) where
-  receive-number : {n x e : ℕ} → n ≡ rdBy w t (at process p queue) → x ≡ cond (eqb n 0) 29 0 → e ≡ cond (not (eqb (length b) messageBytes)) 5 x
-      → e ≡ firstRefusal (ruleAt t (λ h q. receive h q p b) .refusals)
+module _ (t : List ℕ) (p : ℕ) (b : List ℕ) {waiting e e2 : ℕ} (queued : waiting ≡ wordsOf t (at process p queue))
+    (long : e ≡ orRefuse 0 (not (eqb (length b) messageBytes)) XbSz) (empty : e2 ≡ orRefuse e (eqb waiting 0) XbNoMes) where
+  receive-number : e2 ≡ firstRefusal (ruleAt t (λ h q. receive h q p b) .refusals)
   unfolding receive
-  receive-number nr xe ee = rw (ee, xe, nr, see known (at process p queue))
+  receive-number = rw (empty, long, queued) (refusing-first (ruleAt t (λ h q. receive h q p b) .refusals) refl)
 
-  -- the words: the count, the queue moved up, the last place cleared
-  receive-words : {n m from : ℕ} {u v z : List ℕ} → n ≡ rdBy w t (at process p queue) → m ≡ n - 1 → from ≡ offsetBy w (at process p messagesAt)
-      → u ≡ set t (offsetBy w (at process p queue)) m → v ≡ movedAt u from 28 → z ≡ sets v (from + 28) (replicate messageWords 0)
-      → z ≡ write (configuration t) t (ruleAt t (λ h q. receive h q p b) .effects .words)
-  unfolding receive movedUp
-  receive-words {n} {m} {from} {u} {v} {z} nr me fe ue ve ze =
-      let h = configuration t in
-      let f0 = offset h (at process p messagesAt) in
-      let q0 = offset h (at process p queue) in
-      let u0 = set t q0 (rd h t (at process p queue) - 1) in
-      let uu : u ≡ u0 = rw (ue, spot known (at process p queue), me, nr, see known (at process p queue)) refl in
-      let ff : from ≡ f0 = fe ∙ spot known (at process p messagesAt) in
-      let moved = moved-is h t u0 p 28 (λ j l. kept-word h t p j (rd h t (at process p queue) - 1)) in
-      let last : offset h (at process p (messageAt (messages - 1) 0)) ≡ f0 + 28 = omega arith in
-      ze ∙ rw (ve, ff, uu) refl
-      ∙ sym (
-      write-append h u0 (tabFrom messagesAt 28 (λ k. at process p k ≔ rd h t (at process p (k + messageWords)))) (zeros process p (messageAt (messages - 1) 0) messageWords)
-      ∙ ap (λ (l : List ℕ). write h l (zeros process p (messageAt (messages - 1) 0) messageWords)) moved
-      ∙ zeros-is h (movedAt u0 f0 28) process p (messageAt (messages - 1) 0) messageWords
-      ∙ ap (λ (k : ℕ). sets (movedAt u0 f0 28) k (replicate messageWords 0)) last
-      )
+  pub receive-refused : (e2 ≡ 0 → ⊥) → {r : Answer} → r ≡ said e2 0 0
+      → Left t (λ h q. receive h q p b) r t × (b ≡ bufferOf b (ruleAt t (λ h q. receive h q p b)))
+  receive-refused ne re = (left-refused t _ receive-number ne re, buffer-refused _ receive-number b ne)
 
-  -- the buffer: sender and text
-  receive-buffer : {from : ℕ} → length b ≡ messageBytes → from ≡ offsetBy w (at process p messagesAt)
-      → shownAt t from b messageWords ≡ ruleAt t (λ h q. receive h q p b) .effects .buffer
-  unfolding receive rd
-  receive-buffer {from} l e =
-      let h = configuration t in
-      let at-word : (j : ℕ) → from + j ≡ offset h (at process p (messagesAt + j)) = λ j. omega (arith, e, spot known (at process p messagesAt)) in
-      shown-four t from b l ∙ rw (at-word 0, at-word 1, at-word 2, at-word 3)
+  module _ {n : Header} (known : Known t n) (none : e2 ≡ 0) {x : ℕ} (record-at : x ≡ recordOf n process p) where
+    from-is : x + messagesAt ≡ offset (configuration t) (at process p messagesAt)
+    from-is = omega (arith, record-at, spot known (at process p messagesAt))
 
-  -- past the refusals the buffer has sixteen bytes
-  receive-long : {e : ℕ} (x : ℕ) → e ≡ cond (not (eqb (length b) messageBytes)) 5 x → e ≡ 0 → length b ≡ messageBytes
-  receive-long x ee z =
-      eqb-true (length b) messageBytes (passed (eqb (length b) messageBytes) (not-chosen (not (eqb (length b) messageBytes)) 5 x (omega arith) (sym ee ∙ z) .0))
+    -- the words: the count, the queue moved up, the last place cleared
+    receive-words : {m : ℕ} {u v z : List ℕ} → m ≡ waiting - 1 → u ≡ set t (placeOf n (at process p queue)) m
+        → v ≡ movedAt u (x + messagesAt) 28 → z ≡ sets v (x + messagesAt + 28) (replicate messageWords 0)
+        → z ≡ write (configuration t) t (ruleAt t (λ h q. receive h q p b) .effects .words)
+    unfolding receive movedUp
+    receive-words {m} {u} {v} {z} me ue ve ze =
+        let h = configuration t in
+        let f0 = offset h (at process p messagesAt) in
+        let u0 = set t (offset h (at process p queue)) (wordsOf t (at process p queue) - 1) in
+        let uu : u ≡ u0 = rw (ue, spot known (at process p queue), me, queued) refl in
+        let moved = moved-is h t u0 p 28 (λ j l. kept-word h t p j (wordsOf t (at process p queue) - 1)) in
+        let last : offset h (at process p (messageAt (messages - 1) 0)) ≡ f0 + 28 = omega arith in
+        ze ∙ rw (ve, from-is, uu) refl
+        ∙ sym (
+        write-append h u0 (tabFrom messagesAt 28 (λ k. at process p k ≔ rd h t (at process p (k + messageWords)))) (zeros process p (messageAt (messages - 1) 0) messageWords)
+        ∙ ap (λ (l : List ℕ). write h l (zeros process p (messageAt (messages - 1) 0) messageWords)) moved
+        ∙ zeros-is h (movedAt u0 f0 28) process p (messageAt (messages - 1) 0) messageWords
+        ∙ ap (λ (k : ℕ). sets (movedAt u0 f0 28) k (replicate messageWords 0)) last
+        )
 
-  -- the two ends of a receive
-  pub receive-refused : {n x e : ℕ} {r : Answer} → n ≡ rdBy w t (at process p queue) → x ≡ cond (eqb n 0) 29 0 → e ≡ cond (not (eqb (length b) messageBytes)) 5 x
-      → (e ≡ 0 → ⊥) → r ≡ said e 0 0 → Left t (λ h q. receive h q p b) r t × (b ≡ bufferOf b (ruleAt t (λ h q. receive h q p b)))
-  receive-refused nr xe ee ne re = (left-refused t _ (receive-number nr xe ee) ne re, buffer-refused _ (receive-number nr xe ee) b ne)
+    -- the buffer: sender and text
+    receive-buffer : length b ≡ messageBytes → shownAt t (x + messagesAt) b messageWords ≡ ruleAt t (λ h q. receive h q p b) .effects .buffer
+    unfolding receive rd
+    receive-buffer l =
+        let at-word : (j : ℕ) → x + messagesAt + j ≡ offset (configuration t) (at process p (messagesAt + j)) = λ j. omega (arith, from-is) in
+        shown-four t (x + messagesAt) b l ∙ rw (at-word 0, at-word 1, at-word 2, at-word 3)
 
-  pub receive-done : {n x e m from : ℕ} {r : Answer} {u v z y : List ℕ} → n ≡ rdBy w t (at process p queue) → x ≡ cond (eqb n 0) 29 0
-      → e ≡ cond (not (eqb (length b) messageBytes)) 5 x → e ≡ 0 → r ≡ said 0 0 0
-      → m ≡ n - 1 → from ≡ offsetBy w (at process p messagesAt) → u ≡ set t (offsetBy w (at process p queue)) m → v ≡ movedAt u from 28
-      → z ≡ sets v (from + 28) (replicate messageWords 0) → y ≡ shownAt t from b messageWords
-      → Left t (λ h q. receive h q p b) r z × (y ≡ bufferOf b (ruleAt t (λ h q. receive h q p b)))
-  unfolding receive
-  receive-done {x = x} nr xe ee z0 re me fe ue ve ze ye = (
-    left-done t (λ h q. receive h q p b) (receive-number nr xe ee) z0 re (receive-words nr me fe ue ve ze),
-    ye ∙ receive-buffer (receive-long x ee z0) fe ∙ buffer-done (ruleAt t (λ h q. receive h q p b)) (receive-number nr xe ee) b z0,
-  )
+    sixteen : length b ≡ messageBytes
+    unfolding receive
+    sixteen =
+        let tests = ruleAt t (λ h q. receive h q p b) .refusals in
+        eqb-true (length b) messageBytes (passed (eqb (length b) messageBytes) (clear-of tests refl (sym receive-number ∙ none) .0))
+
+    pub receive-done : {m : ℕ} {r : Answer} {u v z y : List ℕ} → m ≡ waiting - 1 → u ≡ set t (placeOf n (at process p queue)) m
+        → v ≡ movedAt u (x + messagesAt) 28 → z ≡ sets v (x + messagesAt + 28) (replicate messageWords 0) → y ≡ shownAt t (x + messagesAt) b messageWords
+        → r ≡ said 0 0 0 → Left t (λ h q. receive h q p b) r z × (y ≡ bufferOf b (ruleAt t (λ h q. receive h q p b)))
+    unfolding receive
+    receive-done me ue ve ze ye re = (
+      left-done t (λ h q. receive h q p b) receive-number none re (receive-words me ue ve ze),
+      ye ∙ receive-buffer sixteen ∙ buffer-done (ruleAt t (λ h q. receive h q p b)) receive-number b none,
+    )

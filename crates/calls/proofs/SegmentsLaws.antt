@@ -1,50 +1,48 @@
--- What the caller sees of a segment, and of one that its designator holds.
-use mathlib.Core.Path.{_≡_, refl, _∙_}
+-- The caller's entries: what a filled one holds has its kind's form, and names the object that is seen. Four words of a new record.
+use mathlib.Core.Path.{_≡_, refl}
 use mathlib.Core.Bool.{Bool, true, false, cond}
 use mathlib.Core.List.{List, _∷_}
-use Prim.Native.Nat.{ℕ, _+_, _*_, _≤_, _<_}
-use lib.Dec.{leb, eqb}
-use Rattle.rules.specs.Layout.{maxSlots, cellWords, cellSlotsWord, Kind, process, segment, configuration, cells, at, offset, rd, live, serial, owner, group, entries, usedAt}
+use Prim.Native.Nat.{ℕ, _<_}
+use lib.Dec.{eqb, leb}
+use borrow.Author.Tests.{leb-false, eqb-false}
+use Rattle.rules.specs.Layout.{Kind, process, segment, file, configuration, slots, at, offset, entries, heldAt, live, serial, owner, group}
+use Rattle.rules.specs.Seid.{class, isSeid}
 use Rattle.rules.specs.Rule.{Word, _≔_, write}
-use Rattle.ids.specs.Seid.{segmentOf}
-use Rattle.ids.specs.declared.SegmentIs.{SegmentIs}
-use Rattle.ids.specs.declared.SegmentIs.the-variants.{Is}
-use Rattle.calls.specs.declared.World.{World}
-use Rattle.calls.specs.declared.segments.Segment.{Segment}
-use Rattle.calls.specs.World.{rdBy, Known, Sound, firstBy}
-use Rattle.calls.specs.Finds.{fourAt}
-use Rattle.calls.specs.Seen.{seenSegment}
-use Rattle.calls.proofs.Worlds.{see, kind-word}
+use Rattle.laws.proofs.Tests.{both-ways}
+use Rattle.laws.proofs.Shape.{descriptor, designator}
+use Rattle.layout.specs.declared.Header.{Header}
+use Rattle.calls.specs.declared.Caller.{Caller}
+use Rattle.calls.specs.World.{Known, Sound, wordsOf, holdable}
+use Rattle.calls.specs.Seen.{nameOf, namedOf}
+use Rattle.calls.specs.Entries.{fourAt}
+use Rattle.calls.proofs.Worlds.{slots-is}
 use Rattle.calls.proofs.Given.{along}
-use Rattle.calls.proofs.Entries.{segment-form}
-use Rattle.calls.proofs.Room.{home-in}
 
 -- what follows a test counts only where the test fails
 pub after : (b : Bool) (n : ℕ) {x y : ℕ} → (b ≡ false → x ≡ y) → cond b n x ≡ cond b n y
 after true n f = refl
 after false n f = f refl
 
--- s is what designator a of the caller holds; y is its number
-module _ {t : List ℕ} {w : World} (sound : Sound t w) (a : ℕ) {y s : ℕ} (same : y ≡ a) (read : s ≡ rdBy w t (at process (w .me) (40 + 2 * y))) where
-  -- where it is filled, what is seen is the segment that it names
-  pub seen-held : {i : SegmentIs} {g : Segment} → i ≡ segmentOf (w .segments) s → g ≡ seenSegment (configuration t) (rd (configuration t) t) (w .me) i
-      → leb entries a ≡ false → eqb s 0 ≡ false → g ≡ seenSegment (configuration t) (rd (configuration t) t) (w .me) (Is (record { 0 = s }))
-  seen-held ie ge l q = ge ∙ rw (ie, segment-form sound a s same l q read)
+pub name-is : {t : List ℕ} {n : Header} → Known t n → (k : Kind) (s : ℕ) → isSeid (class k) (slots (configuration t) k) s ≡ true → namedOf n k s ≡ nameOf s
+unfolding namedOf
+name-is known k s form = rw (slots-is known k, form)
 
--- the word of a designator that says how it is used
-pub used-word : {t : List ℕ} {w : World} → Known t w → (p a : ℕ) {y u : ℕ} → y ≡ a → u ≡ rdBy w t (at process p (41 + 2 * y))
-    → u ≡ rd (configuration t) t (at process p (usedAt segment a))
-used-word k p a {y} same read = read ∙ see k (at process p (41 + 2 * y)) ∙ rw same
+-- what an entry holds has its kind's form
+pub entry-formed : {t : List ℕ} {n : Header} {c : Caller} → Sound t n c → (k : Kind) → holdable k ≡ true → (q d : ℕ) → q < slots (configuration t) process → d < entries
+    → (wordsOf t (at process q (heldAt k d)) ≡ 0 → ⊥) → isSeid (class k) (slots (configuration t) k) (wordsOf t (at process q (heldAt k d))) ≡ true
+entry-formed sound process h q d ql dl some = both-ways false h refl
+entry-formed {t} sound segment h q d ql dl some = designator (configuration t) (wordsOf t) (sound .records) q d ql dl .held some .form
+entry-formed {t} sound file h q d ql dl some = descriptor (configuration t) (wordsOf t) (sound .records) q d ql dl .held some .form
 
--- ---- a new object's slot
+-- entry a of the caller, past the refusals of one past the last and of an empty one
+pub entry-named : {t : List ℕ} {n : Header} {c : Caller} → Sound t n c → (k : Kind) → holdable k ≡ true → (a : ℕ) → leb entries a ≡ false
+    → eqb (wordsOf t (at process (c .slot) (heldAt k a))) 0 ≡ false
+    → namedOf n k (wordsOf t (at process (c .slot) (heldAt k a))) ≡ nameOf (wordsOf t (at process (c .slot) (heldAt k a)))
+entry-named {t} {n} {c} sound k h a l some =
+    name-is (sound .known) k _ (entry-formed sound k h (c .slot) a (sound .caller) (leb-false entries a l) (eqb-false _ 0 some))
 
 -- four words of a record
 pub four-is : (h t : List ℕ) (k : Kind) (i a b c d : ℕ) (ws : List Word)
     → write h t ((at k i live ≔ a) ∷ (at k i serial ≔ b) ∷ (at k i owner ≔ c) ∷ (at k i group ≔ d) ∷ ws) ≡ write h (fourAt t (offset h (at k i 0)) a b c d) ws
 unfolding fourAt
 four-is h t k i a b c d ws = rw (along h k i 1, along h k i 2, along h k i 3)
-
--- what a search for a free slot asks
-pub searching : {t : List ℕ} {w : World} → Sound t w → (k : Kind)
-    → Known t w × (w .home < w .cells) × (cellSlotsWord k < cellWords) × (firstBy (configuration t) (cellSlotsWord k) (cells (configuration t)) ≤ maxSlots)
-searching sound k = let x = kind-word (sound .known) k in (sound .known, home-in sound, x .0, x .1)

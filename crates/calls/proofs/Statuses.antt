@@ -1,6 +1,6 @@
 -- Status: what refuses it, its sixteen bytes, and which kind's rule a seid's class asks for.
-use mathlib.Core.Path.{_≡_, sym, ap, _∙_}
-use mathlib.Core.Bool.{Bool, true, false, cond, not}
+use mathlib.Core.Path.{_≡_, refl, sym, ap, _∙_}
+use mathlib.Core.Bool.{Bool, true, false, not}
 use mathlib.Core.List.{List, [], _∷_}
 use Prim.Native.Nat.{ℕ, _/_, _%_, _<_}
 use native.Mathlib.Omega.{arith}
@@ -13,22 +13,26 @@ use Rattle.rules.specs.Level.{Level}
 use Rattle.rules.specs.WellFormed.{configured}
 use Rattle.levels.specs.declared.Level as Code
 use Rattle.levels.specs.Rule.{ruleLevel}
-use Rattle.rules.specs.Layout.{levelOf, cellWord, Kind, process, segment, file, cells, slots, configuration, cellOf, Addr, at, rd, owner, group, bits}
-use Rattle.rules.specs.Seid.{class, classOf, indexOf, isSeid, present, orSelf}
-use Rattle.rules.specs.Rule.{Rule, firstRefusal}
-use Rattle.rules.specs.Find.{absent, flowsToCaller}
+use Rattle.rules.specs.Layout.{levelOf, cellWord, Kind, process, segment, file, cells, configuration, cellOf, Addr, at, owner, group}
+use Rattle.rules.specs.Seid.{class, classOf, indexOf, formed, present, orSelf}
+use Rattle.rules.specs.Errors.{XbSz}
+use Rattle.rules.specs.Rule.{Refusal, _⇒_, Rule, firstRefusal}
 use Rattle.rules.specs.Call17.{statusBytes, bitsOf, told, statusOf, status}
 use Rattle.laws.proofs.Tests.{passed}
-use Rattle.laws.proofs.Seids.{is-formed}
 use Rattle.laws.proofs.Shape.{in-run, shape-of}
-use Rattle.calls.specs.declared.World.{World}
+use Rattle.layout.specs.declared.Header.{Header}
 use Rattle.calls.specs.declared.Answer.{Answer}
-use Rattle.calls.specs.World.{rdBy, Sound}
+use Rattle.calls.specs.declared.Caller.{Caller}
+use Rattle.calls.specs.declared.objects.Seen.{Seen}
+use Rattle.calls.specs.World.{Sound, wordsOf}
+use Rattle.calls.specs.Seen.{namedOf, seenAs, findTests}
+use Rattle.calls.specs.Refusing.{orRefuse, refusing}
 use Rattle.calls.specs.Left.{said, ruleAt, answerOf, bufferOf}
 use Rattle.calls.specs.Told.{toldAt}
-use Rattle.calls.proofs.Worlds.{see, shape}
+use Rattle.calls.proofs.Worlds.{shape}
+use Rattle.calls.proofs.Refusals.{refusing-first, Clear, clear-of}
+use Rattle.calls.proofs.Looks.{find-numbered, formed-is, seen-formed, slot-is, slot-in}
 use Rattle.calls.proofs.Leaves.{answer-refused, answer-done, buffer-refused, buffer-done}
-use Rattle.calls.proofs.Entries.{not-chosen, cond-some}
 use Rattle.calls.proofs.Queues.{sets-all}
 
 -- what a status call leaves: the answer and the buffer of a rule
@@ -41,54 +45,76 @@ all-told : (h : List ℕ) (r : Addr → ℕ) (k : Kind) (i : ℕ) (b : List ℕ)
 unfolding told toldAt
 all-told h r k i b l = sets-all b (told h r k i) (sym l)
 
-absent-some : (k : Kind) → 0 < absent k
-absent-some process = omega arith
-absent-some segment = omega arith
-absent-some file = omega arith
+pub class-small : (k : Kind) {x : ℕ} → x ≡ class k → x < 256
+class-small process e = omega arith
+class-small segment e = omega arith
+class-small file e = omega arith
 
-module _ {t : List ℕ} {w : World} (sound : Sound t w) (k : Kind) (s : ℕ) (b : List ℕ) where
-  -- no seid of the kind
-  pub status-absent : {e : ℕ} {r : Answer} → isSeid (class k) (slots (configuration t) k) s ≡ false → e ≡ cond (not (eqb (length b) statusBytes)) 5 (absent k) → r ≡ said e 0 0
-      → Shown (ruleAt t (λ h q. statusOf h q (w .me) s b k)) b r b
-  status-absent {e} f ee re =
-      let found : e ≡ firstRefusal (ruleAt t (λ h q. statusOf h q (w .me) s b k) .refusals) = rw f ee in
-      let some : e ≡ 0 → ⊥ = λ z. cond-some (not (eqb (length b) statusBytes)) 5 (absent k) (omega arith) (absent-some k) (sym ee ∙ z) in
-      (re ∙ answer-refused (ruleAt t (λ h q. statusOf h q (w .me) s b k)) found some, buffer-refused (ruleAt t (λ h q. statusOf h q (w .me) s b k)) found b some)
+-- what refuses a status of the object that is seen
+abbrev statusTests : Seen → Kind → ℕ → List Refusal
+statusTests x k bytes = (not (eqb bytes statusBytes) ⇒ XbSz) ∷ findTests x k (not (x .flows))
 
-  module _ (form : isSeid (class k) (slots (configuration t) k) s ≡ true) {e : ℕ} {flow here : Bool} (fe : flow ≡ flowsToCaller (configuration t) (w .me) k s)
-      (he : here ≡ present (rd (configuration t) t) k s) (ee : e ≡ cond (not (eqb (length b) statusBytes)) 5 (cond (not flow) 13 (cond (not here) (absent k) 0))) where
-    found : e ≡ firstRefusal (ruleAt t (λ h q. statusOf h q (w .me) s b k) .refusals)
-    found = rw (form, ← fe, ← he) ee
+-- a status past its last test: what the code has seen, and the number that refuses
+pub record Judged (t : List ℕ) (n : Header) (c : Caller) (k : Kind) (s : ℕ) (b : List ℕ) (x : Seen) (e : ℕ) : Type 0 where
+  pub sound : Sound t n c
+  pub seen : x ≡ seenAs (configuration t) (wordsOf t) (c .slot) k (namedOf n k s)
+  pub number : e ≡ firstRefusal (statusTests x k (length b))
 
-    pub status-refused : {r : Answer} → (e ≡ 0 → ⊥) → r ≡ said e 0 0 → Shown (ruleAt t (λ h q. statusOf h q (w .me) s b k)) b r b
-    status-refused n re = (re ∙ answer-refused (ruleAt t (λ h q. statusOf h q (w .me) s b k)) found n, buffer-refused (ruleAt t (λ h q. statusOf h q (w .me) s b k)) found b n)
+pub judged-by : {t : List ℕ} {n : Header} {c : Caller} → Sound t n c → (k : Kind) (s : ℕ) (b : List ℕ) {x : Seen} {e e2 : ℕ}
+    → x ≡ seenAs (configuration t) (wordsOf t) (c .slot) k (namedOf n k s) → e ≡ orRefuse 0 (not (eqb (length b) statusBytes)) XbSz
+    → e2 ≡ refusing e (findTests x k (not (x .flows))) → Judged t n c k s b x e2
+judged-by sound k s b {x} seen long find = record {
+  sound = sound;
+  seen = seen;
+  number = rw (find, long) (refusing-first (statusTests x k (length b)) (find-numbered x k (not (x .flows)) [] refl));
+}
 
-    long : e ≡ 0 → length b ≡ statusBytes
-    long z = eqb-true (length b) statusBytes (passed (eqb (length b) statusBytes)
-        (not-chosen (not (eqb (length b) statusBytes)) 5 (cond (not flow) 13 (cond (not here) (absent k) 0)) (omega arith) (sym ee ∙ z) .0))
+module _ {t : List ℕ} {n : Header} {c : Caller} {k : Kind} {s : ℕ} {b : List ℕ} {x : Seen} {e : ℕ} (p : Judged t n c k s b x e) where
+  by-form : (f : Bool) → formed (configuration t) k s ≡ f
+      → firstRefusal (statusTests x k (length b)) ≡ firstRefusal (ruleAt t (λ h q. statusOf h q (c .slot) s b k) .refusals)
+  unfolding present
+  by-form true f = rw (seen-formed (p .sound .known) (c .slot) k s (p .seen) f, f)
+  by-form false f = rw (formed-is (p .sound .known) (c .slot) k s (p .seen), f)
 
-    bytes : {i cell o g x : ℕ} → length b ≡ statusBytes → i ≡ indexOf s → cell ≡ cellOf (configuration t) k i → o ≡ rdBy w t (at k i owner) → g ≡ rdBy w t (at k i group)
-        → x ≡ bitsOf (rd (configuration t) t) k i → toldAt (configuration t) (class k) cell o g x b ≡ told (configuration t) (rd (configuration t) t) k (indexOf s)
-    bytes {i} l ie ce oe ge xe =
-        rw (ce, oe, ge, xe, see (sound .known) (at k i owner), see (sound .known) (at k i group), ie)
-        (all-told (configuration t) (rd (configuration t) t) k (indexOf s) b l)
+  found : e ≡ firstRefusal (ruleAt t (λ h q. statusOf h q (c .slot) s b k) .refusals)
+  found = p .number ∙ by-form (formed (configuration t) k s) refl
 
-    pub status-done : {r : Answer} {z : List ℕ} {i cell o g x : ℕ} → e ≡ 0 → r ≡ said 0 0 0 → i ≡ indexOf s → cell ≡ cellOf (configuration t) k i
-        → o ≡ rdBy w t (at k i owner) → g ≡ rdBy w t (at k i group) → x ≡ bitsOf (rd (configuration t) t) k i
-        → z ≡ toldAt (configuration t) (class k) cell o g x b → Shown (ruleAt t (λ h q. statusOf h q (w .me) s b k)) b r z
-    status-done n re ie ce oe ge xe ze = (
-      re ∙ answer-done (ruleAt t (λ h q. statusOf h q (w .me) s b k)) found n,
-      ze ∙ bytes (long n) ie ce oe ge xe ∙ buffer-done (ruleAt t (λ h q. statusOf h q (w .me) s b k)) found b n,
-    )
+  pub status-refused : {r : Answer} → (e ≡ 0 → ⊥) → r ≡ said e 0 0 → Shown (ruleAt t (λ h q. statusOf h q (c .slot) s b k)) b r b
+  status-refused ne re = (
+    re ∙ answer-refused (ruleAt t (λ h q. statusOf h q (c .slot) s b k)) found ne,
+    buffer-refused (ruleAt t (λ h q. statusOf h q (c .slot) s b k)) found b ne,
+  )
 
-  -- the cell of an object in its form
-  pub in-cells : isSeid (class k) (slots (configuration t) k) s ≡ true → {i cell : ℕ} → i ≡ indexOf s → cell ≡ cellOf (configuration t) k i → cell < cells (configuration t)
-  in-cells form {i} {cell} ie ce =
-      let f = is-formed (class k) (slots (configuration t) k) s form in
-      rw ce (in-run (configuration t) (shape (sound .known)) k i (rw ie (f .index-in)) .0)
+  -- past the refusals the buffer has sixteen bytes, and the seid its form
+  module _ (none : e ≡ 0) where
+    clear : Clear (statusTests x k (length b))
+    clear = clear-of (statusTests x k (length b)) (find-numbered x k (not (x .flows)) [] refl) (sym (p .number) ∙ none)
+
+    sixteen : length b ≡ statusBytes
+    sixteen = eqb-true (length b) statusBytes (passed (eqb (length b) statusBytes) (clear .0))
+
+    form : formed (configuration t) k s ≡ true
+    form = passed _ (rw (formed-is (p .sound .known) (c .slot) k s (p .seen)) at (clear .1 .0))
+
+    cell-is : x .cell ≡ cellOf (configuration t) k (x .slot)
+    cell-is = rw (p .seen)
+
+    pub in-cells : x .cell < cells (configuration t)
+    in-cells = rw cell-is (in-run (configuration t) (shape (p .sound .known)) k (x .slot) (slot-in (p .sound .known) (c .slot) k s (p .seen) form) .0)
+
+    -- the class, the owner, the group and the bits as the code has them
+    pub status-done : {r : Answer} {z : List ℕ} {l o g y : ℕ} → l ≡ class k → o ≡ wordsOf t (at k (x .slot) owner) → g ≡ wordsOf t (at k (x .slot) group)
+        → y ≡ bitsOf (wordsOf t) k (x .slot) → z ≡ toldAt (configuration t) l (x .cell) o g y b → r ≡ said 0 0 0
+        → Shown (ruleAt t (λ h q. statusOf h q (c .slot) s b k)) b r z
+    status-done {z = z} le oe ge ye ze re =
+        let bytes : z ≡ told (configuration t) (wordsOf t) k (indexOf s)
+        = ze ∙ rw (le, oe, ge, ye, cell-is, slot-is (p .sound .known) (c .slot) k s (p .seen) form) (all-told (configuration t) (wordsOf t) k (indexOf s) b sixteen) in (
+          re ∙ answer-done (ruleAt t (λ h q. statusOf h q (c .slot) s b k)) found none,
+          bytes ∙ buffer-done (ruleAt t (λ h q. statusOf h q (c .slot) s b k)) found b none,
+        )
 
 -- the rule by the seid's class
-module _ (t : List ℕ) (p a : ℕ) (b : List ℕ) {s n : ℕ} (own : s ≡ orSelf (rd (configuration t) t) p a) (class-is : n ≡ classOf s) where
+module _ (t : List ℕ) (p a : ℕ) (b : List ℕ) {s n : ℕ} (own : s ≡ orSelf (wordsOf t) p a) (class-is : n ≡ classOf s) where
   pub of-process : {r : Answer} {z : List ℕ} → n ≡ 4 → Shown (ruleAt t (λ h q. statusOf h q p s b process)) b r z → Shown (ruleAt t (λ h q. status h q p a b)) b r z
   unfolding status
   of-process e x = rw (← own, eq-eqb (classOf s) 4 (sym class-is ∙ e)) x

@@ -1,75 +1,100 @@
 -- The whole call: what its tests have shown, and its four ends.
 use mathlib.Core.Path.{_≡_, sym, ap, _∙_}
-use mathlib.Core.Bool.{Bool, true, false, _||_, not}
+use mathlib.Core.Bool.{Bool, true, false, cond, _||_, not}
 use mathlib.Core.List.{List}
 use Prim.Native.Nat.{ℕ, _≤_}
 use native.Mathlib.Omega.{arith}
 use lib.Dec.{ltb, leb, eqb}
-use lib.ListN.{length}
+use lib.ListN.{length, getD}
 use borrow.Author.Tests.{leb-false, ltb-false, eqb-false}
-use Rattle.rules.specs.Claim.{Holds, test}
-use Rattle.rules.specs.Layout.{process, configuration, slots, storeBytes, at, rd, live}
+use Rattle.rules.specs.Claim.{Holds, test, _&_}
+use Rattle.rules.specs.Layout.{process, segment, file, cells, blocks, configuration, slots, cellOf, flowMatrix, storeBytes, at, live}
 use Rattle.rules.specs.WellFormed.{wellFormed, lengthsExact, configured}
+use Rattle.rules.specs.SetUp.{canSetUp}
 use Rattle.rules.specs.Step.{badCaller, badCode, lastCode, step}
-use Rattle.laws.proofs.Tests.{or-left, or-right}
+use Rattle.laws.proofs.Tests.{or-left, or-right, and-left, and-both, and-right}
 use Rattle.laws.proofs.Claims.{holds}
-use Rattle.calls.specs.declared.World.{World}
+use Rattle.laws.proofs.Places.{conf-cells, conf-slots, conf-blocks}
+use Rattle.layout.specs.declared.Header.{Header}
+use Rattle.layout.specs.Header.{headerOf}
+use Rattle.calls.specs.declared.Caller.{Caller}
 use Rattle.calls.specs.declared.Answer.{Answer}
-use Rattle.calls.specs.World.{worldOf, rdBy, Sound}
+use Rattle.calls.specs.World.{Known, Sound, wordsOf, Judged}
 use Rattle.calls.specs.Left.{said}
 use Rattle.calls.specs.Did.{stateOf, callOf, Did, Through, ruleIn}
-use Rattle.calls.proofs.Worlds.{spot-world}
+use Rattle.calls.proofs.Worlds.{slots-is}
 use Rattle.calls.proofs.Codes.{bad-table, bad-caller, bad-code, done}
 
--- the caller's number is the world's
-me-is : (h : List ℕ) (p : ℕ) {w : World} → w ≡ worldOf h p → w .me ≡ p
-me-is h p e = ap (λ (x : World). x .me) e
+-- the header's words are the configuration's
+pub header-conf : (t : List ℕ) → headerOf t ≡ headerOf (configuration t)
+header-conf t = λ i. record {
+  cells = sym (conf-cells t) i;
+  processes = sym (conf-slots t process) i;
+  segments = sym (conf-slots t segment) i;
+  files = sym (conf-slots t file) i;
+  blocks = sym (conf-blocks t) i;
+}
 
-pub own : (h : List ℕ) (p : ℕ) {w : World} → w ≡ worldOf h p → w ≡ worldOf h (w .me)
-own h p {w} e = e ∙ ap (worldOf h) (sym (me-is h p e))
+-- a well-formed table can be set up
+pub shaped : (t s : List ℕ) → test (wellFormed t (length s)) ≡ true → test (canSetUp t (length s)) ≡ true
+unfolding wellFormed canSetUp
+shaped t s e =
+    let a = and-left (test (configured (configuration t))) _ e in
+    let b = and-left (test (lengthsExact (configuration t) (length t) (length s))) _ (and-right (test (configured (configuration t))) _ e) in
+    and-both (test (configured (configuration t))) _ a b
+
+-- what judging leaves: m is the matrix, of any before
+pub judged-by : (t s : List ℕ) {x : Bool} {n : Header} {m : List (List Bool)} (m₀ : List (List Bool)) → x ≡ test (wellFormed t (length s)) → x ≡ true
+    → m ≡ cond (test (canSetUp t (length s))) (flowMatrix (configuration t)) m₀ → n ≡ headerOf t → Judged t s n m
+judged-by t s m₀ xe e me ne = let good = sym xe ∙ e in record {
+  good = good;
+  header = ne ∙ header-conf t;
+  matrix = me ∙ rw (shaped t s good);
+}
 
 -- out of range, or not live, in the words that the code reads
-pub caller-told : (t : List ℕ) {w : World} {x : ℕ} → w ≡ worldOf (configuration t) (w .me) → x ≡ rdBy w t (at process (w .me) live)
-    → leb (w .processes) (w .me) || not (eqb x 1) ≡ badCaller (configuration t) (rd (configuration t) t) (w .me)
+pub caller-told : {t : List ℕ} {n : Header} → Known t n → (p : ℕ) {x : ℕ} → x ≡ wordsOf t (at process p live)
+    → leb (n .processes) p || not (eqb x 1) ≡ badCaller (configuration t) (wordsOf t) p
 unfolding badCaller
-caller-told t {w} e x = rw (x, spot-world t e, ap (λ (y : World). y .processes) e)
+caller-told known p xe = rw (xe, slots-is known process)
 
-module _ (t s : List ℕ) {x : Bool} (checked : x ≡ test (wellFormed t (length s))) where
-  good : x ≡ true → Holds (wellFormed t (length s))
-  good e = holds (wellFormed t (length s)) (sym checked ∙ e)
+module _ {t s : List ℕ} {n : Header} {m : List (List Bool)} (j : Judged t s n m) where
+  whole : Holds (wellFormed t (length s))
+  whole = holds (wellFormed t (length s)) (j .good)
 
-  pub conf : x ≡ true → Holds (configured (configuration t))
+  pub known : Known t n
   unfolding wellFormed
-  conf e = good e .0
+  known = record { conf = whole .0; header = j .header }
 
-  pub store-long : x ≡ true → length s ≡ storeBytes (configuration t)
+  pub store-long : length s ≡ storeBytes (configuration t)
   unfolding wellFormed lengthsExact
-  store-long e = good e .1 .0 .1
+  store-long = whole .1 .0 .1
 
-  module _ (e : x ≡ true) (p : ℕ) {w : World} (we : w ≡ worldOf (configuration t) p) {y : Bool} (ye : y ≡ badCaller (configuration t) (rd (configuration t) t) (w .me)) where
-    pub sound : y ≡ false → Sound t w
+  module _ (p : ℕ) {y : Bool} (ye : y ≡ badCaller (configuration t) (wordsOf t) p) where
+    pub sound : y ≡ false → {c : ℕ} → c ≡ cellOf (configuration t) process p → Sound t n (record { slot = p; cell = c })
     unfolding wellFormed lengthsExact badCaller
-    sound f = record {
-      known = record { conf = good e .0; world = own (configuration t) p we };
-      words = good e .1 .0 .0;
-      records = good e .1 .1;
-      caller = leb-false (slots (configuration t) process) (w .me)
-          (or-left (leb (slots (configuration t) process) (w .me)) (not (eqb (rd (configuration t) t (at process (w .me) live)) 1)) (sym ye ∙ f));
+    sound f ce = record {
+      known = known;
+      words = whole .1 .0 .0;
+      records = whole .1 .1;
+      caller = leb-false (slots (configuration t) process) p (or-left (leb (slots (configuration t) process) p) (not (eqb (wordsOf t (at process p live)) 1)) (sym ye ∙ f));
+      home = ce;
     }
 
     module _ (code a b c : ℕ) (buffer : List ℕ) where
       pub no-caller : {r : Answer} → y ≡ true → r ≡ said 2 0 0 → Did (step (stateOf t s) (callOf p code a b c buffer)) r t s buffer
-      no-caller f re = bad-caller t s p code a b c buffer (sym checked ∙ e) (rw (me-is (configuration t) p we) at (sym ye ∙ f)) re
+      no-caller f re = bad-caller t s p code a b c buffer (j .good) (sym ye ∙ f) re
 
       pub no-code : {z : Bool} {r : Answer} → y ≡ false → z ≡ badCode code → z ≡ true → r ≡ said 3 0 0 → Did (step (stateOf t s) (callOf p code a b c buffer)) r t s buffer
-      no-code f ze g re = bad-code t s p code a b c buffer (sym checked ∙ e) (rw (me-is (configuration t) p we) at (sym ye ∙ f)) (sym ze ∙ g) re
+      no-code f ze g re = bad-code t s p code a b c buffer (j .good) (sym ye ∙ f) (sym ze ∙ g) re
 
       pub all-done : {z : Bool} {r : Answer} {t′ s′ b′ : List ℕ} → y ≡ false → z ≡ badCode code → z ≡ false
-          → Through t s buffer (ruleIn t s (w .me) code a b c buffer) r t′ s′ b′ → Did (step (stateOf t s) (callOf p code a b c buffer)) r t′ s′ b′
-      all-done f ze g th = done t s p code a b c buffer (sym checked ∙ e) (rw (me-is (configuration t) p we) at (sym ye ∙ f)) (sym ze ∙ g) (rw (me-is (configuration t) p we) at th)
+          → Through t s buffer (ruleIn t s p code a b c buffer) r t′ s′ b′ → Did (step (stateOf t s) (callOf p code a b c buffer)) r t′ s′ b′
+      all-done f ze g th = done t s p code a b c buffer (j .good) (sym ye ∙ f) (sym ze ∙ g) th
 
-  pub no-table : (p code a b c : ℕ) (buffer : List ℕ) {r : Answer} → x ≡ false → r ≡ said 1 0 0 → Did (step (stateOf t s) (callOf p code a b c buffer)) r t s buffer
-  no-table p code a b c buffer f re = bad-table t s p code a b c buffer (sym checked ∙ f) re
+pub no-table : (t s : List ℕ) (p code a b c : ℕ) (buffer : List ℕ) {x : Bool} {r : Answer} → x ≡ test (wellFormed t (length s)) → x ≡ false → r ≡ said 1 0 0
+    → Did (step (stateOf t s) (callOf p code a b c buffer)) r t s buffer
+no-table t s p code a b c buffer xe f re = bad-table t s p code a b c buffer (sym xe ∙ f) re
 
 -- a good code is 1 to 18
 pub good-code : (code : ℕ) {z : Bool} → z ≡ badCode code → z ≡ false → (1 ≤ code) × (code ≤ lastCode)

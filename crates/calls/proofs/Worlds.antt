@@ -1,4 +1,4 @@
--- A call's world is its table's configuration: places, readings and cells by the one are those of the other.
+-- The header's numbers are the configuration's: places, readings and cells by the one are those of the other.
 use mathlib.Core.Path.{_≡_, refl, sym, ap, _∙_}
 use mathlib.Core.Bool.{Bool, true, false, _&&_}
 use mathlib.Core.List.{List}
@@ -14,45 +14,39 @@ use Rattle.laws.proofs.Below.{sum-more, sum-grows}
 use Rattle.laws.proofs.Search.{lowest-is, lowest-none}
 use Rattle.laws.proofs.Places.{conf-cells, conf-slots, conf-blocks, conf-cell}
 use Rattle.laws.proofs.Shape.{Shape, shape-of}
-use Rattle.calls.specs.declared.World.{World}
-use Rattle.calls.specs.World.{worldOf, baseBy, offsetBy, rdBy, Known, firstBy, cellBy, freeTest, emptyTest}
+use Rattle.layout.specs.declared.Header.{Header}
+use Rattle.layout.specs.Header.{headerOf, slotsOf, baseOf, recordOf, placeOf}
+use Rattle.calls.specs.World.{Known, wordsOf, firstBy, cellBy, freeTest, emptyTest}
 
 -- ---- places and readings
 
-module _ {t : List ℕ} {w : World} (s : Known t w) where
-  base-is : (k : Kind) → baseBy w k ≡ base (configuration t) k
-  base-is process = rw (s .world) refl
-  base-is segment = rw (s .world) refl
-  base-is file = rw (s .world) refl
+module _ {t : List ℕ} {n : Header} (s : Known t n) where
+  base-is : (k : Kind) → baseOf n k ≡ base (configuration t) k
+  base-is process = rw (s .header) refl
+  base-is segment = rw (s .header) refl
+  base-is file = rw (s .header) refl
 
-  pub spot : (a : Addr) → offsetBy w a ≡ offset (configuration t) a
-  unfolding offsetBy
+  pub spot : (a : Addr) → placeOf n a ≡ offset (configuration t) a
   spot a = rw (base-is (a .kind))
 
-  pub see : (a : Addr) → rdBy w t a ≡ rd (configuration t) t a
+  -- what is read at a place that the code has found
+  pub see : (k : Kind) (i j : ℕ) {x y : ℕ} → y ≡ recordOf n k i → x ≡ getD t (y + j) 0 → x ≡ wordsOf t (at k i j)
   unfolding rd
-  see a = rw (spot a)
+  see k i j ye xe = xe ∙ rw (ye, base-is k)
 
   pub shape : Shape (configuration t)
   shape = shape-of (configuration t) (s .conf)
 
-  pub cells-is : w .cells ≡ cells (configuration t)
-  cells-is = ap (λ (x : World). x .cells) (s .world)
+  pub cells-is : n .cells ≡ cells (configuration t)
+  cells-is = ap (λ (x : Header). x .cells) (s .header)
 
-  pub processes-is : w .processes ≡ slots (configuration t) process
-  processes-is = ap (λ (x : World). x .processes) (s .world)
+  pub blocks-is : n .blocks ≡ blocks (configuration t)
+  blocks-is = ap (λ (x : Header). x .blocks) (s .header)
 
-  pub segments-is : w .segments ≡ slots (configuration t) segment
-  segments-is = ap (λ (x : World). x .segments) (s .world)
-
-  pub files-is : w .files ≡ slots (configuration t) file
-  files-is = ap (λ (x : World). x .files) (s .world)
-
-  pub blocks-is : w .blocks ≡ blocks (configuration t)
-  blocks-is = ap (λ (x : World). x .blocks) (s .world)
-
-  pub home-is : w .home ≡ cellOf (configuration t) process (w .me)
-  home-is = ap (λ (x : World). x .home) (s .world)
+  pub slots-is : (k : Kind) → slotsOf n k ≡ slots (configuration t) k
+  slots-is process = ap (λ (x : Header). x .processes) (s .header)
+  slots-is segment = ap (λ (x : Header). x .segments) (s .header)
+  slots-is file = ap (λ (x : Header). x .files) (s .header)
 
 -- ---- the cell of a slot
 
@@ -148,19 +142,6 @@ pub filled-told : (t : List ℕ) (from d : ℕ) {y x : ℕ} → y ≡ d → x �
 unfolding emptyTest
 filled-told t from d e p r = rw (← e, ← p) (ne-eqb _ 0 r)
 
--- the header's words, as the code reads them
-pub header-cells : (t : List ℕ) → cells (configuration t) ≡ getD t 0 0
-unfolding cells
-header-cells t = conf-cells t
-
-header-slots : (t : List ℕ) (k : Kind) → slots (configuration t) k ≡ getD t (slotsWord k) 0
-unfolding slots
-header-slots t k = conf-slots t k
-
-header-blocks : (t : List ℕ) → blocks (configuration t) ≡ getD t 4 0
-unfolding blocks
-header-blocks t = conf-blocks t
-
 -- the word of a cell's record that counts the slots of a kind
 pub word-of-kind : (h : List ℕ) → Shape h → (k : Kind) → (cellSlotsWord k < cellWords) × (firstBy h (cellSlotsWord k) (cells h) ≤ maxSlots)
 word-of-kind h s k = (small k, rw (first-by-kind h k (cells h), s .sums k) (s .few k))
@@ -170,24 +151,6 @@ word-of-kind h s k = (small k, rw (first-by-kind h k (cells h), s .sums k) (s .f
     small segment = omega arith
     small file = omega arith
 
-pub kind-word : {t : List ℕ} {w : World} → Known t w → (k : Kind) → (cellSlotsWord k < cellWords) × (firstBy (configuration t) (cellSlotsWord k) (cells (configuration t)) ≤ maxSlots)
-kind-word {t} s k = word-of-kind (configuration t) (shape s) k
-
--- a world made of the table's own words
-pub own-world : (t : List ℕ) {p x0 x1 x2 x3 x4 h : ℕ} → x0 ≡ getD t 0 0 → x1 ≡ getD t 1 0 → x2 ≡ getD t 2 0 → x3 ≡ getD t 3 0 → x4 ≡ getD t 4 0
-    → h ≡ cellBy (configuration t) 3 p
-    → _≡_ {A = World} (record { cells = x0; processes = x1; segments = x2; files = x3; blocks = x4; me = p; home = h }) (worldOf (configuration t) p)
-own-world t {p} e0 e1 e2 e3 e4 eh = λ i. record {
-  cells = (e0 ∙ sym (header-cells t)) i;
-  processes = (e1 ∙ sym (header-slots t process)) i;
-  segments = (e2 ∙ sym (header-slots t segment)) i;
-  files = (e3 ∙ sym (header-slots t file)) i;
-  blocks = (e4 ∙ sym (header-blocks t)) i;
-  me = p;
-  home = (eh ∙ by-kind (configuration t) process p) i;
-}
-
--- the same reading, of a world that is the table's own
-pub spot-world : (t : List ℕ) {w : World} → w ≡ worldOf (configuration t) (w .me) → rdBy w t (at process (w .me) live) ≡ rd (configuration t) t (at process (w .me) live)
-unfolding rd offsetBy
-spot-world t {w} e = ap (λ (y : World). getD t (headerWords + cellWords * y .cells + recordWords process * w .me + live) 0) e
+pub kind-word : {t : List ℕ} {n : Header} → Known t n → (k : Kind) {x : ℕ} → x ≡ cellSlotsWord k
+    → (x < cellWords) × (firstBy (configuration t) x (cells (configuration t)) ≤ maxSlots)
+kind-word {t} s k e = rw e (word-of-kind (configuration t) (shape s) k)

@@ -4,25 +4,22 @@ use mathlib.Core.Bool.{true}
 use mathlib.Core.List.{List}
 use Prim.Native.Nat.{ℕ, _<_}
 use lib.ListN.{length}
-use Rattle.rules.specs.Layout.{Kind, process, configuration, slots, cellOf, Addr, at, rd, tableWords, entries, heldAt}
+use Rattle.rules.specs.Layout.{Kind, process, configuration, slots, cellOf, at, tableWords, entries, heldAt}
 use Rattle.rules.specs.Seid.{class, isSeid}
-use Rattle.calls.specs.declared.World.{World}
-use Rattle.calls.specs.World.{Known}
+use Rattle.layout.specs.declared.Header.{Header}
+use Rattle.calls.specs.declared.Caller.{Caller}
+use Rattle.calls.specs.World.{Known, wordsOf, holdable}
 
--- what entry d holds has the form of its kind
-abbrev pub EntryFormed : List ℕ → (Addr → ℕ) → Kind → ℕ → ℕ → Type 0
-EntryFormed h r k q d = (r (at process q (heldAt k d)) ≡ 0 → ⊥) → isSeid (class k) (slots h k) (r (at process q (heldAt k d))) ≡ true
+-- process q is of the caller's cell, and its entries hold objects of the kind
+pub record HoldingAt (t : List ℕ) (n : Header) (c : Caller) (k : Kind) (q : ℕ) : Type 0 where
+  pub known : Known t n
+  pub held : holdable k ≡ true
+  pub homed : c .cell ≡ cellOf (configuration t) process q
 
--- process q is of the caller's cell, and its entry d holds nothing or an object of the kind
-pub record HoldingAt (t : List ℕ) (w : World) (k : Kind) (q d : ℕ) : Type 0 where
-  pub known : Known t w
-  pub homed : w .home ≡ cellOf (configuration t) process q
-  pub formed : EntryFormed (configuration t) (rd (configuration t) t) k q d
-
--- process q is of the caller's cell, and each of its entries of a kind holds nothing or an object of the kind
-pub record Holding (t : List ℕ) (w : World) (k : Kind) (q : ℕ) : Type 0 where
-  pub known : Known t w
+-- and each of its entries of the kind holds nothing or an object of the kind
+pub record Holding (t : List ℕ) (n : Header) (c : Caller) (k : Kind) (q : ℕ) : Type 0 where
+  pub at-all : HoldingAt t n c k q
   pub words : length t ≡ tableWords (configuration t)
   pub here : q < slots (configuration t) process
-  pub homed : w .home ≡ cellOf (configuration t) process q
-  pub formed : (d : ℕ) → d < entries → EntryFormed (configuration t) (rd (configuration t) t) k q d
+  pub formed : (d : ℕ) → d < entries → (wordsOf t (at process q (heldAt k d)) ≡ 0 → ⊥)
+      → isSeid (class k) (slots (configuration t) k) (wordsOf t (at process q (heldAt k d))) ≡ true

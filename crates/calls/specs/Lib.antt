@@ -1,10 +1,12 @@
 -- What the contracts of the calls say.
 pub mod World
 pub mod Left
-pub mod Mail
+pub mod Refusing
 pub mod Seen
+pub mod Entries
+pub mod Calls
 pub mod Holding
-pub mod Finds
+pub mod Mail
 pub mod Blocks
 pub mod Told
 pub mod Did

@@ -1,20 +1,50 @@
--- What the caller sees of the object that a word names, and nothing where the word has not the form of one.
-use mathlib.Core.Bool.{false}
-use mathlib.Core.List.{List}
+-- What a word names, what the caller sees of it, and the refusals of "find" and "own" on that; the slot that a search finds.
+use mathlib.Core.Bool.{Bool, true, false, cond, _&&_, not}
+use mathlib.Core.List.{List, [], _∷_, _++_}
 use Prim.Native.Nat.{ℕ}
-use Rattle.rules.specs.Layout as rules
-use Rattle.rules.specs.Layout.{Addr}
-use Rattle.rules.specs.Seid.{indexOf, present}
-use Rattle.rules.specs.Find.{inOwnCell, rightsAt}
-use Rattle.ids.specs.declared.SegmentIs.{SegmentIs}
-use Rattle.ids.specs.declared.SegmentIs.the-variants.{Is, Not}
-use Rattle.calls.specs.declared.segments.Segment.{Segment}
+use lib.Dec.{eqb}
+use Rattle.rules.specs.Layout.{Kind, process, cellOf, flows, Addr, at, live, serial, owner}
+use Rattle.rules.specs.Seid.{class, indexOf, serialOf, isSeid}
+use Rattle.rules.specs.Errors.{XnoAcc, XnoOwner}
+use Rattle.rules.specs.Rule.{Refusal, _⇒_}
+use Rattle.rules.specs.Find.{absent, rightsAt, freeSlot, noSlot}
+use Rattle.layout.specs.declared.Header.{Header}
+use Rattle.layout.specs.Header.{slotsOf}
+use Rattle.calls.specs.declared.objects.Named.{Named}
+use Rattle.calls.specs.declared.objects.Seen.{Seen}
+use Rattle.calls.specs.declared.room.Slot.{Slot}
 
-abbrev pub seenSegment : List ℕ → (Addr → ℕ) → ℕ → SegmentIs → Segment
-seenSegment h r p (Is s) =
+-- a word that has the form of an identifier of the kind names a slot and a serial; another names nothing
+abbrev pub nameOf : ℕ → Named
+nameOf s = record { formed = true; slot = indexOf s; serial = serialOf s }
+
+abbrev pub noName : Named
+noName = record { formed = false; slot = 0; serial = 0 }
+
+unfoldable pub namedOf : Header → Kind → ℕ → Named
+namedOf n k s = cond (isSeid (class k) (slotsOf n k) s) (nameOf s) noName
+
+-- what process p sees of it
+abbrev pub seenAs : List ℕ → (Addr → ℕ) → ℕ → Kind → Named → Seen
+seenAs h r p k x =
     record {
-      present = present r rules.segment (s .0);
-      own = inOwnCell h p rules.segment (s .0);
-      rights = rightsAt r p rules.segment (indexOf (s .0));
+      formed = x .formed;
+      slot = x .slot;
+      cell = cellOf h k (x .slot);
+      own = eqb (cellOf h k (x .slot)) (cellOf h process p);
+      flows = flows h (cellOf h k (x .slot)) (cellOf h process p);
+      present = eqb (r (at k (x .slot) live)) 1 && eqb (r (at k (x .slot) serial)) (x .serial);
+      mine = eqb (r (at k (x .slot) owner)) (r (at process p owner));
+      rights = rightsAt r p k (x .slot);
     }
-seenSegment h r p Not = record { present = false; own = false; rights = 0 }
+
+-- "find" and "own" of what is seen
+abbrev pub findTests : Seen → Kind → Bool → List Refusal
+findTests x k forbidden = (not (x .formed) ⇒ absent k) ∷ (forbidden ⇒ XnoAcc) ∷ (not (x .present) ⇒ absent k) ∷ []
+
+abbrev pub ownTests : Seen → Kind → List Refusal
+ownTests x k = findTests x k (not (x .own)) ++ (not (x .mine) ⇒ XnoOwner) ∷ []
+
+-- the slot that the search in a cell's run finds
+abbrev pub slotFound : List ℕ → (Addr → ℕ) → Kind → ℕ → Slot
+slotFound h r k c = record { index = freeSlot h r k c; none = noSlot h r k c }

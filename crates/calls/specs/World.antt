@@ -1,53 +1,42 @@
--- What the code knows of a table while a call runs: the header's numbers, the caller and its cell. A table's words are read and written through it.
+-- What the code knows of a table while a call runs: the header's numbers, the caller and its cell; and searches in the table's words.
 use mathlib.Core.Path.{_≡_}
-use mathlib.Core.Bool.{Bool, _&&_, not, cond}
+use mathlib.Core.Bool.{Bool, true, false, _&&_}
 use mathlib.Core.List.{List}
-use Prim.Native.Nat.{ℕ, _+_, _*_, _-_, _<_}
+use Prim.Native.Nat.{ℕ, _+_, _*_, _<_}
 use lib.Dec.{ltb, eqb}
-use lib.ListN.{length, getD, set, replicate}
-use lib.Seq.{sets}
+use lib.ListN.{length, getD}
 use Rattle.rules.specs.Words.{sumBelow, lowest}
-use Rattle.rules.specs.Claim.{Holds}
-use Rattle.rules.specs.Layout.{maxSerial, Kind, process, segment, file, headerWords, cellWords, recordWords, cells, slots, blocks, cellWord, configuration, cellOf, Addr, at, rd, tableWords, live, serial, owner, entries, opens}
-use Rattle.rules.specs.WellFormed.{configured, recordsOk}
-use Rattle.calls.specs.declared.World.{World}
+use Rattle.rules.specs.Claim.{Holds, test}
+use Rattle.rules.specs.Layout.{maxSerial, Kind, process, segment, file, cells, slots, cellWord, configuration, cellOf, flowMatrix, Addr, rd, tableWords, live, serial, entries}
+use Rattle.rules.specs.Seid.{class, isSeid}
+use Rattle.rules.specs.Modes.{validModes}
+use Rattle.rules.specs.WellFormed.{configured, recordsOk, wellFormed}
+use Rattle.layout.specs.declared.Header.{Header}
+use Rattle.layout.specs.Header.{headerOf}
+use Rattle.calls.specs.declared.Caller.{Caller}
 
--- the world of a configuration, for the caller p
-abbrev pub worldOf : List ℕ → ℕ → World
-worldOf h p =
-    record {
-      cells = cells h;
-      processes = slots h process;
-      segments = slots h segment;
-      files = slots h file;
-      blocks = blocks h;
-      me = p;
-      home = cellOf h process p;
-    }
+-- what a table holds at each word of its records
+abbrev pub wordsOf : List ℕ → Addr → ℕ
+wordsOf t = rd (configuration t) t
 
--- where the records of a kind begin, and where a word of one lies
-abbrev pub baseBy : World → Kind → ℕ
-baseBy w process = headerWords + cellWords * w .cells
-baseBy w segment = headerWords + cellWords * w .cells + recordWords process * w .processes
-baseBy w file = headerWords + cellWords * w .cells + recordWords process * w .processes + recordWords segment * w .segments
-
-unfoldable pub offsetBy : World → Addr → ℕ
-offsetBy w a = baseBy w (a .kind) + recordWords (a .kind) * a .slot + a .word
-
-abbrev pub rdBy : World → List ℕ → Addr → ℕ
-rdBy w t a = getD t (offsetBy w a) 0
-
--- the configuration is good, and the world is its own
-pub record Known (t : List ℕ) (w : World) : Type 0 where
+-- the configuration is good, and the header is its own
+pub record Known (t : List ℕ) (n : Header) : Type 0 where
   pub conf : Holds (configured (configuration t))
-  pub world : w ≡ worldOf (configuration t) (w .me)
+  pub header : n ≡ headerOf (configuration t)
 
--- what a call's functions may count on: a well-formed table, its world, and a caller that it has
-pub record Sound (t : List ℕ) (w : World) : Type 0 where
-  pub known : Known t w
+-- what a call's functions may count on: a well-formed table, its header, a caller that it has, and the caller's cell
+pub record Sound (t : List ℕ) (n : Header) (c : Caller) : Type 0 where
+  pub known : Known t n
   pub words : length t ≡ tableWords (configuration t)
-  pub records : Holds (recordsOk (configuration t) (rd (configuration t) t))
-  pub caller : w .me < slots (configuration t) process
+  pub records : Holds (recordsOk (configuration t) (wordsOf t))
+  pub caller : c .slot < slots (configuration t) process
+  pub home : c .cell ≡ cellOf (configuration t) process (c .slot)
+
+-- objects that entries hold: segments and files
+abbrev pub holdable : Kind → Bool
+holdable process = false
+holdable segment = true
+holdable file = true
 
 -- ---- cells, by the word of a cell's record that says how many slots of a kind it has
 
@@ -74,15 +63,15 @@ emptyTest t from d = eqb (getD t (from + 2 * d) 0) 0
 unfoldable pub emptyAt : List ℕ → ℕ → ℕ
 emptyAt t from = lowest (emptyTest t from) entries 0
 
--- ---- giving up, in the table's words: the record of n words that begins at a place is zero but for its serial
-unfoldable pub freedAt : List ℕ → ℕ → ℕ → List ℕ
-freedAt t from n = sets (set t (from + live) 0) (from + owner) (replicate (n - owner) 0)
+-- ---- what the search for clashes counts on: a well-formed table, a file's seid in its form, modes that are valid
+pub record Clashable (t : List ℕ) (n : Header) (s b : ℕ) : Type 0 where
+  pub known : Known t n
+  pub records : Holds (recordsOk (configuration t) (wordsOf t))
+  pub form : isSeid (class file) (slots (configuration t) file) s ≡ true
+  pub modes : validModes b ≡ true
 
--- the object whose record begins at a place, and which has n holders, has one less: it is freed, or its count falls
-unfoldable pub lessAt : List ℕ → ℕ → ℕ → Bool → List ℕ
-lessAt t from n kept = cond (eqb n 1 && not kept) (freedAt t from (recordWords file)) (set t (from + opens) (n - 1))
-
--- the entry at a place is given up, which holds the object whose record begins at another
-unfoldable pub givenUpAt : List ℕ → ℕ → ℕ → Bool → Bool → List ℕ
-givenUpAt t entry object own kept =
-    cond own (lessAt (set (set t entry 0) (entry + 1) 0) object (getD t (object + opens) 0) kept) (set (set t entry 0) (entry + 1) 0)
+-- ---- a judged table: it is well formed for its store, n is its header, m its flow matrix
+pub record Judged (t s : List ℕ) (n : Header) (m : List (List Bool)) : Type 0 where
+  pub good : test (wellFormed t (length s)) ≡ true
+  pub header : n ≡ headerOf (configuration t)
+  pub matrix : m ≡ flowMatrix (configuration t)

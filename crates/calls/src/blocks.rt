@@ -1,29 +1,33 @@
 // Blocks: read and write.
 ghost use mathlib.Core.Path.{_≡_};
+ghost use mathlib.Core.Bool.{Bool};
 ghost use Prim.Native.Nat.{_+_, _-_, _*_, _≤_, _<_, _^_, max};
 ghost use lib.ListN.{length, replicate};
 ghost use lib.Seq.{sets};
 ghost use Rattle.rules.specs.Words.{part};
-ghost use Rattle.rules.specs.Layout.{blockBytes, configuration, rd, storeBytes};
-ghost use Rattle.calls.specs.World.{Known, Sound};
-ghost use Rattle.calls.specs.Blocks.{entryPast, usePast, ReadLeft, WriteLeft};
+ghost use Rattle.rules.specs.Layout.{blockBytes, configuration, flowMatrix, storeBytes};
+ghost use Rattle.calls.specs.World.{Sound};
+ghost use Rattle.calls.specs.Refusing.{refusing};
+ghost use Rattle.calls.specs.Calls.{blockTests};
+ghost use Rattle.calls.specs.Blocks.{ReadLeft, WriteLeft};
 use crate::Answer;
-use crate::World;
+use crate::Caller;
 use crate::base::answered;
-use crate::base::in_file;
-use crate::base::in_process;
-use crate::base::put_file;
+use crate::base::or_refuse;
+use crate::base::read;
 use crate::base::refused;
-use crate::objects::file_present;
-use crate::objects::file_rights;
-use ids::FileId;
-use ids::FileIs;
+use crate::base::write;
+use crate::entries::entry_of;
+use crate::objects::Seen;
+use crate::objects::look;
+use layout::Header;
+use layout::Kind;
 use modes::reads;
 use modes::writes;
 use rights::lacks;
 use rules::BLOCK_BYTES;
-use rules::DESCRIPTORS;
 use rules::ENTRIES;
+use rules::MAX_CELLS;
 use rules::SIZE;
 use rules::XB_SZ;
 use rules::XBAD_BLOCK_NO;
@@ -34,42 +38,28 @@ use rules::XNO_OBJ;
 use rules::XNOT_READABLE;
 use rules::XNOT_WRITABLE;
 use rules::XOK;
-use words::first;
 use words::put_bytes;
 use words::put_zeros;
 use words::wide;
 
-// What refuses the buffer, of n bytes, and the entry, which holds s.
-fn bad_entry(n: usize, a: u32, s: u32) -> u32
-    ensures { λ r. ⌜ r ≡ entryPast n a s ⌝ }
-{
-    let entry = first(ENTRIES <= wide(a), XBAD_OD, first(s == 0, XBAD_OD, XOK));
-    first(n != BLOCK_BYTES, XB_SZ, entry)
-}
-
-// What refuses the use of the file that an entry holds; the owner bits are today's.
-fn bad_use(
-    t: &[u32],
-    w: World,
-    f: FileId,
+// What a block is to be used for.
+struct Use {
     held: bool,
     number: u32,
     read: bool,
     write: bool,
-    b: u32,
-    rest: u32,
-) -> u32
-    requires { ⌜ Known (now t) w ⌝ }
-    ensures { λ r. ⌜ r ≡ usePast (configuration (now (t .entry))) (rd (configuration (now (t .entry))) (now (t .entry))) (w .me) (f .0) held number read write b rest ⌝ }
+}
+
+// What refuses block b by entry a, which holds s: past the last entry or empty; not held so, which has a number of its own; stale; today's owner bits; no such block.
+fn bad_use(e: u32, a: u32, s: u32, u: Use, f: Seen, blocks: u32, b: u32) -> u32
+    ensures { λ r. ⌜ r ≡ refusing e (blockTests a s (u .held) (u .number) f (u .read) (u .write) blocks b) ⌝ }
 {
-    let present = file_present(t, w, f);
-    let lacking = lacks(file_rights(t, w, f.index()), read, write);
-    let block = first(w.blocks <= b, XBAD_BLOCK_NO, rest);
-    first(
-        !held,
-        number,
-        first(!present, XNO_OBJ, first(lacking, XDAP_VIOL, block)),
-    )
+    let e = or_refuse(e, ENTRIES <= wide(a), XBAD_OD);
+    let e = or_refuse(e, s == 0, XBAD_OD);
+    let e = or_refuse(e, !u.held, u.number);
+    let e = or_refuse(e, !f.present, XNO_OBJ);
+    let e = or_refuse(e, lacks(f.rights, u.read, u.write), XDAP_VIOL);
+    or_refuse(e, blocks <= b, XBAD_BLOCK_NO)
 }
 
 // Block b of a file's stretch, n bytes from f * n on, is copied out.
@@ -120,80 +110,68 @@ fn larger(x: u32, y: u32) -> u32
 // 13. Read block.
 pub(crate) fn read_block(
     t: &[u32],
-    w: World,
+    n: Header,
+    m: [[bool; MAX_CELLS]; MAX_CELLS],
+    c: Caller,
     store: &[u8],
     a: u32,
     b: u32,
     buffer: &mut [u8],
 ) -> Answer
-    requires { ⌜ Sound (now t) w × (length (now store) ≡ storeBytes (configuration (now t))) ⌝ }
-    ensures { λ r. ⌜ ReadLeft (now (t .entry)) (now (store .entry)) (w .me) a b (now (buffer .entry)) r (now (buffer .exit)) ⌝ }
+    requires { ⌜ Sound (now t) n c × (m ≡ flowMatrix (configuration (now t))) × (length (now store) ≡ storeBytes (configuration (now t))) ⌝ }
+    ensures { λ r. ⌜ ReadLeft (now (t .entry)) (now (store .entry)) (c .slot) a b (now (buffer .entry)) r (now (buffer .exit)) ⌝ }
 {
-    let me = w.me;
-    let at = DESCRIPTORS + 2 * wide(a);
-    let s = in_process(t, w, me, at);
-    let e = bad_entry(buffer.len(), a, s);
+    let d = entry_of(t, n, Kind::File, c.slot, a);
+    let f = look(t, n, m, c, Kind::File, d.held);
+    let size = read(t, n, Kind::File, f.slot, SIZE);
+    let u = Use {
+        held: reads(d.used),
+        number: XNOT_READABLE,
+        read: true,
+        write: false,
+    };
+    let e = or_refuse(XOK, buffer.len() != BLOCK_BYTES, XB_SZ);
+    let e = bad_use(e, a, d.held, u, f, n.blocks, b);
+    let e = or_refuse(e, size <= b, XEND_OF_FILE);
     if e != XOK {
         return refused(e);
     }
-    match FileId::check(s, w.files) {
-        FileIs::Is(f) => {
-            let i = f.index();
-            let modes = in_process(t, w, me, at + 1);
-            let size = in_file(t, w, i, SIZE);
-            let held = reads(modes);
-            let end = first(size <= b, XEND_OF_FILE, XOK);
-            let e2 = bad_use(t, w, f, held, XNOT_READABLE, true, false, b, end);
-            if e2 != XOK {
-                return refused(e2);
-            }
-            read_store(
-                store,
-                wide(w.blocks) * BLOCK_BYTES,
-                wide(i),
-                wide(b),
-                buffer,
-            );
-            answered(0, 0)
-        }
-        FileIs::Not => refused(XBAD_OD),
-    }
+    let stretch = wide(n.blocks) * BLOCK_BYTES;
+    read_store(store, stretch, wide(f.slot), wide(b), buffer);
+    answered(0, 0)
 }
 
 // 14. Write block.
 pub(crate) fn write_block(
     t: &mut [u32],
-    w: World,
+    n: Header,
+    m: [[bool; MAX_CELLS]; MAX_CELLS],
+    c: Caller,
     store: &mut [u8],
     a: u32,
     b: u32,
     buffer: &[u8],
 ) -> Answer
-    requires { ⌜ Sound (now t) w × (length (now store) ≡ storeBytes (configuration (now t))) ⌝ }
-    ensures { λ r. ⌜ WriteLeft (now (t .entry)) (now (store .entry)) (w .me) a b (now (buffer .entry)) r (now (t .exit)) (now (store .exit)) ⌝ }
+    requires { ⌜ Sound (now t) n c × (m ≡ flowMatrix (configuration (now t))) × (length (now store) ≡ storeBytes (configuration (now t))) ⌝ }
+    ensures { λ r. ⌜ WriteLeft (now (t .entry)) (now (store .entry)) (c .slot) a b (now (buffer .entry)) r (now (t .exit)) (now (store .exit)) ⌝ }
 {
-    let me = w.me;
-    let at = DESCRIPTORS + 2 * wide(a);
-    let s = in_process(t, w, me, at);
-    let e = bad_entry(buffer.len(), a, s);
+    let d = entry_of(t, n, Kind::File, c.slot, a);
+    let f = look(t, n, m, c, Kind::File, d.held);
+    let size = read(t, n, Kind::File, f.slot, SIZE);
+    let u = Use {
+        held: writes(d.used),
+        number: XNOT_WRITABLE,
+        read: false,
+        write: true,
+    };
+    let e = or_refuse(XOK, buffer.len() != BLOCK_BYTES, XB_SZ);
+    let e = bad_use(e, a, d.held, u, f, n.blocks, b);
     if e != XOK {
         return refused(e);
     }
-    match FileId::check(s, w.files) {
-        FileIs::Is(f) => {
-            let i = f.index();
-            let modes = in_process(t, w, me, at + 1);
-            let size = in_file(t, w, i, SIZE);
-            let held = writes(modes);
-            let e2 = bad_use(t, w, f, held, XNOT_WRITABLE, false, true, b, XOK);
-            if e2 != XOK {
-                return refused(e2);
-            }
-            let n = wide(w.blocks) * BLOCK_BYTES;
-            write_store(store, n, wide(i), wide(size), wide(b), buffer);
-            put_file(t, w, i, SIZE, larger(size, b + 1));
-            answered(0, 0)
-        }
-        FileIs::Not => refused(XBAD_OD),
-    }
+    let stretch = wide(n.blocks) * BLOCK_BYTES;
+    let i = f.slot;
+    write_store(store, stretch, wide(i), wide(size), wide(b), buffer);
+    write(t, n, Kind::File, i, SIZE, larger(size, b + 1));
+    answered(0, 0)
 }

@@ -1,41 +1,37 @@
 // Messages: post and receive.
 ghost use mathlib.Core.Path.{_≡_};
-ghost use mathlib.Core.Bool.{true};
 ghost use mathlib.Core.List.{List};
 ghost use Prim.Native.Nat.{ℕ, _+_, _*_, _≤_, _<_, _^_};
 ghost use lib.ListN.{getD, length};
 ghost use lib.Seq.{sets};
 ghost use Rattle.rules.specs.Words.{bytes4, word4};
-ghost use Rattle.rules.specs.Layout.{process, configuration, rd, flowMatrix, slots, messages, messageWords};
-ghost use Rattle.rules.specs.Seid.{class, isSeid, present};
+ghost use Rattle.rules.specs.Layout.{configuration, flowMatrix, messages, messageWords};
 ghost use Rattle.rules.specs.Rule.{write};
 ghost use Rattle.rules.specs.Call15.{queued, post};
 ghost use Rattle.rules.specs.Call16.{receive};
-ghost use Rattle.calls.specs.World.{Known, Sound};
+ghost use Rattle.calls.specs.World.{Known, Sound, wordsOf};
 ghost use Rattle.calls.specs.Left.{Left, ruleAt, bufferOf};
-ghost use Rattle.calls.specs.Mail.{shownAt, movedAt, postPast};
+ghost use Rattle.calls.specs.Mail.{shownAt, movedAt};
 use crate::Answer;
-use crate::World;
+use crate::Caller;
 use crate::base::answered;
-use crate::base::clear;
-use crate::base::in_process;
 use crate::base::one_less;
-use crate::base::process_cell;
-use crate::base::process_place;
-use crate::base::put_process;
+use crate::base::or_refuse;
+use crate::base::read;
 use crate::base::refused;
+use crate::base::write;
+use crate::entries::clear;
+use crate::entries::put_four;
+use crate::objects::look;
 use crate::objects::or_self;
-use crate::objects::put_four;
-use ids::ProcessId;
-use ids::ProcessIs;
+use layout::Header;
+use layout::Kind;
 use levels::may_flow;
-use rules::LIVE;
 use rules::MAX_CELLS;
 use rules::MESSAGE_WORDS;
 use rules::MESSAGES;
 use rules::MESSAGES_AT;
 use rules::QUEUE;
-use rules::SERIAL;
 use rules::XB_NO_MES;
 use rules::XB_PR_SD;
 use rules::XB_SZ;
@@ -43,7 +39,6 @@ use rules::XNO_ACC;
 use rules::XOK;
 use rules::XPOST_EH;
 use words::byte;
-use words::first;
 use words::put_bytes;
 use words::wide;
 use words::word;
@@ -93,23 +88,20 @@ fn move_up(t: &mut [u32], from: usize, n: usize)
 }
 
 // 16. Receive.
-pub(crate) fn receive(t: &mut [u32], w: World, buffer: &mut [u8]) -> Answer
-    requires { ⌜ Sound (now t) w ⌝ }
-    ensures { λ r. ⌜ Left (now (t .entry)) (λ h q. receive h q (w .me) (now (buffer .entry))) r (now (t .exit)) × (now (buffer .exit) ≡ bufferOf (now (buffer .entry)) (ruleAt (now (t .entry)) (λ h q. receive h q (w .me) (now (buffer .entry))))) ⌝ }
+pub(crate) fn receive(t: &mut [u32], n: Header, c: Caller, buffer: &mut [u8]) -> Answer
+    requires { ⌜ Sound (now t) n c ⌝ }
+    ensures { λ r. ⌜ Left (now (t .entry)) (λ h q. receive h q (c .slot) (now (buffer .entry))) r (now (t .exit)) × (now (buffer .exit) ≡ bufferOf (now (buffer .entry)) (ruleAt (now (t .entry)) (λ h q. receive h q (c .slot) (now (buffer .entry))))) ⌝ }
 {
-    let me = w.me;
-    let n = in_process(t, w, me, QUEUE);
-    let e = first(
-        buffer.len() != MESSAGE_BYTES,
-        XB_SZ,
-        first(n == 0, XB_NO_MES, XOK),
-    );
+    let me = c.slot;
+    let waiting = read(t, n, Kind::Process, me, QUEUE);
+    let e = or_refuse(XOK, buffer.len() != MESSAGE_BYTES, XB_SZ);
+    let e = or_refuse(e, waiting == 0, XB_NO_MES);
     if e != XOK {
         return refused(e);
     }
-    let from = process_place(w, me, MESSAGES_AT);
+    let from = n.record_at(Kind::Process, me) + MESSAGES_AT;
     show(t, from, buffer);
-    put_process(t, w, me, QUEUE, one_less(n));
+    write(t, n, Kind::Process, me, QUEUE, one_less(waiting));
     let moved = MESSAGE_WORDS * (MESSAGES - 1);
     move_up(t, from, moved);
     clear(t, from + moved, MESSAGE_WORDS);
@@ -127,95 +119,43 @@ fn word_at(b: &[u8], i: usize) -> u32
         + byte(b, i + 3) as u32
 }
 
-// A message of the sender me, at place n of q's queue.
-fn deliver(t: &mut [u32], w: World, q: u32, me: u32, n: u32, b: &[u8])
-    requires { ⌜ Known (now t) w × (n < messages) ⌝ }
-    ensures { λ _. ⌜ now (t .exit) ≡ write (configuration (now (t .entry))) (now (t .entry)) (queued me q (now (b .entry)) n) ⌝ }
+// A message of the sender me, behind those that wait in q's queue.
+fn deliver(t: &mut [u32], n: Header, q: u32, me: u32, waiting: u32, b: &[u8])
+    requires { ⌜ Known (now t) n × (waiting < messages) ⌝ }
+    ensures { λ _. ⌜ now (t .exit) ≡ write (configuration (now (t .entry))) (now (t .entry)) (queued me q (now (b .entry)) waiting) ⌝ }
 {
-    let from = process_place(w, q, MESSAGES_AT + MESSAGE_WORDS * wide(n));
-    put_process(t, w, q, QUEUE, n + 1);
+    let from = n.record_at(Kind::Process, q) + (MESSAGES_AT + MESSAGE_WORDS * wide(waiting));
+    write(t, n, Kind::Process, q, QUEUE, waiting + 1);
     put_four(t, from, me, word_at(b, 0), word_at(b, 4), word_at(b, 8));
 }
 
-// A process: live with the seid's serial.
-pub(crate) fn process_present(t: &[u32], w: World, p: ProcessId) -> bool
-    requires { ⌜ Known (now t) w ⌝ }
-    ensures { λ r. ⌜ r ≡ present (rd (configuration (now (t .entry))) (now (t .entry))) process (p .0) ⌝ }
-{
-    let i = p.index();
-    (in_process(t, w, i, LIVE) == 1) & (in_process(t, w, i, SERIAL) == p.serial())
-}
-
-// What refuses a post to a process whose seid has its form. A higher receiver's absence or full queue is not told.
-fn post_refusal(
-    t: &[u32],
-    w: World,
-    m: [[bool; MAX_CELLS]; MAX_CELLS],
-    to: ProcessId,
-    length: usize,
-) -> u32
-    requires { ⌜ Known (now t) w × (m ≡ flowMatrix (configuration (now t))) ⌝ }
-    ensures { λ r. ⌜ r ≡ postPast (configuration (now (t .entry))) (rd (configuration (now (t .entry))) (now (t .entry))) (w .me) (to .0) length ⌝ }
-{
-    let i = to.index();
-    let cell = process_cell(t, w, i);
-    let near = cell == w.home;
-    let here = process_present(t, w, to);
-    let n = in_process(t, w, i, QUEUE);
-    let flows = may_flow(m, w.home, cell);
-    first(
-        length != TEXT_BYTES,
-        XB_SZ,
-        first(
-            !flows,
-            XNO_ACC,
-            first(
-                near & !here,
-                XB_PR_SD,
-                first(near & (MESSAGES <= wide(n)), XPOST_EH, XOK),
-            ),
-        ),
-    )
-}
-
-fn post_to(
-    t: &mut [u32],
-    w: World,
-    m: [[bool; MAX_CELLS]; MAX_CELLS],
-    to: ProcessId,
-    buffer: &[u8],
-) -> Answer
-    requires { ⌜ Sound (now t) w × (m ≡ flowMatrix (configuration (now t))) × (isSeid (class process) (slots (configuration (now t)) process) (to .0) ≡ true) ⌝ }
-    ensures { λ r. ⌜ Left (now (t .entry)) (λ h q. post h q (w .me) (to .0) (now (buffer .entry))) r (now (t .exit)) ⌝ }
-{
-    let e = post_refusal(t, w, m, to, buffer.len());
-    if e != XOK {
-        return refused(e);
-    }
-    let i = to.index();
-    let n = in_process(t, w, i, QUEUE);
-    let me = or_self(t, w, 0);
-    if process_present(t, w, to) & (wide(n) < MESSAGES) {
-        deliver(t, w, i, me, n, buffer);
-        return answered(0, 0);
-    }
-    answered(0, 0)
-}
-
-// 15. Post.
+// 15. Post. A higher receiver's absence or full queue is not told.
 pub(crate) fn post(
     t: &mut [u32],
-    w: World,
+    n: Header,
     m: [[bool; MAX_CELLS]; MAX_CELLS],
+    c: Caller,
     a: u32,
     buffer: &[u8],
 ) -> Answer
-    requires { ⌜ Sound (now t) w × (m ≡ flowMatrix (configuration (now t))) ⌝ }
-    ensures { λ r. ⌜ Left (now (t .entry)) (λ h q. post h q (w .me) a (now (buffer .entry))) r (now (t .exit)) ⌝ }
+    requires { ⌜ Sound (now t) n c × (m ≡ flowMatrix (configuration (now t))) ⌝ }
+    ensures { λ r. ⌜ Left (now (t .entry)) (λ h q. post h q (c .slot) a (now (buffer .entry))) r (now (t .exit)) ⌝ }
 {
-    let s = or_self(t, w, a);
-    match ProcessId::check(s, w.processes) {
-        ProcessIs::Is(to) => post_to(t, w, m, to, buffer),
-        ProcessIs::Not => refused(first(buffer.len() != TEXT_BYTES, XB_SZ, XB_PR_SD)),
+    let s = or_self(t, n, c, a);
+    let to = look(t, n, m, c, Kind::Process, s);
+    let waiting = read(t, n, Kind::Process, to.slot, QUEUE);
+    let full = MESSAGES <= wide(waiting);
+    let e = or_refuse(XOK, buffer.len() != TEXT_BYTES, XB_SZ);
+    let e = or_refuse(e, !to.formed, XB_PR_SD);
+    let e = or_refuse(e, !may_flow(m, c.cell, to.cell), XNO_ACC);
+    let e = or_refuse(e, to.own & !to.present, XB_PR_SD);
+    let e = or_refuse(e, to.own & full, XPOST_EH);
+    if e != XOK {
+        return refused(e);
     }
+    let me = or_self(t, n, c, 0);
+    if to.present & !full {
+        deliver(t, n, to.slot, me, waiting, buffer);
+    }
+    answered(0, 0)
 }

@@ -1,278 +1,194 @@
-// What refuses a seid as a file or a segment, room for new objects and entries, and what several calls write.
+// What a caller sees of the object that a word names, and the refusals of "find" and "own".
 ghost use mathlib.Core.Path.{_≡_};
-ghost use mathlib.Core.Bool.{Bool};
-ghost use Prim.Native.Nat.{ℕ, _+_, _≤_, _<_, _^_};
-ghost use lib.ListN.{getD, set};
-ghost use Rattle.rules.specs.Layout.{process, segment, file, at, opens, cells, maxSlots, cellWords, cellWord, recordWords, configuration, rd, flowMatrix};
-ghost use Rattle.rules.specs.Seid.{classOf, orSelf, present};
-ghost use Rattle.rules.specs.Find.{inOwnCell, flowsToCaller, rightsAt, freeEntry};
-ghost use Rattle.calls.specs.World.{Known, Sound, offsetBy, firstBy, freeAt};
-ghost use Rattle.calls.specs.Finds.{findPast, ownPast, fourAt, madeAt, takenUpAt};
-use crate::World;
-use crate::base::empty_at;
-use crate::base::file_cell;
-use crate::base::free_at;
-use crate::base::in_file;
-use crate::base::in_process;
-use crate::base::in_segment;
-use crate::base::process_base;
-use crate::base::segment_cell;
+ghost use mathlib.Core.Bool.{Bool, not};
+ghost use mathlib.Core.List.{[], _∷_};
+ghost use Rattle.rules.specs.Layout.{process, segment, file, configuration, flowMatrix};
+ghost use Rattle.rules.specs.Seid.{orSelf};
+ghost use Rattle.rules.specs.Find.{absent};
+ghost use Rattle.layout.specs.Kinds.{kindOf};
+ghost use Rattle.calls.specs.World.{Known, Sound, wordsOf};
+ghost use Rattle.calls.specs.Refusing.{refusing};
+ghost use Rattle.calls.specs.Seen.{namedOf, seenAs, findTests, ownTests};
+use crate::Caller;
+use crate::base::or_refuse;
+use crate::base::read;
+use crate::room::cell_of;
 use ids::FileId;
+use ids::FileIs;
+use ids::ProcessId;
+use ids::ProcessIs;
 use ids::SegmentId;
+use ids::SegmentIs;
 use ids::seid;
+use layout::Header;
+use layout::Kind;
 use levels::may_flow;
-use rules::BITS;
-use rules::CELL_WORDS;
-use rules::DESCRIPTORS;
 use rules::GROUP;
-use rules::HEADER_WORDS;
 use rules::LIVE;
 use rules::MAX_CELLS;
-use rules::OPENS;
 use rules::OWNER;
 use rules::PROCESS_CLASS;
-use rules::PROCESS_WORDS;
 use rules::SERIAL;
+use rules::XB_PR_SD;
 use rules::XB_SG_SD;
 use rules::XNO_ACC;
 use rules::XNO_OBJ;
 use rules::XNO_OWNER;
 use words::first;
-use words::put;
-use words::wide;
-use words::word;
-
-// A class takes a seid's high byte.
-const CLASS_UNIT: u32 = 16777216;
-
-pub(crate) fn class_of(s: u32) -> u32
-    ensures { λ r. ⌜ r ≡ classOf s ⌝ }
-{
-    s / CLASS_UNIT
-}
 
 // "Seid 0 means the calling process."
-pub(crate) fn or_self(t: &[u32], w: World, a: u32) -> u32
-    requires { ⌜ Sound (now t) w ⌝ }
-    ensures { λ r. ⌜ r ≡ orSelf (rd (configuration (now (t .entry))) (now (t .entry))) (w .me) a ⌝ }
+pub(crate) fn or_self(t: &[u32], n: Header, c: Caller, a: u32) -> u32
+    requires { ⌜ Sound (now t) n c ⌝ }
+    ensures { λ r. ⌜ r ≡ orSelf (wordsOf (now (t .entry))) (c .slot) a ⌝ }
 {
-    let me = w.me;
-    let serial = in_process(t, w, me, SERIAL);
+    let me = c.slot;
+    let serial = read(t, n, Kind::Process, me, SERIAL);
     first(a == 0, seid(PROCESS_CLASS, me, serial), a)
 }
 
-// A file: live with the seid's serial, of the caller's cell, of a cell that may flow to it.
-pub(crate) fn file_present(t: &[u32], w: World, f: FileId) -> bool
-    requires { ⌜ Known (now t) w ⌝ }
-    ensures { λ r. ⌜ r ≡ present (rd (configuration (now (t .entry))) (now (t .entry))) file (f .0) ⌝ }
-{
-    let i = f.index();
-    (in_file(t, w, i, LIVE) == 1) & (in_file(t, w, i, SERIAL) == f.serial())
+// What a word names, where it has the form of an identifier of the kind. Each identifier is made by its own class check; past this edge the code goes by kind, slot and
+// serial.
+pub(crate) struct Named {
+    pub formed: bool,
+    pub slot: u32,
+    pub serial: u32,
 }
 
-pub(crate) fn file_own(t: &[u32], w: World, f: FileId) -> bool
-    requires { ⌜ Known (now t) w ⌝ }
-    ensures { λ r. ⌜ r ≡ inOwnCell (configuration (now (t .entry))) (w .me) file (f .0) ⌝ }
+fn as_process(n: Header, s: u32) -> Named
+    ensures { λ r. ⌜ r ≡ namedOf n process s ⌝ }
 {
-    file_cell(t, w, f.index()) == w.home
+    match ProcessId::check(s, n.processes) {
+        ProcessIs::Is(p) => Named {
+            formed: true,
+            slot: p.index(),
+            serial: p.serial(),
+        },
+        ProcessIs::Not => Named {
+            formed: false,
+            slot: 0,
+            serial: 0,
+        },
+    }
 }
 
-pub(crate) fn file_flows(t: &[u32], w: World, m: [[bool; MAX_CELLS]; MAX_CELLS], f: FileId) -> bool
-    requires { ⌜ Known (now t) w × (m ≡ flowMatrix (configuration (now t))) ⌝ }
-    ensures { λ r. ⌜ r ≡ flowsToCaller (configuration (now (t .entry))) (w .me) file (f .0) ⌝ }
+fn as_segment(n: Header, s: u32) -> Named
+    ensures { λ r. ⌜ r ≡ namedOf n segment s ⌝ }
 {
-    may_flow(m, file_cell(t, w, f.index()), w.home)
+    match SegmentId::check(s, n.segments) {
+        SegmentIs::Is(g) => Named {
+            formed: true,
+            slot: g.index(),
+            serial: g.serial(),
+        },
+        SegmentIs::Not => Named {
+            formed: false,
+            slot: 0,
+            serial: 0,
+        },
+    }
 }
 
-// "Bits are judged anew at each use."
-pub(crate) fn file_rights(t: &[u32], w: World, i: u32) -> u32
-    requires { ⌜ Known (now t) w ⌝ }
-    ensures { λ r. ⌜ r ≡ rightsAt (rd (configuration (now (t .entry))) (now (t .entry))) (w .me) file i ⌝ }
+fn as_file(n: Header, s: u32) -> Named
+    ensures { λ r. ⌜ r ≡ namedOf n file s ⌝ }
 {
-    let me = w.me;
-    let u = in_process(t, w, me, OWNER);
-    let g = in_process(t, w, me, GROUP);
-    let owner = in_file(t, w, i, OWNER);
-    let group = in_file(t, w, i, GROUP);
-    rights::rights(u, g, owner, group, in_file(t, w, i, BITS))
+    match FileId::check(s, n.files) {
+        FileIs::Is(f) => Named {
+            formed: true,
+            slot: f.index(),
+            serial: f.serial(),
+        },
+        FileIs::Not => Named {
+            formed: false,
+            slot: 0,
+            serial: 0,
+        },
+    }
 }
 
-// A segment, likewise.
-pub(crate) fn segment_present(t: &[u32], w: World, g: SegmentId) -> bool
-    requires { ⌜ Known (now t) w ⌝ }
-    ensures { λ r. ⌜ r ≡ present (rd (configuration (now (t .entry))) (now (t .entry))) segment (g .0) ⌝ }
+fn name_of(n: Header, kind: Kind, s: u32) -> Named
+    ensures { λ r. ⌜ r ≡ namedOf n (kindOf kind) s ⌝ }
 {
-    let i = g.index();
-    (in_segment(t, w, i, LIVE) == 1) & (in_segment(t, w, i, SERIAL) == g.serial())
+    match kind {
+        Kind::Process => as_process(n, s),
+        Kind::Segment => as_segment(n, s),
+        Kind::File => as_file(n, s),
+    }
 }
 
-pub(crate) fn segment_own(t: &[u32], w: World, g: SegmentId) -> bool
-    requires { ⌜ Known (now t) w ⌝ }
-    ensures { λ r. ⌜ r ≡ inOwnCell (configuration (now (t .entry))) (w .me) segment (g .0) ⌝ }
-{
-    segment_cell(t, w, g.index()) == w.home
+// What the caller sees of it: its slot and cell, whether that is the caller's own, whether what it holds may flow to the caller, whether the slot is live with that
+// serial, whether the owners are one, and the caller's rights today.
+pub(crate) struct Seen {
+    pub formed: bool,
+    pub slot: u32,
+    pub cell: u32,
+    pub own: bool,
+    pub flows: bool,
+    pub present: bool,
+    pub mine: bool,
+    pub rights: u32,
 }
 
-pub(crate) fn segment_flows(
+pub(crate) fn look(
     t: &[u32],
-    w: World,
+    n: Header,
     m: [[bool; MAX_CELLS]; MAX_CELLS],
-    g: SegmentId,
-) -> bool
-    requires { ⌜ Known (now t) w × (m ≡ flowMatrix (configuration (now t))) ⌝ }
-    ensures { λ r. ⌜ r ≡ flowsToCaller (configuration (now (t .entry))) (w .me) segment (g .0) ⌝ }
+    c: Caller,
+    kind: Kind,
+    s: u32,
+) -> Seen
+    requires { ⌜ Sound (now t) n c × (m ≡ flowMatrix (configuration (now t))) ⌝ }
+    ensures { λ r. ⌜ r ≡ seenAs (configuration (now (t .entry))) (wordsOf (now (t .entry))) (c .slot) (kindOf kind) (namedOf n (kindOf kind) s) ⌝ }
 {
-    may_flow(m, segment_cell(t, w, g.index()), w.home)
-}
-
-pub(crate) fn segment_rights(t: &[u32], w: World, i: u32) -> u32
-    requires { ⌜ Known (now t) w ⌝ }
-    ensures { λ r. ⌜ r ≡ rightsAt (rd (configuration (now (t .entry))) (now (t .entry))) (w .me) segment i ⌝ }
-{
-    let me = w.me;
-    let u = in_process(t, w, me, OWNER);
-    let g = in_process(t, w, me, GROUP);
-    let owner = in_segment(t, w, i, OWNER);
-    let group = in_segment(t, w, i, GROUP);
-    rights::rights(u, g, owner, group, in_segment(t, w, i, BITS))
-}
-
-// "Own" past the seid's form: another cell, not present, another owner; then the rest.
-pub(crate) fn own_file(t: &[u32], w: World, f: FileId, rest: u32) -> u32
-    requires { ⌜ Known (now t) w ⌝ }
-    ensures { λ r. ⌜ r ≡ ownPast (configuration (now (t .entry))) (rd (configuration (now (t .entry))) (now (t .entry))) (w .me) file (f .0) rest ⌝ }
-{
-    let theirs = in_file(t, w, f.index(), OWNER);
-    let mine = in_process(t, w, w.me, OWNER);
-    let here = file_own(t, w, f);
-    let present = file_present(t, w, f);
-    first(
-        !here,
-        XNO_ACC,
-        first(!present, XNO_OBJ, first(theirs != mine, XNO_OWNER, rest)),
-    )
-}
-
-pub(crate) fn own_segment(t: &[u32], w: World, g: SegmentId, rest: u32) -> u32
-    requires { ⌜ Known (now t) w ⌝ }
-    ensures { λ r. ⌜ r ≡ ownPast (configuration (now (t .entry))) (rd (configuration (now (t .entry))) (now (t .entry))) (w .me) segment (g .0) rest ⌝ }
-{
-    let theirs = in_segment(t, w, g.index(), OWNER);
-    let mine = in_process(t, w, w.me, OWNER);
-    let here = segment_own(t, w, g);
-    let present = segment_present(t, w, g);
-    first(
-        !here,
-        XNO_ACC,
-        first(!present, XB_SG_SD, first(theirs != mine, XNO_OWNER, rest)),
-    )
-}
-
-// Word k of a cell's record.
-pub(crate) fn in_cell(t: &[u32], w: World, c: u32, k: usize) -> u32
-    requires { ⌜ Known (now t) w × (c < w .cells) × (k < cellWords) ⌝ }
-    ensures { λ r. ⌜ r ≡ cellWord (configuration (now (t .entry))) c k ⌝ }
-{
-    word(t, HEADER_WORDS + CELL_WORDS * wide(c) + k)
-}
-
-// The first slot of a cell's run of a kind; k is the word of a cell's record that counts these slots.
-pub(crate) fn first_slot(t: &[u32], w: World, c: u32, k: usize) -> u32
-    requires { ⌜ Known (now t) w × (c ≤ w .cells) × (k < cellWords) × (firstBy (configuration (now t)) k (cells (configuration (now t))) ≤ maxSlots) ⌝ }
-    ensures { λ r. ⌜ (r ≡ firstBy (configuration (now (t .entry))) k c) × (r ≤ maxSlots) ⌝ }
-{
-    let mut from: u32 = 0;
-    let mut i: u32 = 0;
-    while i < c {
-        from += in_cell(t, w, i, k);
-        i += 1;
-    }
-    from
-}
-
-// The end of the run of the caller's cell.
-pub(crate) fn run_end(t: &[u32], w: World, k: usize) -> u32
-    requires { ⌜ Known (now t) w × (w .home < w .cells) × (k < cellWords) × (firstBy (configuration (now t)) k (cells (configuration (now t))) ≤ maxSlots) ⌝ }
-    ensures { λ r. ⌜ r ≡ firstBy (configuration (now (t .entry))) k (w .home) + cellWord (configuration (now (t .entry))) (w .home) k ⌝ }
-{
-    let from = first_slot(t, w, w.home, k);
-    from + in_cell(t, w, w.home, k)
-}
-
-// "The lowest slot of the caller's cell that isn't live and has serial below 65535"; the records begin at base and are so many words long.
-pub(crate) fn free_slot(t: &[u32], w: World, base: usize, size: usize, k: usize) -> u32
-    requires { ⌜ Known (now t) w × (w .home < w .cells) × (k < cellWords) × (firstBy (configuration (now t)) k (cells (configuration (now t))) ≤ maxSlots) ⌝ }
-    requires { ⌜ (base < 2 ^ 43) × (size ≤ recordWords process) ⌝ }
-    ensures { λ r. ⌜ r ≡ freeAt (now (t .entry)) base size (cellWord (configuration (now (t .entry))) (w .home) k) (firstBy (configuration (now (t .entry))) k (w .home)) ⌝ }
-{
-    let from = first_slot(t, w, w.home, k);
-    let n = in_cell(t, w, w.home, k);
-    free_at(t, base, size, n, from)
-}
-
-// Four words from a place on.
-pub(crate) fn put_four(t: &mut [u32], i: usize, a: u32, b: u32, c: u32, d: u32)
-    requires { ⌜ i < 2 ^ 45 ⌝ }
-    ensures { λ _. ⌜ now (t .exit) ≡ fourAt (now (t .entry)) i a b c d ⌝ }
-{
-    put(t, i, a);
-    put(t, i + 1, b);
-    put(t, i + 2, c);
-    put(t, i + 3, d);
-}
-
-// The record of a new segment or file, which has one holder. It begins at a place; x and y are its fifth and sixth word.
-pub(crate) fn make(
-    t: &mut [u32],
-    from: usize,
-    serial: u32,
-    owner: u32,
-    group: u32,
-    bits: u32,
-    x: u32,
-    y: u32,
-)
-    requires { ⌜ from < 2 ^ 44 ⌝ }
-    ensures { λ _. ⌜ now (t .exit) ≡ madeAt (now (t .entry)) from serial owner group bits x y ⌝ }
-{
-    put_four(t, from, 1, serial, owner, group);
-    put_four(t, from + BITS, bits, x, y, 1);
-}
-
-// The entry at a place holds s, used so.
-pub(crate) fn enter(t: &mut [u32], entry: usize, s: u32, u: u32)
-    requires { ⌜ entry < 2 ^ 44 ⌝ }
-    ensures { λ _. ⌜ now (t .exit) ≡ set (set (now (t .entry)) entry s) (entry + 1) u ⌝ }
-{
-    put(t, entry, s);
-    put(t, entry + 1, u);
-}
-
-// The entry at a place comes to hold s, used so. Where the object is of the holder's cell, that has one holder more.
-pub(crate) fn take_up(t: &mut [u32], entry: usize, s: u32, u: u32, object: usize, own: bool)
-    requires { ⌜ (entry < 2 ^ 44) × (object < 2 ^ 44) × (getD (now t) (object + opens) 0 + 1 < 2 ^ 32) ⌝ }
-    ensures { λ _. ⌜ now (t .exit) ≡ takenUpAt (now (t .entry)) entry s u object own ⌝ }
-{
-    let n = word(t, object + OPENS) + 1;
-    put(t, entry, s);
-    put(t, entry + 1, u);
-    if own {
-        put(t, object + OPENS, n);
+    let x = name_of(n, kind, s);
+    let slot = x.slot;
+    let me = c.slot;
+    let cell = cell_of(t, n, kind, slot);
+    let live = read(t, n, kind, slot, LIVE);
+    let serial = read(t, n, kind, slot, SERIAL);
+    let owner = read(t, n, kind, slot, OWNER);
+    let group = read(t, n, kind, slot, GROUP);
+    let bits = read(t, n, kind, slot, kind.bits_word());
+    let my_owner = read(t, n, Kind::Process, me, OWNER);
+    let my_group = read(t, n, Kind::Process, me, GROUP);
+    let flows = may_flow(m, cell, c.cell);
+    let rights = rights::rights(my_owner, my_group, owner, group, bits);
+    Seen {
+        formed: x.formed,
+        slot,
+        cell,
+        own: cell == c.cell,
+        flows,
+        present: (live == 1) & (serial == x.serial),
+        mine: owner == my_owner,
+        rights,
     }
 }
 
-// Where word j of the caller's record lies.
-pub(crate) fn my_place(w: World, j: usize) -> usize
-    requires { ⌜ j < recordWords process ⌝ }
-    ensures { λ r. ⌜ (r ≡ offsetBy w (at process (w .me) j)) × (r < 2 ^ 43) ⌝ }
+// '"Absent" is 2, 11 or 12 where a process, segment or file is wanted.'
+pub(crate) fn absent(kind: Kind) -> u32
+    ensures { λ r. ⌜ r ≡ absent (kindOf kind) ⌝ }
 {
-    process_base(w) + PROCESS_WORDS * wide(w.me) + j
+    match kind {
+        Kind::Process => XB_PR_SD,
+        Kind::Segment => XB_SG_SD,
+        Kind::File => XNO_OBJ,
+    }
 }
 
-// The lowest empty descriptor of the caller; 16 where none is empty.
-pub(crate) fn free_descriptor(t: &[u32], w: World) -> u32
-    requires { ⌜ Known (now t) w ⌝ }
-    ensures { λ r. ⌜ r ≡ freeEntry (rd (configuration (now (t .entry))) (now (t .entry))) file (w .me) ⌝ }
+// '"Find": bad seid form or wrong class, absent; level forbids, 13; not live or other serial, absent.'
+pub(crate) fn find(e: u32, x: Seen, kind: Kind, forbidden: bool) -> u32
+    ensures { λ r. ⌜ r ≡ refusing e (findTests x (kindOf kind) forbidden) ⌝ }
 {
-    empty_at(t, my_place(w, DESCRIPTORS))
+    let gone = absent(kind);
+    let e = or_refuse(e, !x.formed, gone);
+    let e = or_refuse(e, forbidden, XNO_ACC);
+    or_refuse(e, !x.present, gone)
+}
+
+// '"Own" is find with another cell giving 13, then owner unequal 14.'
+pub(crate) fn own(e: u32, x: Seen, kind: Kind) -> u32
+    ensures { λ r. ⌜ r ≡ refusing e (ownTests x (kindOf kind)) ⌝ }
+{
+    let e = find(e, x, kind, !x.own);
+    or_refuse(e, !x.mine, XNO_OWNER)
 }

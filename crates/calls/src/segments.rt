@@ -1,46 +1,35 @@
-// Segments: build, rendezvous, release, set access, access.
+// Segments: build, rendezvous, set access, access. (Release is files::give_up.)
 ghost use mathlib.Core.Path.{_≡_};
 ghost use mathlib.Core.List.{List};
-ghost use Prim.Native.Nat.{ℕ, _<_};
-ghost use Rattle.rules.specs.Layout.{process, segment, configuration, cellOf, flowMatrix, rd};
-ghost use Rattle.rules.specs.Rule.{write};
-ghost use Rattle.rules.specs.Find.{givenUp, freeEntry};
+ghost use Prim.Native.Nat.{ℕ};
+ghost use Rattle.rules.specs.Layout.{segment, configuration, flowMatrix};
 ghost use Rattle.rules.specs.WellFormed.{segmentSize};
 ghost use Rattle.rules.specs.Call03.{buildSegment};
 ghost use Rattle.rules.specs.Call04.{alreadyHeld, rendezvous};
-ghost use Rattle.rules.specs.Call05.{releaseSegment};
 ghost use Rattle.rules.specs.Call06.{setAccess};
 ghost use Rattle.rules.specs.Call18.{accessOf};
-ghost use Rattle.calls.specs.World.{Known, Sound};
+ghost use Rattle.calls.specs.World.{Known, Sound, wordsOf};
 ghost use Rattle.calls.specs.Left.{Left};
-ghost use Rattle.calls.specs.Seen.{seenSegment};
+ghost use Rattle.calls.specs.Seen.{slotFound};
+ghost use Rattle.calls.specs.Calls.{ownerAccess};
 use crate::Answer;
-use crate::World;
+use crate::Caller;
 use crate::base::answered;
-use crate::base::empty_at;
-use crate::base::give_up;
-use crate::base::in_process;
-use crate::base::in_segment;
-use crate::base::process_place;
-use crate::base::put_process;
+use crate::base::or_refuse;
+use crate::base::read;
 use crate::base::refused;
-use crate::base::segment_base;
-use crate::base::segment_cell;
-use crate::base::segment_place;
-use crate::objects::enter;
-use crate::objects::free_slot;
-use crate::objects::make;
-use crate::objects::my_place;
+use crate::entries::enter;
+use crate::entries::entry_of;
+use crate::entries::make;
+use crate::entries::take_up;
+use crate::objects::find;
+use crate::objects::look;
 use crate::objects::or_self;
-use crate::objects::run_end;
-use crate::objects::segment_flows;
-use crate::objects::segment_own;
-use crate::objects::segment_present;
-use crate::objects::segment_rights;
-use crate::objects::take_up;
-use ids::SegmentId;
-use ids::SegmentIs;
+use crate::room::Slot;
+use crate::room::free_entry;
 use ids::seid;
+use layout::Header;
+use layout::Kind;
 use rights::access;
 use rights::asks_read;
 use rights::asks_write;
@@ -48,16 +37,12 @@ use rights::lacks;
 use rights::may_read;
 use rights::may_write;
 use rights::valid_access;
-use rules::CELL_SEGMENTS;
-use rules::DESIGNATORS;
 use rules::ENTRIES;
 use rules::GROUP;
-use rules::LIVE;
 use rules::MAX_BITS;
 use rules::MAX_CELLS;
 use rules::OWNER;
 use rules::SEGMENT_CLASS;
-use rules::SEGMENT_WORDS;
 use rules::SERIAL;
 use rules::SHARABLE;
 use rules::XB_PARAM;
@@ -72,58 +57,19 @@ use rules::XNO_SPACE;
 use rules::XOD_SPACE;
 use rules::XOK;
 use rules::XSG_NO_ACC;
-use words::first;
+use words::put;
 use words::wide;
 
-// What the caller sees of the segment that a word names: whether its slot is live with that serial, whether it is of the caller's cell, and the caller's rights
-// today. Where the word has not a segment's form, there is nothing to see.
-struct Segment {
-    present: bool,
-    own: bool,
-    rights: u32,
-}
-
-fn look(t: &[u32], w: World, s: SegmentIs) -> Segment
-    requires { ⌜ Known (now t) w ⌝ }
-    ensures { λ r. ⌜ r ≡ seenSegment (configuration (now (t .entry))) (rd (configuration (now (t .entry))) (now (t .entry))) (w .me) s ⌝ }
-{
-    match s {
-        SegmentIs::Is(g) => {
-            let present = segment_present(t, w, g);
-            let own = segment_own(t, w, g);
-            let rights = segment_rights(t, w, g.index());
-            Segment {
-                present,
-                own,
-                rights,
-            }
-        }
-        SegmentIs::Not => Segment {
-            present: false,
-            own: false,
-            rights: 0,
-        },
-    }
-}
-
-// The caller's lowest empty designator; 16 where none is empty.
-fn free_designator(t: &[u32], w: World) -> u32
-    requires { ⌜ Known (now t) w ⌝ }
-    ensures { λ r. ⌜ r ≡ freeEntry (rd (configuration (now (t .entry))) (now (t .entry))) segment (w .me) ⌝ }
-{
-    empty_at(t, my_place(w, DESIGNATORS))
-}
-
 // The caller holds this seid.
-fn already_held(t: &[u32], w: World, s: u32) -> bool
-    requires { ⌜ Known (now t) w ⌝ }
-    ensures { λ r. ⌜ r ≡ alreadyHeld (rd (configuration (now (t .entry))) (now (t .entry))) (w .me) s ⌝ }
+fn already_held(t: &[u32], n: Header, c: Caller, s: u32) -> bool
+    requires { ⌜ Known (now t) n ⌝ }
+    ensures { λ r. ⌜ r ≡ alreadyHeld (wordsOf (now (t .entry))) (c .slot) s ⌝ }
 {
-    let me = w.me;
     let mut held = false;
     let mut d: u32 = 0;
     while wide(d) < ENTRIES {
-        held = held | (in_process(t, w, me, DESIGNATORS + 2 * wide(d)) == s);
+        let x = entry_of(t, n, Kind::Segment, c.slot, d);
+        held = held | (x.held == s);
         d += 1;
     }
     held
@@ -136,189 +82,134 @@ fn is_size(n: u32) -> bool
     (n % 512 == 0) & ((512 <= n) & (n <= 65024))
 }
 
-// 3. Build segment.
-pub(crate) fn build_segment(t: &mut [u32], w: World, a: u32, b: u32, c: u32) -> Answer
-    requires { ⌜ Sound (now t) w ⌝ }
-    ensures { λ r. ⌜ ((buffer : List ℕ) → Left (now (t .entry)) (λ h q. buildSegment h q (w .me) a b c buffer) r (now (t .exit))) ⌝ }
+// The owner's read and write bits, as access.
+fn owner_access(bits: u32) -> u32
+    ensures { λ r. ⌜ r ≡ ownerAccess bits ⌝ }
 {
-    let me = w.me;
-    let d = free_designator(t, w);
-    let entry = process_place(w, me, DESIGNATORS + 2 * wide(d));
-    let g = free_slot(t, w, segment_base(w), SEGMENT_WORDS, CELL_SEGMENTS);
-    let end = run_end(t, w, CELL_SEGMENTS);
-    let e = first(
-        (MAX_BITS < b) | (1 < c),
-        XB_PARAM,
-        first(
-            !is_size(a),
-            XB_SG_SZ,
-            first(
-                ENTRIES <= wide(d),
-                XOD_SPACE,
-                first(end <= g, XNO_SPACE, XOK),
-            ),
-        ),
-    );
+    access(may_read(bits / 64), may_write(bits / 64))
+}
+
+// 3. Build segment, in the slot that was found.
+pub(crate) fn build_segment(
+    t: &mut [u32],
+    n: Header,
+    c: Caller,
+    g: Slot,
+    size: u32,
+    bits: u32,
+    sharable: u32,
+) -> Answer
+    requires { ⌜ Sound (now t) n c × (g ≡ slotFound (configuration (now t)) (wordsOf (now t)) segment (c .cell)) ⌝ }
+    ensures { λ r. ⌜ ((buffer : List ℕ) → Left (now (t .entry)) (λ h q. buildSegment h q (c .slot) size bits sharable buffer) r (now (t .exit))) ⌝ }
+{
+    let me = c.slot;
+    let d = free_entry(t, n, Kind::Segment, me);
+    let e = or_refuse(XOK, (MAX_BITS < bits) | (1 < sharable), XB_PARAM);
+    let e = or_refuse(e, !is_size(size), XB_SG_SZ);
+    let e = or_refuse(e, ENTRIES <= wide(d), XOD_SPACE);
+    let e = or_refuse(e, g.none, XNO_SPACE);
     if e != XOK {
         return refused(e);
     }
-    let serial = in_segment(t, w, g, SERIAL) + 1;
-    let s = seid(SEGMENT_CLASS, g, serial);
-    let owner = in_process(t, w, me, OWNER);
-    let group = in_process(t, w, me, GROUP);
-    make(t, segment_place(w, g, LIVE), serial, owner, group, b, c, a);
-    let used = access(may_read(b / 64), may_write(b / 64));
-    enter(t, entry, s, used);
+    let serial = read(t, n, Kind::Segment, g.index, SERIAL) + 1;
+    let owner = read(t, n, Kind::Process, me, OWNER);
+    let group = read(t, n, Kind::Process, me, GROUP);
+    let s = seid(SEGMENT_CLASS, g.index, serial);
+    make(
+        t,
+        n.record_at(Kind::Segment, g.index),
+        serial,
+        owner,
+        group,
+        bits,
+        sharable,
+        size,
+    );
+    enter(t, n.entry_at(Kind::Segment, me, d), s, owner_access(bits));
     answered(s, d)
 }
 
-// 4. Rendezvous.
+// 4. Rendezvous. Any access needs flow to the caller; writing the own cell too.
 pub(crate) fn rendezvous(
     t: &mut [u32],
-    w: World,
+    n: Header,
     m: [[bool; MAX_CELLS]; MAX_CELLS],
+    c: Caller,
     a: u32,
     b: u32,
 ) -> Answer
-    requires { ⌜ Sound (now t) w × (m ≡ flowMatrix (configuration (now t))) ⌝ }
-    ensures { λ r. ⌜ ((buffer : List ℕ) → Left (now (t .entry)) (λ h q. rendezvous h q (w .me) a b buffer) r (now (t .exit))) ⌝ }
+    requires { ⌜ Sound (now t) n c × (m ≡ flowMatrix (configuration (now t))) ⌝ }
+    ensures { λ r. ⌜ ((buffer : List ℕ) → Left (now (t .entry)) (λ h q. rendezvous h q (c .slot) a b buffer) r (now (t .exit))) ⌝ }
 {
-    let me = w.me;
-    let s = or_self(t, w, a);
-    let bad = (b == 0) | !valid_access(b);
-    match SegmentId::check(s, w.segments) {
-        SegmentIs::Is(g) => {
-            let i = g.index();
-            let d = free_designator(t, w);
-            let entry = process_place(w, me, DESIGNATORS + 2 * wide(d));
-            let own = segment_own(t, w, g);
-            let forbidden = !segment_flows(t, w, m, g) | (asks_write(b) & !own);
-            let present = segment_present(t, w, g);
-            let unsharable = in_segment(t, w, i, SHARABLE) == 0;
-            let lacking = lacks(segment_rights(t, w, i), asks_read(b), asks_write(b));
-            let e = first(
-                bad,
-                XB_PARAM,
-                first(
-                    forbidden,
-                    XNO_ACC,
-                    first(
-                        !present,
-                        XB_SG_SD,
-                        first(
-                            unsharable,
-                            XSG_NO_ACC,
-                            first(
-                                lacking,
-                                XDAP_VIOL,
-                                first(
-                                    already_held(t, w, s),
-                                    XDUP_SG,
-                                    first(ENTRIES <= wide(d), XOD_SPACE, XOK),
-                                ),
-                            ),
-                        ),
-                    ),
-                ),
-            );
-            if e != XOK {
-                return refused(e);
-            }
-            take_up(t, entry, s, b, segment_place(w, i, LIVE), own);
-            answered(d, 0)
-        }
-        SegmentIs::Not => refused(first(bad, XB_PARAM, XB_SG_SD)),
-    }
-}
-
-// Designator d of process p, which holds the segment, is given up.
-pub(crate) fn release_entry(t: &mut [u32], w: World, p: u32, d: u32, s: SegmentId)
-    requires { ⌜ Known (now t) w × (w .home ≡ cellOf (configuration (now t)) process p) ⌝ }
-    ensures { λ _. ⌜ now (t .exit) ≡ write (configuration (now (t .entry))) (now (t .entry)) (givenUp (configuration (now (t .entry))) (rd (configuration (now (t .entry))) (now (t .entry))) segment p d (s .0)) ⌝ }
-{
-    let i = s.index();
-    let own = segment_cell(t, w, i) == w.home;
-    let entry = process_place(w, p, DESIGNATORS + 2 * wide(d));
-    let object = segment_place(w, i, LIVE);
-    give_up(t, entry, object, own, false);
-}
-
-// 5. Release segment.
-pub(crate) fn release_segment(t: &mut [u32], w: World, a: u32) -> Answer
-    requires { ⌜ Sound (now t) w ⌝ }
-    ensures { λ r. ⌜ ((buffer : List ℕ) → Left (now (t .entry)) (λ h q. releaseSegment h q (w .me) a buffer) r (now (t .exit))) ⌝ }
-{
-    let me = w.me;
-    let s = in_process(t, w, me, DESIGNATORS + 2 * wide(a));
-    let e = first(ENTRIES <= wide(a), XN_SG_DES, first(s == 0, XB_SG_DES, XOK));
+    let s = or_self(t, n, c, a);
+    let g = look(t, n, m, c, Kind::Segment, s);
+    let d = free_entry(t, n, Kind::Segment, c.slot);
+    let sharable = read(t, n, Kind::Segment, g.slot, SHARABLE);
+    let twice = already_held(t, n, c, s);
+    let forbidden = !g.flows | (asks_write(b) & !g.own);
+    let e = or_refuse(XOK, (b == 0) | !valid_access(b), XB_PARAM);
+    let e = find(e, g, Kind::Segment, forbidden);
+    let e = or_refuse(e, sharable == 0, XSG_NO_ACC);
+    let e = or_refuse(e, lacks(g.rights, asks_read(b), asks_write(b)), XDAP_VIOL);
+    let e = or_refuse(e, twice, XDUP_SG);
+    let e = or_refuse(e, ENTRIES <= wide(d), XOD_SPACE);
     if e != XOK {
         return refused(e);
     }
-    match SegmentId::check(s, w.segments) {
-        SegmentIs::Is(g) => {
-            release_entry(t, w, me, a, g);
-            answered(0, 0)
-        }
-        SegmentIs::Not => refused(XB_SG_DES),
-    }
-}
-
-// 18. Access of a designator.
-pub(crate) fn access_of(t: &[u32], w: World, a: u32) -> Answer
-    requires { ⌜ Sound (now t) w ⌝ }
-    ensures { λ r. ⌜ ((buffer : List ℕ) → Left (now (t .entry)) (λ h q. accessOf h q (w .me) a buffer) r (now (t .entry))) ⌝ }
-{
-    let me = w.me;
-    let s = in_process(t, w, me, DESIGNATORS + 2 * wide(a));
-    let held = in_process(t, w, me, DESIGNATORS + 1 + 2 * wide(a));
-    let g = look(t, w, SegmentId::check(s, w.segments));
-    let e = first(
-        ENTRIES <= wide(a),
-        XN_SG_DES,
-        first(s == 0, XB_SG_DES, first(!g.present, XB_SG_SD, XOK)),
-    );
-    if e != XOK {
-        return refused(e);
-    }
-    answered(
-        access(
-            asks_read(held) & may_read(g.rights),
-            asks_write(held) & may_write(g.rights),
-        ),
-        0,
-    )
+    let entry = n.entry_at(Kind::Segment, c.slot, d);
+    let object = n.record_at(Kind::Segment, g.slot);
+    take_up(t, Kind::Segment, entry, s, b, object, g.own);
+    answered(d, 0)
 }
 
 // 6. Set access.
-pub(crate) fn set_access(t: &mut [u32], w: World, a: u32, b: u32) -> Answer
-    requires { ⌜ Sound (now t) w ⌝ }
-    ensures { λ r. ⌜ ((buffer : List ℕ) → Left (now (t .entry)) (λ h q. setAccess h q (w .me) a b buffer) r (now (t .exit))) ⌝ }
+pub(crate) fn set_access(
+    t: &mut [u32],
+    n: Header,
+    m: [[bool; MAX_CELLS]; MAX_CELLS],
+    c: Caller,
+    a: u32,
+    b: u32,
+) -> Answer
+    requires { ⌜ Sound (now t) n c × (m ≡ flowMatrix (configuration (now t))) ⌝ }
+    ensures { λ r. ⌜ ((buffer : List ℕ) → Left (now (t .entry)) (λ h q. setAccess h q (c .slot) a b buffer) r (now (t .exit))) ⌝ }
 {
-    let me = w.me;
-    let s = in_process(t, w, me, DESIGNATORS + 2 * wide(a));
-    let g = look(t, w, SegmentId::check(s, w.segments));
-    let outside = asks_write(b) & !g.own;
-    let lacking = lacks(g.rights, asks_read(b), asks_write(b));
-    let e = first(
-        !valid_access(b),
-        XB_PARAM,
-        first(
-            ENTRIES <= wide(a),
-            XN_SG_DES,
-            first(
-                s == 0,
-                XB_SG_DES,
-                first(
-                    !g.present,
-                    XB_SG_SD,
-                    first(outside, XNO_ACC, first(lacking, XDAP_VIOL, XOK)),
-                ),
-            ),
-        ),
-    );
+    let d = entry_of(t, n, Kind::Segment, c.slot, a);
+    let g = look(t, n, m, c, Kind::Segment, d.held);
+    let e = or_refuse(XOK, !valid_access(b), XB_PARAM);
+    let e = or_refuse(e, ENTRIES <= wide(a), XN_SG_DES);
+    let e = or_refuse(e, d.held == 0, XB_SG_DES);
+    let e = or_refuse(e, !g.present, XB_SG_SD);
+    let e = or_refuse(e, asks_write(b) & !g.own, XNO_ACC);
+    let e = or_refuse(e, lacks(g.rights, asks_read(b), asks_write(b)), XDAP_VIOL);
     if e != XOK {
         return refused(e);
     }
-    put_process(t, w, me, DESIGNATORS + 1 + 2 * wide(a), b);
+    put(t, n.entry_at(Kind::Segment, c.slot, a) + 1, b);
     answered(0, 0)
+}
+
+// 18. Access of a designator: as stored, limited by today's bits.
+pub(crate) fn access_of(
+    t: &[u32],
+    n: Header,
+    m: [[bool; MAX_CELLS]; MAX_CELLS],
+    c: Caller,
+    a: u32,
+) -> Answer
+    requires { ⌜ Sound (now t) n c × (m ≡ flowMatrix (configuration (now t))) ⌝ }
+    ensures { λ r. ⌜ ((buffer : List ℕ) → Left (now (t .entry)) (λ h q. accessOf h q (c .slot) a buffer) r (now (t .entry))) ⌝ }
+{
+    let d = entry_of(t, n, Kind::Segment, c.slot, a);
+    let g = look(t, n, m, c, Kind::Segment, d.held);
+    let e = or_refuse(XOK, ENTRIES <= wide(a), XN_SG_DES);
+    let e = or_refuse(e, d.held == 0, XB_SG_DES);
+    let e = or_refuse(e, !g.present, XB_SG_SD);
+    if e != XOK {
+        return refused(e);
+    }
+    let held = d.used;
+    let read = asks_read(held) & may_read(g.rights);
+    let write = asks_write(held) & may_write(g.rights);
+    answered(access(read, write), 0)
 }

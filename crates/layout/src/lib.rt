@@ -1,10 +1,11 @@
 // Where the parts of a table lie, over the kind of object, and the parts of an identifier. The check, the calls and the session read tables by these alone.
 ghost use mathlib.Core.Path.{_≡_};
 ghost use Prim.Native.Nat.{_+_, _*_, _<_, _^_};
-ghost use Rattle.rules.specs.Layout.{process, file, recordWords, cellSlotsWord, cellWords, heldAt, holders};
+ghost use Rattle.rules.specs.Layout.{process, file, recordWords, cellSlotsWord, cellWords, heldAt, bits, holders};
 ghost use Rattle.rules.specs.Seid.{class, classOf, indexOf, serialOf, isSeid};
 ghost use Rattle.layout.specs.Kinds.{kindOf};
 ghost use Rattle.layout.specs.Header.{headerOf, slotsOf, baseOf, recordOf};
+use rules::BITS;
 use rules::BLOCKS;
 use rules::CELL_FILES;
 use rules::CELL_PROCESSES;
@@ -17,6 +18,7 @@ use rules::FILE_WORDS;
 use rules::FILES;
 use rules::HEADER_WORDS;
 use rules::OPENS;
+use rules::PROCESS_BITS;
 use rules::PROCESS_CLASS;
 use rules::PROCESS_WORDS;
 use rules::PROCESSES;
@@ -63,6 +65,17 @@ impl Kind {
             Kind::Process => CELL_PROCESSES,
             Kind::Segment => CELL_SEGMENTS,
             Kind::File => CELL_FILES,
+        }
+    }
+
+    // The word of a record that holds the owner bits.
+    pub fn bits_word(self) -> usize
+        ensures { λ r. ⌜ r ≡ bits (kindOf self) ⌝ }
+    {
+        match self {
+            Kind::Process => PROCESS_BITS,
+            Kind::Segment => BITS,
+            Kind::File => BITS,
         }
     }
 

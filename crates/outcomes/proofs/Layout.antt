@@ -12,6 +12,9 @@ Kind-record-words = (λ κs a. tt, λ κs a z z′ w w′ p q. (one p q, refl))
 pub Kind-cell-word : Exact code.Kind.cell_word.Kinds.ps code.Kind.cell_word.Kinds.r code.Kind.cell_word.Reads.Asked code.Kind.cell_word.Reads.Learnt
 Kind-cell-word = (λ κs a. tt, λ κs a z z′ w w′ p q. (one (p .0) (q .0), refl))
 
+pub Kind-bits-word : Exact code.Kind.bits_word.Kinds.ps code.Kind.bits_word.Kinds.r code.Kind.bits_word.Reads.Asked code.Kind.bits_word.Reads.Learnt
+Kind-bits-word = (λ κs a. tt, λ κs a z z′ w w′ p q. (one p q, refl))
+
 pub Kind-holders-word : Exact code.Kind.holders_word.Kinds.ps code.Kind.holders_word.Kinds.r code.Kind.holders_word.Reads.Asked code.Kind.holders_word.Reads.Learnt
 Kind-holders-word = (λ κs a. tt, λ κs a z z′ w w′ p q. (one p q, refl))
 

@@ -1,134 +1,110 @@
--- `blocks::read_block` meets its contract: the rule's refusals in two stages, and the block copied out.
-use Rattle.calls.proofs.BlocksLaws.{entry-past, use-past, stretch-in, read-sooner, read-later, read-buffer, read-refused, read-done}
-use Rattle.calls.proofs.Entries.{file-form}
-use Rattle.ids.proofs.Parts.{file-not}
-use Rattle.calls.proofs.Named.{found-file}
-use Rattle.calls.proofs.Worlds.{shape, blocks-is}
-use Rattle.laws.proofs.Tests.{both-ways}
-use mathlib.Core.Bool.{true, false}
-use mathlib.Core.Path.{sym, _∙_}
-use native.Mathlib.Omega.{arith}
+-- `blocks::read_block` meets its contract: the rule's refusals in their order, and the block copied out.
+use Rattle.calls.proofs.BlocksLaws.{Used, stretch-fits, readTests, read-told, read-number, read-within, read-buffer, read-refused, read-done}
+use Rattle.rules.specs.Rule.{firstRefusal}
+use lib.ListN.{length}
+use mathlib.Core.Path.{_≡_}
 use borrow.Author.Needs.{needs}
 use Rattle.calls.proofs.blocks.read_block.Statement.{statement}
 use Rattle.calls.proofs.blocks.read_block.Tie as tie
 
-wide-requires : tie.Need-wide-requires
-wide-requires c κs = search needs
+-- what the code has found of the entry and its file, and the number that refuses
+abbrev found : tie.After-or-refuse2 → tie.After-read
+found c = c .before .before .before .before
 
-mul-at : tie.Need-mul-at
-mul-at c = search needs
+abbrev entry : tie.After-or-refuse2 → tie.After-entry-of
+entry c = found c .before .before
 
-add-at : tie.Need-add-at
-add-at c = search needs
+abbrev start : tie.After-or-refuse2 → tie.Start
+start c = entry c .before .before .before .before
 
-in-process-requires : tie.Need-in-process-requires
-in-process-requires c κs = search needs
+used : (c : tie.After-or-refuse2) → Used (start c .args .t .now) (start c .args .n) (start c .args .c) (start c .args .a) (entry c .entry-of .result)
+    (found c .before .look .result) (found c .read .result)
+used c = record { sound = start c .pre .0; entry = entry c .entry-of .ensures; seen = found c .before .look .ensures; sized = found c .read .ensures }
 
-bad-entry-requires : tie.Need-bad-entry-requires
-bad-entry-requires c κs = search needs
+told : (c : tie.After-or-refuse2) → c .or-refuse2 .result ≡ firstRefusal (readTests (length (start c .args .buffer .now)) (start c .args .a) (entry c .entry-of .result)
+    (found c .before .look .result) (found c .read .result) (start c .args .n .blocks) (start c .args .b))
+told c = read-told (used c) (start c .args .store .now) (start c .args .b) (start c .args .buffer .now) (c .before .before .before .reads .ensures) (c .before .before .or-refuse .ensures) (c .before .bad-use .ensures) (c .or-refuse2 .ensures)
+
+entry-of-requires : tie.Need-entry-of-requires
+entry-of-requires c κs = search needs
+
+look-requires : tie.Need-look-requires
+look-requires c κs = search needs
+
+read-requires : tie.Need-read-requires
+read-requires c κs = search needs
+
+reads-requires : tie.Need-reads-requires
+reads-requires c κs = search needs
+
+or-refuse-requires : tie.Need-or-refuse-requires
+or-refuse-requires c κs = search needs
+
+bad-use-requires : tie.Need-bad-use-requires
+bad-use-requires c κs = search needs
+
+or-refuse-requires-2 : tie.Need-or-refuse-requires-2
+or-refuse-requires-2 c κs = search needs
 
 refused-requires : tie.Need-refused-requires
 refused-requires c κs = search needs
 
 returns : tie.Need-returns
-returns c = read-refused _ _ _ _ _ _ (read-sooner (c .before .before .before .before .before .before .before .before .pre .0 .known) (c .before .before .before .before .before .before .before .before .args .store .now) (c .before .before .before .before .before .before .before .before .args .a) (c .before .before .before .before .before .before .before .before .args .b) (c .before .before .before .before .before .before .before .before .args .buffer .now) (c .before .before .before .before .wide .ensures) (c .before .before .before .in-process .ensures) (c .before .before .bad-entry .ensures) (c .before .if1 .taken)) (c .before .if1 .taken) (c .refused .ensures)
+returns c =
+    let after = c .before .before in
+    read-refused _ _ _ _ _ _ (read-number (used after) (start after .args .store .now) (start after .args .b) (start after .args .buffer .now) (told after)) (c .before .if1 .taken) (c .refused .ensures)
 
-check-requires : tie.Need-check-requires
-check-requires c κs = search needs
+wide-requires : tie.Need-wide-requires
+wide-requires c κs = search needs
 
-enum-known-f : tie.Need-enum-known-f
-enum-known-f c = search needs
-
-index-requires : tie.Need-index-requires
-index-requires c κs = search needs
-
-add-in-process : tie.Need-add-in-process
-add-in-process c = search needs
-
-in-process-requires-2 : tie.Need-in-process-requires-2
-in-process-requires-2 c κs = search needs
-
-in-file-requires : tie.Need-in-file-requires
-in-file-requires c κs = search needs
-
-reads-requires : tie.Need-reads-requires
-reads-requires c κs = search needs
-
-first-requires : tie.Need-first-requires
-first-requires c κs = search needs
-
-bad-use-requires : tie.Need-bad-use-requires
-bad-use-requires c κs = search needs
-
-refused-requires-2 : tie.Need-refused-requires-2
-refused-requires-2 c κs = search needs
-
-returns-2 : tie.Need-returns-2
-returns-2 c = read-refused _ _ _ _ _ _ (read-later (c .before .before .before .before .before .before .before .before .before .before .before .before .before .before .before .before .before .before .before .pre .0 .known) (c .before .before .before .before .before .before .before .before .before .before .before .before .before .before .before .before .before .before .before .args .store .now) (c .before .before .before .before .before .before .before .before .before .before .before .before .before .before .before .before .before .before .before .args .a) (c .before .before .before .before .before .before .before .before .before .before .before .before .before .before .before .before .before .before .before .args .b) (c .before .before .before .before .before .before .before .before .before .before .before .before .before .before .before .before .before .before .before .args .buffer .now) (c .before .before .before .before .before .before .before .before .before .before .before .before .before .before .before .wide .ensures) (c .before .before .before .before .before .before .before .before .before .before .before .before .before .before .in-process .ensures) (c .before .before .before .before .before .before .before .before .before .before .before .before .before .bad-entry .ensures) (c .before .before .before .before .before .before .before .before .before .before .before .before .if1 .left) (found-file _ _ (sym (c .before .before .before .before .before .before .before .before .before .before .before .check .ensures) ∙ c .before .before .before .before .before .before .before .before .before .f .given .1)) (c .before .before .before .before .before .before .before .index .ensures) (c .before .before .before .before .before .before .in-process2 .ensures) (c .before .before .before .before .before .in-file .ensures) (c .before .before .before .before .reads .ensures) (c .before .before .before .first .ensures) (c .before .before .bad-use .ensures)) (c .before .if2 .taken) (c .refused2 .ensures)
+mul-stretch : tie.Need-mul-stretch
+mul-stretch c =
+    let after = c .before .before in
+    record { fits = stretch-fits (used after) (c .wide .ensures) }
 
 wide-requires-2 : tie.Need-wide-requires-2
 wide-requires-2 c κs = search needs
 
-mul-read-store : tie.Need-mul-read-store
-mul-read-store c = omega (arith, c .wide2 .ensures, blocks-is (c .before .before .before .before .before .before .before .before .before .before .before .before .before .before .before .before .before .before .before .pre .0 .known), shape (c .before .before .before .before .before .before .before .before .before .before .before .before .before .before .before .before .before .before .before .pre .0 .known) .few-blocks)
-
 wide-requires-3 : tie.Need-wide-requires-3
 wide-requires-3 c κs = search needs
 
-wide-requires-4 : tie.Need-wide-requires-4
-wide-requires-4 c κs = search needs
-
 read-store-requires : tie.Need-read-store-requires
-read-store-requires c κs = (stretch-in (c .before .before .before .before .before .before .before .before .before .before .before .before .before .before .before .before .before .before .before .before .before .before .pre .0) _ (c .before .before .before .before .before .before .before .before .before .before .before .before .before .before .before .before .before .before .before .before .before .before .pre .1) (found-file _ _ (sym (c .before .before .before .before .before .before .before .before .before .before .before .before .before .before .check .ensures) ∙ c .before .before .before .before .before .before .before .before .before .before .before .before .f .given .1)) (c .before .before .before .before .before .before .before .before .before .before .index .ensures) (c .before .before .before .wide2 .ensures) (c .before .before .wide3 .ensures), omega (arith, use-past _ _ _ _ _ 20 true false _ _ (omega arith) (c .before .before .before .before .before .bad-use .ensures) (c .before .before .before .before .if2 .left), blocks-is (c .before .before .before .before .before .before .before .before .before .before .before .before .before .before .before .before .before .before .before .before .before .before .pre .0 .known), c .before .before .before .wide2 .ensures, c .before .wide4 .ensures), entry-past _ _ _ (c .before .before .before .before .before .before .before .before .before .before .before .before .before .before .before .before .bad-entry .ensures) (c .before .before .before .before .before .before .before .before .before .before .before .before .before .before .before .if1 .left) .bytes)
+read-store-requires c κs =
+    let after = c .before .before .before .before .before in
+    read-within (used after) (start after .args .store .now) (start after .args .b) (start after .args .buffer .now) (told after) (c .before .before .before .before .if1 .left) (start after .pre .2) (c .before .before .before .wide .ensures) (c .before .before .wide2 .ensures) (c .before .wide3 .ensures)
 
 answered-requires : tie.Need-answered-requires
 answered-requires c κs = search needs
 
-enum-told : tie.Need-enum-told
-enum-told c = search needs
-
-refused-requires-3 : tie.Need-refused-requires-3
-refused-requires-3 c κs = search needs
-
 same-length : tie.Need-same-length
 same-length c = search needs
 
-returns-3 : tie.Need-returns-3
-returns-3 c = read-done _ _ _ _ _ _ (read-later (c .before .before .before .before .before .before .before .before .before .before .before .before .before .before .before .before .before .before .before .before .before .before .before .before .before .before .pre .0 .known) (c .before .before .before .before .before .before .before .before .before .before .before .before .before .before .before .before .before .before .before .before .before .before .before .before .before .before .args .store .now) (c .before .before .before .before .before .before .before .before .before .before .before .before .before .before .before .before .before .before .before .before .before .before .before .before .before .before .args .a) (c .before .before .before .before .before .before .before .before .before .before .before .before .before .before .before .before .before .before .before .before .before .before .before .before .before .before .args .b) (c .before .before .before .before .before .before .before .before .before .before .before .before .before .before .before .before .before .before .before .before .before .before .before .before .before .before .args .buffer .now) (c .before .before .before .before .before .before .before .before .before .before .before .before .before .before .before .before .before .before .before .before .before .before .wide .ensures) (c .before .before .before .before .before .before .before .before .before .before .before .before .before .before .before .before .before .before .before .before .before .in-process .ensures) (c .before .before .before .before .before .before .before .before .before .before .before .before .before .before .before .before .before .before .before .before .bad-entry .ensures) (c .before .before .before .before .before .before .before .before .before .before .before .before .before .before .before .before .before .before .before .if1 .left) (found-file _ _ (sym (c .before .before .before .before .before .before .before .before .before .before .before .before .before .before .before .before .before .before .check .ensures) ∙ c .before .before .before .before .before .before .before .before .before .before .before .before .before .before .before .before .f .given .1)) (c .before .before .before .before .before .before .before .before .before .before .before .before .before .before .index .ensures) (c .before .before .before .before .before .before .before .before .before .before .before .before .before .in-process2 .ensures) (c .before .before .before .before .before .before .before .before .before .before .before .before .in-file .ensures) (c .before .before .before .before .before .before .before .before .before .before .before .reads .ensures) (c .before .before .before .before .before .before .before .before .before .before .first .ensures) (c .before .before .before .before .before .before .before .before .before .bad-use .ensures)) (c .before .before .before .before .before .before .before .before .if2 .left) (c .answered .ensures) (read-buffer (c .before .before .before .before .before .before .before .before .before .before .before .before .before .before .before .before .before .before .before .before .before .before .before .before .before .before .pre .0 .known) (c .before .before .before .before .before .before .before .before .before .before .before .before .before .before .before .before .before .before .before .before .before .before .before .before .before .before .args .store .now) (c .before .before .before .before .before .before .before .before .before .before .before .before .before .before .before .before .before .before .before .before .before .before .before .before .before .before .args .a) (c .before .before .before .before .before .before .before .before .before .before .before .before .before .before .before .before .before .before .before .before .before .before .before .before .before .before .args .b) (c .before .before .before .before .before .before .before .before .before .before .before .before .before .before .before .before .before .before .before .before .before .before .before .before .before .before .args .buffer .now) (c .before .before .before .before .before .before .before .before .before .before .before .before .before .before .before .before .before .before .before .before .before .before .wide .ensures) (c .before .before .before .before .before .before .before .before .before .before .before .before .before .before .before .before .before .before .before .before .before .in-process .ensures) (c .before .before .before .before .before .before .before .before .before .before .before .before .before .before .before .before .before .before .before .before .bad-entry .ensures) (c .before .before .before .before .before .before .before .before .before .before .before .before .before .before .before .before .before .before .before .if1 .left) (found-file _ _ (sym (c .before .before .before .before .before .before .before .before .before .before .before .before .before .before .before .before .before .before .check .ensures) ∙ c .before .before .before .before .before .before .before .before .before .before .before .before .before .before .before .before .f .given .1)) (c .before .before .before .before .before .before .before .before .before .before .before .before .before .before .index .ensures) (c .before .before .before .before .before .before .before .before .before .before .before .before .before .in-process2 .ensures) (c .before .before .before .before .before .before .before .before .before .before .before .before .in-file .ensures) (c .before .before .before .before .before .before .before .wide2 .ensures) (c .before .before .before .before .before .before .wide3 .ensures) (c .before .before .before .before .before .wide4 .ensures) (c .before .before .before .read-store .ensures))
-
-returns-4 : tie.Need-returns-4
-returns-4 c = both-ways _ (file-form (c .before .before .before .before .before .before .before .before .before .before .before .pre .0) _ _ (c .before .before .before .before .before .before .before .wide .ensures) (entry-past _ _ _ (c .before .before .before .before .before .bad-entry .ensures) (c .before .before .before .before .if1 .left) .entry) (entry-past _ _ _ (c .before .before .before .before .before .bad-entry .ensures) (c .before .before .before .before .if1 .left) .some) (c .before .before .before .before .before .before .in-process .ensures)) (file-not _ _ (sym (c .before .before .before .check .ensures) ∙ c .before .enum-told .given .1))
+returns-2 : tie.Need-returns-2
+returns-2 c =
+    let copied = c .before .before .before in
+    let after = copied .before .before .before .before .before .before in
+    read-done _ _ _ _ _ _ (read-number (used after) (start after .args .store .now) (start after .args .b) (start after .args .buffer .now) (told after)) (copied .before .before .before .before .before .if1 .left) (c .answered .ensures)
+    (read-buffer (used after) (start after .args .store .now) (start after .args .b) (start after .args .buffer .now) (told after)
+    (copied .before .before .before .before .before .if1 .left) (copied .before .before .before .before .wide .ensures) (copied .before .before .before .wide2 .ensures) (copied .before .before .wide3 .ensures) (copied .read-store .ensures))
 
 pub read-block-spec : {M : Type 1} → statement M
 read-block-spec =
     tie.close
     (tie.spec
-    wide-requires
-    mul-at
-    add-at
-    in-process-requires
-    bad-entry-requires
+    entry-of-requires
+    look-requires
+    read-requires
+    reads-requires
+    or-refuse-requires
+    bad-use-requires
+    or-refuse-requires-2
     refused-requires
     returns
-    check-requires
-    enum-known-f
-    index-requires
-    add-in-process
-    in-process-requires-2
-    in-file-requires
-    reads-requires
-    first-requires
-    bad-use-requires
-    refused-requires-2
-    returns-2
+    wide-requires
+    mul-stretch
     wide-requires-2
-    mul-read-store
     wide-requires-3
-    wide-requires-4
     read-store-requires
     answered-requires
-    enum-told
-    refused-requires-3
     same-length
-    returns-3
-    returns-4)
+    returns-2)

@@ -1,17 +1,17 @@
--- `dispatch::carry_out` meets its contract.
 use Rattle.calls.proofs.Codes.{plain-through}
+-- `dispatch::carry_out` meets its contract.
 use borrow.Author.Needs.{needs}
 use Rattle.calls.proofs.dispatch.carry_out.Statement.{statement}
 use Rattle.calls.proofs.dispatch.carry_out.Tie as tie
 
-on-segments-requires : tie.Need-on-segments-requires
-on-segments-requires c κs = search needs
+on-processes-and-segments-requires : tie.Need-on-processes-and-segments-requires
+on-processes-and-segments-requires c κs = search needs
 
 same-length : tie.Need-same-length
 same-length c = search needs
 
 returns : tie.Need-returns
-returns c = plain-through _ _ (c .before .before .on-segments .ensures _ _)
+returns c = plain-through _ _ (c .before .before .on-processes-and-segments .ensures _ _)
 
 on-files-requires : tie.Need-on-files-requires
 on-files-requires c κs = search needs
@@ -41,7 +41,7 @@ pub carry-out-spec : {M : Type 1} → statement M
 carry-out-spec =
     tie.close
     (tie.spec
-    on-segments-requires
+    on-processes-and-segments-requires
     same-length
     returns
     on-files-requires

@@ -1,18 +1,23 @@
--- `dispatch::on_files` meets its contract: each code has its rule.
 use Rattle.calls.proofs.Codes.{plain-7, plain-8, plain-9, plain-10, plain-11, plain-12}
+use Rattle.calls.proofs.Searches.{home-in}
 use native.Mathlib.Omega.{arith}
+use mathlib.Core.Path.{refl}
+-- `dispatch::on_files` meets its contract: each code has its rule, and create takes the slot that the search finds.
 use borrow.Author.Needs.{needs}
 use Rattle.calls.proofs.dispatch.on_files.Statement.{statement}
 use Rattle.calls.proofs.dispatch.on_files.Tie as tie
 
+free-slot-requires : tie.Need-free-slot-requires
+free-slot-requires c κs = (c .before .before .before .pre .0 .known, home-in (c .before .before .before .pre .0))
+
 create-requires : tie.Need-create-requires
-create-requires c κs = search needs
+create-requires c κs = (c .before .before .before .before .before .pre .0, c .before .free-slot .ensures)
 
 open-requires : tie.Need-open-requires
 open-requires c κs = search needs
 
-close-requires : tie.Need-close-requires
-close-requires c κs = search needs
+give-up-requires : tie.Need-give-up-requires
+give-up-requires c κs = (c .before .before .before .pre .0, refl, omega arith, omega arith)
 
 link-requires : tie.Need-link-requires
 link-requires c κs = search needs
@@ -27,19 +32,19 @@ same-length : tie.Need-same-length
 same-length c = search needs
 
 returns : tie.Need-returns
-returns c = plain-7 _ _ _ _ _ _ (c .before .before .before .before .match .keys1) (c .before .before .create .ensures)
+returns c = plain-7 _ _ _ _ _ _ (c .before .before .before .before .before .before .match .keys1) (c .before .before .create .ensures)
 
 same-length-2 : tie.Need-same-length-2
 same-length-2 c = search needs
 
 returns-2 : tie.Need-returns-2
-returns-2 c = plain-8 _ _ _ _ _ _ (c .before .before .before .before .match .keys2) (c .before .before .open .ensures)
+returns-2 c = plain-8 _ _ _ _ _ _ (c .before .before .before .before .match .keys2) (c .before .before .«open» .ensures)
 
 same-length-3 : tie.Need-same-length-3
 same-length-3 c = search needs
 
 returns-3 : tie.Need-returns-3
-returns-3 c = plain-9 _ _ _ _ _ _ (c .before .before .before .before .match .keys3) (c .before .before .close .ensures)
+returns-3 c = plain-9 _ _ _ _ _ _ (c .before .before .before .before .match .keys3) (c .before .before .give-up .ensures)
 
 same-length-4 : tie.Need-same-length-4
 same-length-4 c = search needs
@@ -63,9 +68,10 @@ pub on-files-spec : {M : Type 1} → statement M
 on-files-spec =
     tie.close
     (tie.spec
+    free-slot-requires
     create-requires
     open-requires
-    close-requires
+    give-up-requires
     link-requires
     unlink-requires
     set-bits-requires

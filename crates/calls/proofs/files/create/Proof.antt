@@ -1,41 +1,46 @@
--- `files::create` meets its contract: the rule's refusals in order, and the file made.
-use Rattle.calls.proofs.FilesLaws.{create-number, create-room, create-said, create-words}
-use Rattle.calls.proofs.Room.{free-ok}
-use Rattle.calls.proofs.Worlds.{shape}
+-- `files::create` meets its contract: the rule's refusals in order, and the file made in the slot that was found.
+use mathlib.Core.Bool.{false}
+use Rattle.calls.proofs.FilesLaws.{create-number, create-room, create-seid, create-words}
+use Rattle.calls.proofs.Searches.{serial-rises}
 use Rattle.calls.proofs.Leaves.{left-refused, left-done}
+use Rattle.calls.specs.Left.{said, ruleAt}
+use Rattle.rules.specs.Rule.{firstRefusal}
 use Rattle.rules.specs.Call07.{create}
 use Rattle.rules.specs.Layout.{file}
+use Prim.Native.Nat.{ℕ}
+use mathlib.Core.List.{List, []}
+use mathlib.Core.Path.{_≡_, ap₂, _∙_}
 use native.Mathlib.Omega.{arith}
 use borrow.Author.Needs.{needs}
 use Rattle.calls.proofs.files.create.Statement.{statement}
 use Rattle.calls.proofs.files.create.Tie as tie
 
-free-descriptor-requires : tie.Need-free-descriptor-requires
-free-descriptor-requires c κs = search needs
+number : (c : tie.After-or-refuse4) (buffer : List ℕ) → c .or-refuse4 .result ≡ firstRefusal (ruleAt (c .before .before .before .before .before .before .before .before .before .args .t .now) (λ h q. create h q (c .before .before .before .before .before .before .before .before .before .args .c .slot) (c .before .before .before .before .before .before .before .before .before .args .a) (c .before .before .before .before .before .before .before .before .before .args .b) buffer) .refusals)
+number c buffer = create-number (c .before .before .before .before .before .before .before .before .before .pre .0) (c .before .before .before .before .before .before .before .before .before .args .a) (c .before .before .before .before .before .before .before .before .before .args .b) buffer (c .before .before .before .before .before .before .before .before .before .pre .1) (c .before .before .before .before .before .before .free-entry .ensures) (c .before .before .before .before .before .or-refuse .ensures) (c .before .before .before .before .valid .ensures) (c .before .before .before .or-refuse2 .ensures) (c .before .before .wide .ensures) (c .before .or-refuse3 .ensures) (c .or-refuse4 .ensures)
 
-free-file-requires : tie.Need-free-file-requires
-free-file-requires c κs = search needs
+room : (c : tie.Else1) → c .before .before .before .before .before .before .before .before .before .before .args .f .none ≡ false
+room c = create-room (c .before .before .before .before .before .before .before .before .before .before .pre .0) (c .before .before .before .before .before .before .before .before .before .before .args .a) (c .before .before .before .before .before .before .before .before .before .before .args .b) [] (c .before .before .before .before .before .before .before .before .before .before .pre .1) (c .before .before .before .before .before .before .before .free-entry .ensures) (c .before .before .before .before .before .before .or-refuse .ensures) (c .before .before .before .before .before .valid .ensures) (c .before .before .before .before .or-refuse2 .ensures) (c .before .before .before .wide .ensures) (c .before .before .or-refuse3 .ensures) (c .before .or-refuse4 .ensures) (c .if1 .left)
 
-files-end-requires : tie.Need-files-end-requires
-files-end-requires c κs = search needs
+free-entry-requires : tie.Need-free-entry-requires
+free-entry-requires c κs = search needs
 
-wide-requires : tie.Need-wide-requires
-wide-requires c κs = search needs
-
-first-requires : tie.Need-first-requires
-first-requires c κs = search needs
-
-first-requires-2 : tie.Need-first-requires-2
-first-requires-2 c κs = search needs
+or-refuse-requires : tie.Need-or-refuse-requires
+or-refuse-requires c κs = search needs
 
 valid-requires : tie.Need-valid-requires
 valid-requires c κs = search needs
 
-first-requires-3 : tie.Need-first-requires-3
-first-requires-3 c κs = search needs
+or-refuse-requires-2 : tie.Need-or-refuse-requires-2
+or-refuse-requires-2 c κs = search needs
 
-first-requires-4 : tie.Need-first-requires-4
-first-requires-4 c κs = search needs
+wide-requires : tie.Need-wide-requires
+wide-requires c κs = search needs
+
+or-refuse-requires-3 : tie.Need-or-refuse-requires-3
+or-refuse-requires-3 c κs = search needs
+
+or-refuse-requires-4 : tie.Need-or-refuse-requires-4
+or-refuse-requires-4 c κs = search needs
 
 refused-requires : tie.Need-refused-requires
 refused-requires c κs = search needs
@@ -44,10 +49,34 @@ same-length : tie.Need-same-length
 same-length c = search needs
 
 returns : tie.Need-returns
-returns c = λ buffer. left-refused _ (λ h q. create h q _ _ _ buffer) (create-number (c .before .before .before .before .before .before .before .before .before .before .before .before .before .before .before .pre .known) _ _ buffer (c .before .before .before .before .before .before .before .before .before .before .before .before .free-descriptor .ensures) (c .before .before .before .before .before .before .before .before .before .before .free-file .ensures) (c .before .before .before .before .before .before .before .before .files-end .ensures) (c .before .before .before .before .before .before .before .wide .ensures) (c .before .before .before .before .before .before .first .ensures) (c .before .before .before .before .before .first2 .ensures) (c .before .before .before .before .valid .ensures) (c .before .before .before .first3 .ensures) (c .before .before .first4 .ensures)) (c .before .if1 .taken) (c .refused .ensures)
+returns c = λ buffer. left-refused _ _ (number (c .before .before) buffer) (c .before .if1 .taken) (c .refused .ensures)
 
-make-file-requires : tie.Need-make-file-requires
-make-file-requires c κs = let x = free-ok (c .before .before .before .before .before .before .before .before .before .before .before .before .before .before .before .pre) file (c .before .before .before .before .before .before .before .before .before .before .free-file .ensures) (c .before .before .before .before .before .before .before .before .files-end .ensures) (create-room (c .before .before .before .before .before .before .before .before .before .before .before .before .before .before .before .pre .known) (c .before .before .before .before .before .before .before .before .before .before .before .before .before .before .before .args .a) (c .before .before .before .before .before .before .before .before .before .before .before .before .before .before .before .args .b) (c .before .before .before .before .before .before .before .before .before .before .before .before .before .before .before .args .t .now) (c .before .before .before .before .before .before .before .before .before .before .before .before .free-descriptor .ensures) (c .before .before .before .before .before .before .before .before .before .before .free-file .ensures) (c .before .before .before .before .before .before .before .before .files-end .ensures) (c .before .before .before .before .before .before .before .wide .ensures) (c .before .before .before .before .before .before .first .ensures) (c .before .before .before .before .before .first2 .ensures) (c .before .before .before .before .valid .ensures) (c .before .before .before .first3 .ensures) (c .before .before .first4 .ensures) (c .before .if1 .left)) in (c .before .before .before .before .before .before .before .before .before .before .before .before .before .before .before .pre .known, omega (arith, shape (c .before .before .before .before .before .before .before .before .before .before .before .before .before .before .before .pre .known) .few file, x .0), x .1)
+read-requires : tie.Need-read-requires
+read-requires c κs = search needs
+
+add-serial : tie.Need-add-serial
+add-serial c = record { fits = omega (arith, serial-rises (c .before .before .before .before .before .before .before .before .before .before .before .before .pre .0) file (c .before .before .before .before .before .before .before .before .before .before .before .before .pre .1) (room (c .before .before)) (c .read .ensures)) }
+
+read-requires-2 : tie.Need-read-requires-2
+read-requires-2 c κs = search needs
+
+read-requires-3 : tie.Need-read-requires-3
+read-requires-3 c κs = search needs
+
+seid-requires : tie.Need-seid-requires
+seid-requires c κs = search needs
+
+record-at-requires : tie.Need-record-at-requires
+record-at-requires c κs = search needs
+
+make-requires : tie.Need-make-requires
+make-requires c κs = search needs
+
+entry-at-requires : tie.Need-entry-at-requires
+entry-at-requires c κs = search needs
+
+enter-requires : tie.Need-enter-requires
+enter-requires c κs = search needs
 
 answered-requires : tie.Need-answered-requires
 answered-requires c κs = search needs
@@ -56,26 +85,34 @@ same-length-2 : tie.Need-same-length-2
 same-length-2 c = search needs
 
 returns-2 : tie.Need-returns-2
-returns-2 c = λ buffer. left-done _ (λ h q. create h q _ _ _ buffer) (create-number (c .before .before .before .before .before .before .before .before .before .before .before .before .before .before .before .before .before .before .before .pre .known) _ _ buffer (c .before .before .before .before .before .before .before .before .before .before .before .before .before .before .before .before .free-descriptor .ensures) (c .before .before .before .before .before .before .before .before .before .before .before .before .before .before .free-file .ensures) (c .before .before .before .before .before .before .before .before .before .before .before .before .files-end .ensures) (c .before .before .before .before .before .before .before .before .before .before .before .wide .ensures) (c .before .before .before .before .before .before .before .before .before .before .first .ensures) (c .before .before .before .before .before .before .before .before .before .first2 .ensures) (c .before .before .before .before .before .before .before .before .valid .ensures) (c .before .before .before .before .before .before .before .first3 .ensures) (c .before .before .before .before .before .before .first4 .ensures)) (c .before .before .before .before .before .if1 .left) (create-said (c .before .before .before .before .before .before .before .before .before .before .before .before .before .before .before .before .before .before .before .pre .known) _ _ buffer (c .before .before .before .before .before .before .before .before .before .before .before .before .before .before .before .before .free-descriptor .ensures) (c .before .before .before .before .before .before .before .before .before .before .before .before .before .before .free-file .ensures) (c .before .before .before .make-file .ensures .0) (c .answered .ensures))
-    (create-words (c .before .before .before .before .before .before .before .before .before .before .before .before .before .before .before .before .before .before .before .pre .known) _ _ buffer (c .before .before .before .before .before .before .before .before .before .before .before .before .before .before .before .before .free-descriptor .ensures) (c .before .before .before .before .before .before .before .before .before .before .before .before .before .before .free-file .ensures) (c .before .before .before .make-file .ensures .1))
+unfolding create
+returns-2 c = λ buffer. left-done _ (λ h q. create h q _ _ _ buffer) (number (c .before .before .before .before .before .before .before .before .before .before .before .before .before .before .before .before .before .before .before) buffer) (c .before .before .before .before .before .before .before .before .before .before .before .before .before .before .before .before .before .before .if1 .left)
+    (c .answered .ensures ∙ ap₂ (said 0) (create-seid (c .before .before .before .before .before .before .before .before .before .before .before .before .before .before .before .before .before .before .before .before .before .before .before .before .before .before .before .before .pre .0) (c .before .before .before .before .before .before .before .before .before .before .before .before .before .before .before .before .before .before .before .before .before .before .before .before .before .before .before .before .args .a) (c .before .before .before .before .before .before .before .before .before .before .before .before .before .before .before .before .before .before .before .before .before .before .before .before .before .before .before .before .args .b) buffer (c .before .before .before .before .before .before .before .before .before .before .before .before .before .before .before .before .before .before .before .before .before .before .before .before .before .before .before .before .pre .1) (c .before .before .before .before .before .before .before .before .before .before .before .before .before .before .before .before .before .before .before .before .before .before .before .before .before .free-entry .ensures) (c .before .before .before .before .before .before .before .before .before .before .before .before .before .before .before .before .before .before .before .before .before .before .before .before .or-refuse .ensures) (c .before .before .before .before .before .before .before .before .before .before .before .before .before .before .before .before .before .before .before .before .before .before .before .valid .ensures) (c .before .before .before .before .before .before .before .before .before .before .before .before .before .before .before .before .before .before .before .before .before .before .or-refuse2 .ensures) (c .before .before .before .before .before .before .before .before .before .before .before .before .before .before .before .before .before .before .before .before .before .wide .ensures) (c .before .before .before .before .before .before .before .before .before .before .before .before .before .before .before .before .before .before .before .before .or-refuse3 .ensures) (c .before .before .before .before .before .before .before .before .before .before .before .before .before .before .before .before .before .before .before .or-refuse4 .ensures) (c .before .before .before .before .before .before .before .before .before .before .before .before .before .before .before .before .before .before .if1 .left) (c .before .before .before .before .before .before .before .before .before .before .before .before .before .before .before .before .read .ensures) (c .before .before .before .before .before .before .before .before .before .before .before .before .before .before .read2 .ensures) (c .before .before .before .before .before .before .before .before .before .before .before .before .read3 .ensures) (c .before .before .before .before .before .before .before .before .before .before .before .seid .ensures)) (c .before .before .before .before .before .before .before .before .before .before .before .before .before .before .before .before .before .before .before .before .before .before .before .before .before .free-entry .ensures))
+    (create-words (c .before .before .before .before .before .before .before .before .before .before .before .before .before .before .before .before .before .before .before .before .before .before .before .before .before .before .before .before .pre .0) (c .before .before .before .before .before .before .before .before .before .before .before .before .before .before .before .before .before .before .before .before .before .before .before .before .before .before .before .before .args .a) (c .before .before .before .before .before .before .before .before .before .before .before .before .before .before .before .before .before .before .before .before .before .before .before .before .before .before .before .before .args .b) buffer (c .before .before .before .before .before .before .before .before .before .before .before .before .before .before .before .before .before .before .before .before .before .before .before .before .before .before .before .before .pre .1) (c .before .before .before .before .before .before .before .before .before .before .before .before .before .before .before .before .before .before .before .before .before .before .before .before .before .free-entry .ensures) (c .before .before .before .before .before .before .before .before .before .before .before .before .before .before .before .before .before .before .before .before .before .before .before .before .or-refuse .ensures) (c .before .before .before .before .before .before .before .before .before .before .before .before .before .before .before .before .before .before .before .before .before .before .before .valid .ensures) (c .before .before .before .before .before .before .before .before .before .before .before .before .before .before .before .before .before .before .before .before .before .before .or-refuse2 .ensures) (c .before .before .before .before .before .before .before .before .before .before .before .before .before .before .before .before .before .before .before .before .before .wide .ensures) (c .before .before .before .before .before .before .before .before .before .before .before .before .before .before .before .before .before .before .before .before .or-refuse3 .ensures) (c .before .before .before .before .before .before .before .before .before .before .before .before .before .before .before .before .before .before .before .or-refuse4 .ensures) (c .before .before .before .before .before .before .before .before .before .before .before .before .before .before .before .before .before .before .if1 .left) (c .before .before .before .before .before .before .before .before .before .before .before .before .before .before .before .before .read .ensures) (c .before .before .before .before .before .before .before .before .before .before .before .before .before .before .read2 .ensures) (c .before .before .before .before .before .before .before .before .before .before .before .before .read3 .ensures) (c .before .before .before .before .before .before .before .before .before .before .before .seid .ensures) (c .before .before .before .before .before .before .before .before .before .record-at .ensures .0) (c .before .before .before .before .before .before .before .before .make .ensures) (c .before .before .before .before .entry-at .ensures .0) (c .before .before .before .enter .ensures))
 
 pub create-spec : {M : Type 1} → statement M
 create-spec =
     tie.close
     (tie.spec
-    free-descriptor-requires
-    free-file-requires
-    files-end-requires
-    wide-requires
-    first-requires
-    first-requires-2
+    free-entry-requires
+    or-refuse-requires
     valid-requires
-    first-requires-3
-    first-requires-4
+    or-refuse-requires-2
+    wide-requires
+    or-refuse-requires-3
+    or-refuse-requires-4
     refused-requires
     same-length
     returns
-    make-file-requires
+    read-requires
+    add-serial
+    read-requires-2
+    read-requires-3
+    seid-requires
+    record-at-requires
+    make-requires
+    entry-at-requires
+    enter-requires
     answered-requires
     same-length-2
     returns-2)

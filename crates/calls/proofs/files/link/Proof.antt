@@ -1,35 +1,36 @@
 -- `files::link` meets its contract: the rule's refusals in order, and one link more, which fits a byte.
-use Rattle.calls.proofs.FilesLaws.{link-absent, link-number, link-words, links-few}
-use Rattle.ids.proofs.Parts.{file-not}
-use Rattle.calls.proofs.Named.{found-file}
+use Rattle.calls.proofs.FilesLaws.{link-number, link-words, links-few}
 use Rattle.calls.proofs.Leaves.{left-refused, left-done}
+use Rattle.calls.specs.Left.{ruleAt}
+use Rattle.rules.specs.Rule.{firstRefusal}
 use Rattle.rules.specs.Call10.{link}
-use mathlib.Core.Path.{sym, _∙_}
+use Rattle.rules.specs.Layout.{maxLinks}
+use lib.Dec.{eqb}
+use Prim.Native.Nat.{ℕ}
+use mathlib.Core.List.{List, []}
+use mathlib.Core.Path.{_≡_, _∙_}
 use native.Mathlib.Omega.{arith}
 use borrow.Author.Needs.{needs}
 use Rattle.calls.proofs.files.link.Statement.{statement}
 use Rattle.calls.proofs.files.link.Tie as tie
 
+number : (c : tie.After-or-refuse) (buffer : List ℕ) → c .or-refuse .result ≡ firstRefusal (ruleAt (c .before .before .before .before .before .before .before .before .before .args .t .now) (λ h q. link h q (c .before .before .before .before .before .before .before .before .before .args .c .slot) (c .before .before .before .before .before .before .before .before .before .args .a) buffer) .refusals)
+number c buffer = link-number (c .before .before .before .before .before .before .before .before .before .pre .0) _ buffer (c .before .before .before .before .before .before .or-self .ensures) (c .before .before .before .before .look .ensures) (c .before .before .read .ensures) (c .before .own .ensures) (c .or-refuse .ensures)
+
 or-self-requires : tie.Need-or-self-requires
 or-self-requires c κs = search needs
 
-check-requires : tie.Need-check-requires
-check-requires c κs = search needs
+look-requires : tie.Need-look-requires
+look-requires c κs = search needs
 
-enum-known-f : tie.Need-enum-known-f
-enum-known-f c = search needs
+read-requires : tie.Need-read-requires
+read-requires c κs = search needs
 
-index-requires : tie.Need-index-requires
-index-requires c κs = search needs
+own-requires : tie.Need-own-requires
+own-requires c κs = search needs
 
-in-file-requires : tie.Need-in-file-requires
-in-file-requires c κs = search needs
-
-first-requires : tie.Need-first-requires
-first-requires c κs = search needs
-
-own-file-requires : tie.Need-own-file-requires
-own-file-requires c κs = search needs
+or-refuse-requires : tie.Need-or-refuse-requires
+or-refuse-requires c κs = search needs
 
 refused-requires : tie.Need-refused-requires
 refused-requires c κs = search needs
@@ -38,57 +39,38 @@ same-length : tie.Need-same-length
 same-length c = search needs
 
 returns : tie.Need-returns
-returns c = λ buffer. left-refused _ (λ h q. link h q _ _ buffer) (link-number (c .before .before .before .before .before .before .before .before .before .before .before .before .before .before .before .pre .known) _ buffer (c .before .before .before .before .before .before .before .before .before .before .before .before .or-self .ensures) (found-file _ _ (sym (c .before .before .before .before .before .before .before .before .before .before .before .check .ensures) ∙ c .before .before .before .before .before .before .before .before .before .f .given .1)) (c .before .before .before .before .before .before .before .index .ensures) (c .before .before .before .before .before .in-file .ensures) (c .before .before .before .first .ensures) (c .before .before .own-file .ensures)) (c .before .if1 .taken) (c .refused .ensures)
+returns c = λ buffer. left-refused _ _ (number (c .before .before) buffer) (c .before .if1 .taken) (c .refused .ensures)
 
-add-put-file : tie.Need-add-put-file
-add-put-file c = omega (arith, links-few (c .before .before .before .before .before .before .before .before .before .before .before .before .before .before .before .pre) (found-file _ _ (sym (c .before .before .before .before .before .before .before .before .before .before .before .check .ensures) ∙ c .before .before .before .before .before .before .before .before .before .f .given .1)) (c .before .before .before .before .before .before .before .index .ensures) (c .before .before .before .before .before .in-file .ensures))
+add-write : tie.Need-add-write
+add-write c = record { fits = omega (arith, links-few (c .before .before .before .before .before .before .before .before .before .before .before .pre .0) _ [] (c .before .before .before .before .before .before .before .before .or-self .ensures) (c .before .before .before .before .before .before .look .ensures) (c .before .before .before .before .read .ensures) (c .before .before .before .own .ensures) (eqb (c .before .before .before .before .read .result) maxLinks) (c .before .before .or-refuse .ensures) (c .before .if1 .left)) }
 
-put-file-requires : tie.Need-put-file-requires
-put-file-requires c κs = search needs
+write-requires : tie.Need-write-requires
+write-requires c κs = search needs
 
 answered-requires : tie.Need-answered-requires
 answered-requires c κs = search needs
-
-enum-told : tie.Need-enum-told
-enum-told c = search needs
-
-refused-requires-2 : tie.Need-refused-requires-2
-refused-requires-2 c κs = search needs
 
 same-length-2 : tie.Need-same-length-2
 same-length-2 c = search needs
 
 returns-2 : tie.Need-returns-2
 unfolding link
-returns-2 c = λ buffer. left-done _ (λ h q. link h q _ _ buffer) (link-number (c .before .before .before .before .before .before .before .before .before .before .before .before .before .before .before .before .before .before .before .pre .known) _ buffer (c .before .before .before .before .before .before .before .before .before .before .before .before .before .before .before .before .or-self .ensures) (found-file _ _ (sym (c .before .before .before .before .before .before .before .before .before .before .before .before .before .before .before .check .ensures) ∙ c .before .before .before .before .before .before .before .before .before .before .before .before .before .f .given .1)) (c .before .before .before .before .before .before .before .before .before .before .before .index .ensures) (c .before .before .before .before .before .before .before .before .before .in-file .ensures) (c .before .before .before .before .before .before .before .first .ensures) (c .before .before .before .before .before .before .own-file .ensures)) (c .before .before .before .before .before .if1 .left) (c .answered .ensures)
-    (c .before .before .before .put-file .ensures ∙ link-words (c .before .before .before .before .before .before .before .before .before .before .before .before .before .before .before .before .before .before .before .pre .known) _ buffer (c .before .before .before .before .before .before .before .before .before .before .before .before .before .before .before .before .or-self .ensures) (found-file _ _ (sym (c .before .before .before .before .before .before .before .before .before .before .before .before .before .before .before .check .ensures) ∙ c .before .before .before .before .before .before .before .before .before .before .before .before .before .f .given .1)) (c .before .before .before .before .before .before .before .before .before .before .before .index .ensures) (c .before .before .before .before .before .before .before .before .before .in-file .ensures))
-
-same-length-3 : tie.Need-same-length-3
-same-length-3 c = search needs
-
-returns-3 : tie.Need-returns-3
-returns-3 c = λ buffer. left-refused _ (λ h q. link h q _ _ buffer) (link-absent (c .before .before .before .before .before .before .before .pre .known) _ buffer (c .before .before .before .before .or-self .ensures) (file-not _ _ (sym (c .before .before .before .check .ensures) ∙ c .before .enum-told .given .1))) (λ z. omega arith) (c .refused2 .ensures)
+returns-2 c = λ buffer. left-done _ (λ h q. link h q _ _ buffer) (number (c .before .before .before .before .before .before) buffer) (c .before .before .before .before .before .if1 .left) (c .answered .ensures) (c .before .before .before .write .ensures ∙ link-words (c .before .before .before .before .before .before .before .before .before .before .before .before .before .before .before .pre .0) _ buffer (c .before .before .before .before .before .before .before .before .before .before .before .before .or-self .ensures) (c .before .before .before .before .before .before .before .before .before .before .look .ensures) (c .before .before .before .before .before .before .before .before .read .ensures) (c .before .before .before .before .before .before .before .own .ensures) (eqb (c .before .before .before .before .before .before .before .before .read .result) maxLinks) (c .before .before .before .before .before .before .or-refuse .ensures) (c .before .before .before .before .before .if1 .left))
 
 pub link-spec : {M : Type 1} → statement M
 link-spec =
     tie.close
     (tie.spec
     or-self-requires
-    check-requires
-    enum-known-f
-    index-requires
-    in-file-requires
-    first-requires
-    own-file-requires
+    look-requires
+    read-requires
+    own-requires
+    or-refuse-requires
     refused-requires
     same-length
     returns
-    add-put-file
-    put-file-requires
+    add-write
+    write-requires
     answered-requires
-    enum-told
-    refused-requires-2
     same-length-2
-    returns-2
-    same-length-3
-    returns-3)
+    returns-2)

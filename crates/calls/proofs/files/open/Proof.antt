@@ -1,37 +1,43 @@
--- `files::open` meets its contract: the argument's seid in its form, or absent.
-use mathlib.Core.Bool.{not}
-use Rattle.calls.proofs.FilesLaws.{open-self, open-absent}
-use Rattle.calls.proofs.Entries.{cond-some}
-use Rattle.ids.proofs.Parts.{file-not}
-use Rattle.calls.proofs.Named.{found-file}
-use Rattle.calls.proofs.Leaves.{left-refused, left-same}
+-- `files::open` meets its contract: the rule's refusals in order, and the descriptor filled.
+use Rattle.calls.proofs.FilesLaws.{may-clash, open-number, open-fits, open-words}
+use Rattle.calls.proofs.Leaves.{left-refused, left-done}
+use Rattle.calls.specs.Left.{said, ruleAt}
+use Rattle.rules.specs.Rule.{firstRefusal}
 use Rattle.rules.specs.Call08.{openFile}
-use mathlib.Core.Path.{sym, _∙_}
+use Prim.Native.Nat.{ℕ}
+use mathlib.Core.List.{List, []}
+use mathlib.Core.Path.{_≡_, ap, _∙_}
 use native.Mathlib.Omega.{arith}
 use borrow.Author.Needs.{needs}
 use Rattle.calls.proofs.files.open.Statement.{statement}
 use Rattle.calls.proofs.files.open.Tie as tie
 
+number : (c : tie.After-or-refuse2) (buffer : List ℕ) → c .or-refuse2 .result ≡ firstRefusal (ruleAt (c .before .before .before .before .before .before .before .before .before .before .before .before .before .args .t .now) (λ h q. openFile h q (c .before .before .before .before .before .before .before .before .before .before .before .before .before .args .c .slot) (c .before .before .before .before .before .before .before .before .before .before .before .before .before .args .a) (c .before .before .before .before .before .before .before .before .before .before .before .before .before .args .b) buffer) .refusals)
+number c buffer = open-number (c .before .before .before .before .before .before .before .before .before .before .before .before .before .pre .0) (c .before .before .before .before .before .before .before .before .before .before .before .before .before .args .a) (c .before .before .before .before .before .before .before .before .before .before .before .before .before .args .b) buffer (c .before .before .before .before .before .before .before .before .before .before .or-self .ensures) (c .before .before .before .before .before .before .before .before .look .ensures) (c .before .before .before .before .before .before .free-entry .ensures) (c .before .before .before .before .before .may-open .ensures) (c .before .before .before .busy .ensures) (c .before .before .or-refuse .ensures) (c .before .wide .ensures) (c .or-refuse2 .ensures)
+
 or-self-requires : tie.Need-or-self-requires
 or-self-requires c κs = search needs
 
-check-requires : tie.Need-check-requires
-check-requires c κs = search needs
+look-requires : tie.Need-look-requires
+look-requires c κs = search needs
 
-enum-known-f : tie.Need-enum-known-f
-enum-known-f c = search needs
+free-entry-requires : tie.Need-free-entry-requires
+free-entry-requires c κs = search needs
 
-open-file-requires : tie.Need-open-file-requires
-open-file-requires c κs = (c .before .before .before .before .before .before .before .before .pre .0, c .before .before .before .before .before .before .before .before .pre .1, let x = found-file _ _ (sym (c .before .before .before .before .check .ensures) ∙ c .before .before .f .given .1) in rw (x .same) (x .form))
+may-open-requires : tie.Need-may-open-requires
+may-open-requires c κs = search needs
 
-enum-told : tie.Need-enum-told
-enum-told c = search needs
+busy-requires : tie.Need-busy-requires
+busy-requires c κs = (c .before .before .before .before .before .before .before .before .before .pre .0, may-clash (c .before .before .before .before .before .before .before .before .before .pre .0) (c .before .before .before .before .before .before .before .before .before .args .a) (c .before .before .before .before .before .before .before .before .before .args .b) [] (c .before .before .before .before .before .before .or-self .ensures) (c .before .before .before .before .look .ensures) (c .before .before .free-entry .ensures) (c .before .may-open .ensures))
 
-valid-requires : tie.Need-valid-requires
-valid-requires c κs = search needs
+or-refuse-requires : tie.Need-or-refuse-requires
+or-refuse-requires c κs = search needs
 
-first-requires : tie.Need-first-requires
-first-requires c κs = search needs
+wide-requires : tie.Need-wide-requires
+wide-requires c κs = search needs
+
+or-refuse-requires-2 : tie.Need-or-refuse-requires-2
+or-refuse-requires-2 c κs = search needs
 
 refused-requires : tie.Need-refused-requires
 refused-requires c κs = search needs
@@ -40,27 +46,47 @@ same-length : tie.Need-same-length
 same-length c = search needs
 
 returns : tie.Need-returns
-returns c = λ buffer. let x = found-file _ _ (sym (c .before .before .before .before .before .before .before .check .ensures) ∙ c .before .before .before .before .before .f .given .1) in left-same _ (λ h q. openFile h q _ _ _ buffer) (λ h q. openFile h q _ _ _ buffer) (open-self _ _ _ (c .before .before .before .before .before .before .before .before .before .before .before .args .w .files) _ (c .before .before .before .before .before .before .before .before .before .before .before .args .b) buffer (c .before .before .before .before .before .before .before .before .or-self .ensures) (x .same) (rw (x .same) (x .form))) (c .before .before .open-file .ensures buffer)
+returns c = λ buffer. left-refused _ _ (number (c .before .before) buffer) (c .before .if1 .taken) (c .refused .ensures)
+
+entry-at-requires : tie.Need-entry-at-requires
+entry-at-requires c κs = search needs
+
+record-at-requires : tie.Need-record-at-requires
+record-at-requires c κs = search needs
+
+take-up-requires : tie.Need-take-up-requires
+take-up-requires c κs = (c .before .before .entry-at .ensures .1, c .before .record-at .ensures .1, omega (arith, open-fits (c .before .before .before .before .before .before .before .before .before .before .before .before .before .before .before .before .before .pre .0) (c .before .before .before .before .before .before .before .before .before .before .before .before .before .before .before .before .before .args .a) (c .before .before .before .before .before .before .before .before .before .before .before .before .before .before .before .before .before .args .b) [] (c .before .before .before .before .before .before .before .before .before .before .before .before .before .before .or-self .ensures) (c .before .before .before .before .before .before .before .before .before .before .before .before .look .ensures) (c .before .before .before .before .before .before .before .before .before .before .free-entry .ensures) (c .before .before .before .before .before .before .before .before .before .may-open .ensures) (c .before .before .before .before .before .before .before .busy .ensures) (c .before .before .before .before .before .before .or-refuse .ensures) (c .before .before .before .before .before .wide .ensures) (c .before .before .before .before .or-refuse2 .ensures) (c .before .before .before .if1 .left) (c .before .record-at .ensures .0)))
+
+answered-requires : tie.Need-answered-requires
+answered-requires c κs = search needs
 
 same-length-2 : tie.Need-same-length-2
 same-length-2 c = search needs
 
 returns-2 : tie.Need-returns-2
-returns-2 c = λ buffer. left-refused _ (λ h q. openFile h q _ _ _ buffer) (open-absent (c .before .before .before .before .before .before .before .before .before .pre .0 .known) _ (c .before .before .before .before .before .before .before .before .before .args .b) buffer (c .before .before .before .before .before .before .or-self .ensures) (file-not _ _ (sym (c .before .before .before .before .before .check .ensures) ∙ c .before .before .before .enum-told .given .1)) (c .before .before .valid .ensures) (c .before .first .ensures)) (λ z. cond-some (not (c .before .before .valid .result)) 7 12 (omega arith) (omega arith) (sym (c .before .first .ensures) ∙ z)) (c .refused .ensures)
+unfolding openFile
+returns-2 c = λ buffer. left-done _ (λ h q. openFile h q _ _ _ buffer) (number (c .before .before .before .before .before .before .before .before) buffer) (c .before .before .before .before .before .before .before .if1 .left)
+    (c .answered .ensures ∙ ap (λ (d : ℕ). said 0 d 0) (c .before .before .before .before .before .before .before .before .before .before .before .before .before .before .free-entry .ensures))
+    (c .before .before .before .take-up .ensures ∙ open-words (c .before .before .before .before .before .before .before .before .before .before .before .before .before .before .before .before .before .before .before .before .before .pre .0) (c .before .before .before .before .before .before .before .before .before .before .before .before .before .before .before .before .before .before .before .before .before .args .a) (c .before .before .before .before .before .before .before .before .before .before .before .before .before .before .before .before .before .before .before .before .before .args .b) buffer (c .before .before .before .before .before .before .before .before .before .before .before .before .before .before .before .before .before .before .or-self .ensures) (c .before .before .before .before .before .before .before .before .before .before .before .before .before .before .before .before .look .ensures) (c .before .before .before .before .before .before .before .before .before .before .before .before .before .before .free-entry .ensures) (c .before .before .before .before .before .before .before .before .before .before .before .before .before .may-open .ensures) (c .before .before .before .before .before .before .before .before .before .before .before .busy .ensures) (c .before .before .before .before .before .before .before .before .before .before .or-refuse .ensures) (c .before .before .before .before .before .before .before .before .before .wide .ensures) (c .before .before .before .before .before .before .before .before .or-refuse2 .ensures) (c .before .before .before .before .before .before .before .if1 .left) (c .before .before .before .before .before .before .entry-at .ensures .0) (c .before .before .before .before .before .record-at .ensures .0))
 
 pub open-spec : {M : Type 1} → statement M
 open-spec =
     tie.close
     (tie.spec
     or-self-requires
-    check-requires
-    enum-known-f
-    open-file-requires
-    enum-told
-    valid-requires
-    first-requires
+    look-requires
+    free-entry-requires
+    may-open-requires
+    busy-requires
+    or-refuse-requires
+    wide-requires
+    or-refuse-requires-2
     refused-requires
     same-length
     returns
+    entry-at-requires
+    record-at-requires
+    take-up-requires
+    answered-requires
     same-length-2
     returns-2)

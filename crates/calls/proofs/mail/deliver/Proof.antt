@@ -4,23 +4,26 @@ use borrow.Author.Needs.{needs}
 use Rattle.calls.proofs.mail.deliver.Statement.{statement}
 use Rattle.calls.proofs.mail.deliver.Tie as tie
 
+record-at-requires : tie.Need-record-at-requires
+record-at-requires c κs = search needs
+
 wide-requires : tie.Need-wide-requires
 wide-requires c κs = search needs
 
-mul-process-place : tie.Need-mul-process-place
-mul-process-place c = search needs
+mul-from : tie.Need-mul-from
+mul-from c = search needs
 
-add-process-place : tie.Need-add-process-place
-add-process-place c = search needs
+add-from : tie.Need-add-from
+add-from c = search needs
 
-process-place-requires : tie.Need-process-place-requires
-process-place-requires c κs = search needs
+add-from-2 : tie.Need-add-from-2
+add-from-2 c = search needs
 
-add-put-process : tie.Need-add-put-process
-add-put-process c = search needs
+add-write : tie.Need-add-write
+add-write c = search needs
 
-put-process-requires : tie.Need-put-process-requires
-put-process-requires c κs = search needs
+write-requires : tie.Need-write-requires
+write-requires c κs = search needs
 
 word-at-requires : tie.Need-word-at-requires
 word-at-requires c κs = search needs
@@ -38,18 +41,23 @@ same-length : tie.Need-same-length
 same-length c = search needs
 
 returns : tie.Need-returns
-returns c = deliver-words (c .before .before .before .before .before .before .before .before .before .before .before .before .before .before .before .pre .0) _ _ _ _ (c .before .before .before .before .before .before .before .before .before .before .before .before .wide .ensures) (c .before .before .before .before .before .before .before .before .before .before .before .process-place .ensures .0) (c .before .before .before .before .before .before .before .before .before .put-process .ensures) (c .before .before .before .before .before .word-at .ensures) (c .before .before .before .before .word-at2 .ensures) (c .before .before .before .word-at3 .ensures) (c .before .before .put-four .ensures)
+returns c =
+    let put = c .before .before in
+    let written = put .before .before .before .before .before .before .before in
+    deliver-words (written .before .before .before .before .before .before .pre .0) _ _ _ _ (written .before .before .before .record-at .ensures .0) (written .before .before .wide .ensures) (written .write .ensures) (put .before .before .before .word-at .ensures) (put .before .before .word-at2 .ensures) (put .before .word-at3 .ensures)
+    (put .put-four .ensures)
 
 pub deliver-spec : {M : Type 1} → statement M
 deliver-spec =
     tie.close
     (tie.spec
+    record-at-requires
     wide-requires
-    mul-process-place
-    add-process-place
-    process-place-requires
-    add-put-process
-    put-process-requires
+    mul-from
+    add-from
+    add-from-2
+    add-write
+    write-requires
     word-at-requires
     word-at-requires-2
     word-at-requires-3

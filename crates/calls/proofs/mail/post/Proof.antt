@@ -1,30 +1,60 @@
--- `mail::post` meets its contract: seid 0 is the caller, and only a process's seid goes on.
-use mathlib.Core.Path.{sym, _∙_}
-use Rattle.calls.proofs.Worlds.{processes-is}
-use Rattle.ids.proofs.Parts.{process-not}
-use Rattle.calls.proofs.Named.{found-process}
-use Rattle.calls.proofs.Posts.{post-same, post-absent}
+-- `mail::post` meets its contract: refused, delivered, or dropped without a word.
+use Rattle.calls.proofs.Posts.{room-told, Posted, posted, post-refused, post-delivered, post-dropped, post-done}
+use Rattle.calls.proofs.Posts.{room-told, post-refused, post-delivered, post-dropped, post-done}
+use lib.ListN.{length}
+use mathlib.Core.Logic.{⊎-elim}
+use mathlib.Core.Path.{_≡_, ap, _∙_}
 use borrow.Author.Needs.{needs}
 use Rattle.calls.proofs.mail.post.Statement.{statement}
 use Rattle.calls.proofs.mail.post.Tie as tie
 
+-- what the code has seen, and the number that it has found
+abbrev seen : tie.After-or-refuse5 → tie.After-look
+seen c = c .before .before .before .before .before .before .before .before .before .before .before .before .before
+
+abbrev start : tie.After-or-refuse5 → tie.Start
+start c = seen c .before .before .before .before .before .before
+
+abbrev waited : tie.After-or-refuse5 → tie.After-wide
+waited c = c .before .before .before .before .before .before .before .before .before .before
+
+judged : (c : tie.After-or-refuse5) → Posted (start c .args .t .now) (start c .args .n) (start c .args .c) (start c .args .a) (start c .args .buffer .now) (seen c .look .result)
+    (waited c .before .read .result) (waited c .wide .result) (c .or-refuse5 .result)
+judged c =
+    let flowed = c .before .before .before .before .before .before in
+    posted (start c .pre .0) (start c .pre .1) _ _ (seen c .before .before .or-self .ensures) (seen c .look .ensures) (waited c .before .read .ensures) (waited c .wide .ensures)
+    (flowed .may-flow .ensures) (flowed .before .before .before .or-refuse .ensures) (flowed .before .or-refuse2 .ensures)
+    (c .before .before .before .before .before .or-refuse3 .ensures) (c .before .before .or-refuse4 .ensures) (c .or-refuse5 .ensures)
+
 or-self-requires : tie.Need-or-self-requires
 or-self-requires c κs = search needs
 
-check-requires : tie.Need-check-requires
-check-requires c κs = search needs
+look-requires : tie.Need-look-requires
+look-requires c κs = search needs
 
-enum-known-to : tie.Need-enum-known-to
-enum-known-to c = search needs
+read-requires : tie.Need-read-requires
+read-requires c κs = search needs
 
-post-to-requires : tie.Need-post-to-requires
-post-to-requires c κs = (c .before .before .before .before .before .before .before .before .before .pre .0, c .before .before .before .before .before .before .before .before .before .pre .1, rw (found-process _ _ (sym (c .before .before .before .before .check .ensures) ∙ c .before .before .to .given .1) .same, ← (processes-is (c .before .before .before .before .before .before .before .before .before .pre .0 .known))) (found-process _ _ (sym (c .before .before .before .before .check .ensures) ∙ c .before .before .to .given .1) .form))
+wide-requires : tie.Need-wide-requires
+wide-requires c κs = search needs
 
-enum-told : tie.Need-enum-told
-enum-told c = search needs
+or-refuse-requires : tie.Need-or-refuse-requires
+or-refuse-requires c κs = search needs
 
-first-requires : tie.Need-first-requires
-first-requires c κs = search needs
+or-refuse-requires-2 : tie.Need-or-refuse-requires-2
+or-refuse-requires-2 c κs = search needs
+
+may-flow-requires : tie.Need-may-flow-requires
+may-flow-requires c κs = search needs
+
+or-refuse-requires-3 : tie.Need-or-refuse-requires-3
+or-refuse-requires-3 c κs = search needs
+
+or-refuse-requires-4 : tie.Need-or-refuse-requires-4
+or-refuse-requires-4 c κs = search needs
+
+or-refuse-requires-5 : tie.Need-or-refuse-requires-5
+or-refuse-requires-5 c κs = search needs
 
 refused-requires : tie.Need-refused-requires
 refused-requires c κs = search needs
@@ -33,26 +63,51 @@ same-length : tie.Need-same-length
 same-length c = search needs
 
 returns : tie.Need-returns
-returns c = post-same (c .before .before .before .before .before .before .before .before .before .before .before .before .pre .0) _ _ (c .before .before .before .before .before .before .before .before .or-self .ensures) (found-process _ _ (sym (c .before .before .before .before .before .before .before .check .ensures) ∙ c .before .before .before .before .before .to .given .1) .same) (rw (← (processes-is (c .before .before .before .before .before .before .before .before .before .before .before .before .pre .0 .known))) (found-process _ _ (sym (c .before .before .before .before .before .before .before .check .ensures) ∙ c .before .before .before .before .before .to .given .1) .form)) (c .before .before .post-to .ensures)
+returns c = post-refused (judged (c .before .before)) (c .before .if1 .taken) (c .refused .ensures)
+
+or-self-requires-2 : tie.Need-or-self-requires-2
+or-self-requires-2 c κs =
+    let after = c .before .before in
+    after .before .before .before .before .before .before .before .before .before .before .before .before .before .before .before .before .before .before .before .pre .0
+
+deliver-requires : tie.Need-deliver-requires
+deliver-requires c κs =
+    let after = c .before .before .before .before .before .before in
+    (judged after .sound .known, room-told (seen after .look .result .present) (c .before .if2 .taken) (judged after .wide))
+
+answered-requires : tie.Need-answered-requires
+answered-requires c κs = search needs
 
 same-length-2 : tie.Need-same-length-2
-same-length-2 c = search needs
+same-length-2 c = ⊎-elim (λ w. ap length (w .5) ∙ search needs) (λ w. ap length (w .1) ∙ search needs) (c .before .if2 .came)
 
 returns-2 : tie.Need-returns-2
-returns-2 c = post-absent (c .before .before .before .before .before .before .before .before .before .pre .0) _ _ (c .before .before .before .before .before .or-self .ensures) (rw (← (processes-is (c .before .before .before .before .before .before .before .before .before .pre .0 .known))) (process-not _ _ (sym (c .before .before .before .before .check .ensures) ∙ c .before .before .enum-told .given .1))) (c .before .first .ensures) (c .refused .ensures)
+returns-2 c =
+    let after = c .before .before .before .before .before .before in
+    let p = judged after in
+    let none = c .before .before .before .before .before .if1 .left in
+    let words = ⊎-elim (λ w. w .5 ∙ post-delivered p none (c .before .before .before .or-self2 .ensures) (w .0 .taken) (w .2 .ensures)) (λ w. w .1 ∙ post-dropped p none (w .0 .left)) (c .before .if2 .came) in
+    post-done p none words (c .answered .ensures)
 
 pub post-spec : {M : Type 1} → statement M
 post-spec =
     tie.close
     (tie.spec
     or-self-requires
-    check-requires
-    enum-known-to
-    post-to-requires
-    enum-told
-    first-requires
+    look-requires
+    read-requires
+    wide-requires
+    or-refuse-requires
+    or-refuse-requires-2
+    may-flow-requires
+    or-refuse-requires-3
+    or-refuse-requires-4
+    or-refuse-requires-5
     refused-requires
     same-length
     returns
+    or-self-requires-2
+    deliver-requires
+    answered-requires
     same-length-2
     returns-2)

@@ -5,14 +5,14 @@ use borrow.Author.Needs.{needs}
 use Rattle.calls.proofs.mail.receive.Statement.{statement}
 use Rattle.calls.proofs.mail.receive.Tie as tie
 
-in-process-requires : tie.Need-in-process-requires
-in-process-requires c κs = search needs
+read-requires : tie.Need-read-requires
+read-requires c κs = search needs
 
-first-requires : tie.Need-first-requires
-first-requires c κs = search needs
+or-refuse-requires : tie.Need-or-refuse-requires
+or-refuse-requires c κs = search needs
 
-first-requires-2 : tie.Need-first-requires-2
-first-requires-2 c κs = search needs
+or-refuse-requires-2 : tie.Need-or-refuse-requires-2
+or-refuse-requires-2 c κs = search needs
 
 refused-requires : tie.Need-refused-requires
 refused-requires c κs = search needs
@@ -21,10 +21,15 @@ same-length : tie.Need-same-length
 same-length c = search needs
 
 returns : tie.Need-returns
-returns c = receive-refused (c .before .before .before .before .before .before .before .before .pre .known) _ _ (c .before .before .before .before .in-process .ensures) (c .before .before .before .first .ensures) (c .before .before .first2 .ensures) (c .before .if1 .taken) (c .refused .ensures)
+returns c =
+    let judged = c .before .before in
+    receive-refused _ _ _ (judged .before .before .read .ensures) (judged .before .or-refuse .ensures) (judged .or-refuse2 .ensures) (c .before .if1 .taken) (c .refused .ensures)
 
-process-place-requires : tie.Need-process-place-requires
-process-place-requires c κs = search needs
+record-at-requires : tie.Need-record-at-requires
+record-at-requires c κs = search needs
+
+add-from : tie.Need-add-from
+add-from c = search needs
 
 show-requires : tie.Need-show-requires
 show-requires c κs = search needs
@@ -32,8 +37,8 @@ show-requires c κs = search needs
 one-less-requires : tie.Need-one-less-requires
 one-less-requires c κs = search needs
 
-put-process-requires : tie.Need-put-process-requires
-put-process-requires c κs = search needs
+write-requires : tie.Need-write-requires
+write-requires c κs = search needs
 
 sub-moved : tie.Need-sub-moved
 sub-moved c = search needs
@@ -42,7 +47,7 @@ mul-moved : tie.Need-mul-moved
 mul-moved c = search needs
 
 move-up-requires : tie.Need-move-up-requires
-move-up-requires c κs = (omega arith, omega arith, messages-within _ _ (c .before .before .before .before .before .before .before .before .before .before .before .before .before .before .before .before .before .before .before .pre) (c .before .before .before .before .before .before .before .before .before .before .before .process-place .ensures .0) (c .before .before .before .put-process .ensures))
+move-up-requires c κs = (omega arith, omega arith, messages-within (c .before .before .before .before .before .before .before .before .before .before .before .before .before .before .before .before .before .before .before .pre) _ _ (c .before .before .before .before .before .before .before .before .before .before .before .record-at .ensures .0) (c .before .before .before .write .ensures))
 
 add-clear : tie.Need-add-clear
 add-clear c = search needs
@@ -60,23 +65,31 @@ same-length-3 : tie.Need-same-length-3
 same-length-3 c = search needs
 
 returns-2 : tie.Need-returns-2
-returns-2 c = receive-done (c .before .before .before .before .before .before .before .before .before .before .before .before .before .before .before .before .before .before .before .before .before .before .before .before .before .before .before .pre .known) _ _ (c .before .before .before .before .before .before .before .before .before .before .before .before .before .before .before .before .before .before .before .before .before .before .before .in-process .ensures) (c .before .before .before .before .before .before .before .before .before .before .before .before .before .before .before .before .before .before .before .before .before .before .first .ensures) (c .before .before .before .before .before .before .before .before .before .before .before .before .before .before .before .before .before .before .before .before .before .first2 .ensures) (c .before .before .before .before .before .before .before .before .before .before .before .before .before .before .before .before .before .before .before .before .if1 .left) (c .answered .ensures)
-    (c .before .before .before .before .before .before .before .before .before .before .before .before .one-less .ensures) (c .before .before .before .before .before .before .before .before .before .before .before .before .before .before .before .before .before .before .before .process-place .ensures .0) (c .before .before .before .before .before .before .before .before .before .before .before .put-process .ensures) (c .before .before .before .before .before .before .before .move-up .ensures) (c .before .before .before .clear .ensures) (c .before .before .before .before .before .before .before .before .before .before .before .before .before .before .before .before .show .ensures)
+returns-2 c =
+    let cleared = c .before .before .before in
+    let moved = cleared .before .before .before .before in
+    let written = moved .before .before .before .before in
+    let shown = written .before .before .before .before .before in
+    let placed = shown .before .before .before in
+    let judged = placed .before .before in
+    receive-done _ _ _ (judged .before .before .read .ensures) (judged .before .or-refuse .ensures) (judged .or-refuse2 .ensures) (judged .before .before .before .before .before .before .pre .known) (placed .before .if1 .left) (placed .record-at .ensures .0) (written .before .one-less .ensures)
+    (written .write .ensures) (moved .move-up .ensures) (cleared .clear .ensures) (shown .show .ensures) (c .answered .ensures)
 
 pub receive-spec : {M : Type 1} → statement M
 receive-spec =
     tie.close
     (tie.spec
-    in-process-requires
-    first-requires
-    first-requires-2
+    read-requires
+    or-refuse-requires
+    or-refuse-requires-2
     refused-requires
     same-length
     returns
-    process-place-requires
+    record-at-requires
+    add-from
     show-requires
     one-less-requires
-    put-process-requires
+    write-requires
     sub-moved
     mul-moved
     move-up-requires

@@ -1,11 +1,12 @@
--- `objects::or_self` meets its contract: the caller's own seid fits a word.
-use Rattle.calls.proofs.Finds.{self-told}
+-- `objects::or_self` meets its contract.
+use Rattle.calls.proofs.Names.{self-told}
+use native.Mathlib.Omega.{arith}
 use borrow.Author.Needs.{needs}
 use Rattle.calls.proofs.objects.or_self.Statement.{statement}
 use Rattle.calls.proofs.objects.or_self.Tie as tie
 
-in-process-requires : tie.Need-in-process-requires
-in-process-requires c κs = search needs
+read-requires : tie.Need-read-requires
+read-requires c κs = search needs
 
 seid-requires : tie.Need-seid-requires
 seid-requires c κs = search needs
@@ -14,7 +15,7 @@ first-requires : tie.Need-first-requires
 first-requires c κs = search needs
 
 returns : tie.Need-returns
-returns c = self-told (c .before .before .before .before .pre) _ (c .before .before .in-process .ensures) (c .before .seid .ensures) (c .first .ensures)
+returns c = self-told (c .before .before .before .before .pre) _ (c .before .before .read .ensures) (c .before .seid .ensures) (c .first .ensures)
 
 pub or-self-spec : {M : Type 1} → statement M
-or-self-spec = tie.close (tie.spec in-process-requires seid-requires first-requires returns)
+or-self-spec = tie.close (tie.spec read-requires seid-requires first-requires returns)

@@ -1,88 +1,94 @@
 -- `processes::release_process` meets its contract: the rule's refusals in order, and the process released.
-use mathlib.Core.Path.{_≡_, sym, _∙_}
-use mathlib.Core.Bool.{true, false, not}
+use mathlib.Core.Path.{_≡_, refl, sym, _∙_}
+use mathlib.Core.Bool.{true}
 use mathlib.Core.List.{List, []}
 use Prim.Native.Nat.{ℕ, _<_}
-use Rattle.rules.specs.Rule.{firstRefusal, write}
-use Rattle.calls.specs.declared.World.{World}
-use Rattle.calls.specs.Left.{ruleAt}
-use Rattle.calls.proofs.Leaves.{left-refused, left-done}
 use borrow.Author.Tests.{eqb-true}
-use Rattle.rules.specs.Layout.{Kind, process, segment, file, configuration, slots, cellOf, rd, entries}
-use Rattle.rules.specs.Seid.{class, indexOf, isSeid, orSelf}
-use Rattle.rules.specs.Find.{inOwnCell}
+use Rattle.rules.specs.Layout.{Kind, process, segment, file, configuration, slots, cellOf}
+use Rattle.rules.specs.Seid.{formed, orSelf}
+use Rattle.rules.specs.Rule.{firstRefusal, write}
 use Rattle.rules.specs.Call02.{released, releaseProcess}
 use Rattle.laws.proofs.Tests.{passed}
-use Rattle.laws.proofs.Seids.{is-formed}
-use Rattle.laws.proofs.Shape.{descriptor, designator}
-use Rattle.calls.specs.World.{Sound}
-use Rattle.calls.specs.Finds.{findPast, ownPast}
-use Rattle.calls.specs.Holding.{EntryFormed, Holding}
-use Rattle.calls.proofs.Worlds.{home-is, processes-is}
-use Rattle.ids.proofs.Parts.{process-not}
-use Rattle.calls.proofs.Named.{Is, found-process}
-use Rattle.calls.proofs.Finds.{own-past, own-absent}
-use Rattle.calls.proofs.Entries.{not-chosen}
+use Rattle.layout.specs.declared.Header.{Header}
+use Rattle.calls.specs.declared.Caller.{Caller}
+use Rattle.calls.specs.declared.objects.Seen.{Seen}
+use Rattle.calls.specs.World.{Sound, wordsOf, holdable}
+use Rattle.calls.specs.Left.{ruleAt}
+use Rattle.calls.specs.Seen.{namedOf, seenAs, ownTests}
+use Rattle.calls.specs.Holding.{Holding}
+use Rattle.calls.proofs.Refusals.{refusing-first, clear-of}
+use Rattle.calls.proofs.Looks.{slot-is, own-is, slot-in, own-first, form-past}
+use Rattle.calls.proofs.Leaves.{left-refused, left-done}
+use Rattle.calls.proofs.SegmentsLaws.{entry-formed}
 use Rattle.calls.proofs.ProcessesLaws.{then-segments, released-is}
-use native.Mathlib.Omega.{arith}
 use borrow.Author.Needs.{needs}
 use Rattle.calls.proofs.processes.release_process.Statement.{statement}
 use Rattle.calls.proofs.processes.release_process.Tie as tie
 
--- s is the seid that a stands for; where it has a process's form, x is its identifier and e the number that the code finds
-module _ {t : List ℕ} {w : World} (sound : Sound t w) (a : ℕ) {s : ℕ} (se : s ≡ orSelf (rd (configuration t) t) (w .me) a) where
-  -- a word that has not the form is absent
-  absent-number : (buffer : List ℕ) → isSeid (class process) (w .processes) s ≡ false → 2 ≡ firstRefusal (ruleAt t (λ h r. releaseProcess h r (w .me) a buffer) .refusals)
+-- s is the seid that a stands for, g what is seen of it
+module _ {t : List ℕ} {n : Header} {c : Caller} (sound : Sound t n c) (a : ℕ) {s : ℕ} {g : Seen} (self : s ≡ orSelf (wordsOf t) (c .slot) a)
+    (seen : g ≡ seenAs (configuration t) (wordsOf t) (c .slot) process (namedOf n process s)) where
+  -- the first of the code's refusals is the rule's
+  number : (buffer : List ℕ) → firstRefusal (ownTests g process) ≡ firstRefusal (ruleAt t (λ h r. releaseProcess h r (c .slot) a buffer) .refusals)
   unfolding releaseProcess
-  absent-number buffer f =
-      rw (← se) (own-absent (configuration t) (rd (configuration t) t) process s [] (w .me) (rw (← processes-is (sound .known)) f))
+  number buffer =
+      rw (← self) (own-first (sound .known) (c .slot) process s seen [] [] (λ _. refl))
 
-  module _ {x e : ℕ} (i : Is (w .processes) (class process) s x) (ee : e ≡ ownPast (configuration t) (rd (configuration t) t) (w .me) process x 0) where
-    formed : isSeid (class process) (slots (configuration t) process) s ≡ true
-    formed = rw (← processes-is (sound .known)) (i .form)
+  -- where there is none, s names a process of the caller's cell
+  module _ (none : firstRefusal (ownTests g process) ≡ 0) where
+    form : formed (configuration t) process s ≡ true
+    form = form-past (sound .known) (c .slot) process s seen (clear-of (ownTests g process) refl none .0)
 
-    -- the number that the code finds is the rule's first refusal
-    number : (buffer : List ℕ) → e ≡ firstRefusal (ruleAt t (λ h r. releaseProcess h r (w .me) a buffer) .refusals)
-    unfolding releaseProcess
-    number buffer = rw (← se) (ee ∙ rw (i .same) (own-past (configuration t) (rd (configuration t) t) process s [] (w .me) formed))
+    here : g .slot < slots (configuration t) process
+    here = slot-in (sound .known) (c .slot) process s seen form
 
-    -- where there is none, the process is of the caller's cell
-    at-home : e ≡ 0 → w .home ≡ cellOf (configuration t) process (indexOf x)
-    unfolding ownPast findPast
-    at-home z =
-        let f = not-chosen (not (inOwnCell (configuration t) (w .me) process x)) 13 _ (omega arith) (sym ee ∙ z) in
-        home-is (sound .known) ∙ sym (eqb-true _ _ (passed (inOwnCell (configuration t) (w .me) process x) (f .0)))
+    at-home : c .cell ≡ cellOf (configuration t) process (g .slot)
+    at-home =
+        let own = sym (own-is (sound .known) (c .slot) process s seen form) ∙ passed (g .own) (clear-of (ownTests g process) refl none .1 .0) in
+        sound .home ∙ rw (slot-is (sound .known) (c .slot) process s seen form) (sym (eqb-true _ _ own))
 
     -- and its entries hold what they should
-    module _ (z : e ≡ 0) {q : ℕ} (qe : q ≡ indexOf x) where
-      here : q < slots (configuration t) process
-      here = rw (qe, i .same) (is-formed (class process) (slots (configuration t) process) s formed .index-in)
+    holding : (k : Kind) → holdable k ≡ true → Holding t n c k (g .slot)
+    holding k held = record {
+      at-all = record { known = sound .known; held = held; homed = at-home };
+      words = sound .words;
+      here = here;
+      formed = λ d l. entry-formed sound k held (g .slot) d here l;
+    }
 
-      holding : (k : Kind) → ((d : ℕ) → d < entries → EntryFormed (configuration t) (rd (configuration t) t) k q d) → Holding t w k q
-      holding k formed = record { known = sound .known; words = sound .words; here = here; homed = rw qe (at-home z); formed = formed }
+    words : (buffer : List ℕ) {u : List ℕ} → u ≡ write (configuration t) t (released (configuration t) (wordsOf t) (g .slot))
+        → u ≡ write (configuration t) t (ruleAt t (λ h r. releaseProcess h r (c .slot) a buffer) .effects .words)
+    unfolding releaseProcess
+    words buffer done = done ∙ rw (slot-is (sound .known) (c .slot) process s seen form, self)
 
-      files : Holding t w file q
-      files = holding file (λ d l n. descriptor (configuration t) (rd (configuration t) t) (sound .records) q d here l .held n .form)
+abbrev start : tie.After-own → tie.Start
+start c = c .before .before .before .before .before .before
 
-      segments : Holding t w segment q
-      segments = holding segment (λ d l n. designator (configuration t) (rd (configuration t) t) (sound .records) q d here l .held n .form)
+abbrev judged : tie.After-drop-entries2 → tie.After-own
+judged c = c .before .before .before .before .before .before .before
 
-      words : (buffer : List ℕ) {u : List ℕ} → u ≡ write (configuration t) t (released (configuration t) (rd (configuration t) t) q)
-          → u ≡ write (configuration t) t (ruleAt t (λ h r. releaseProcess h r (w .me) a buffer) .effects .words)
-      unfolding releaseProcess
-      words buffer ue = ue ∙ rw (qe, i .same, se)
+found : (c : tie.After-own) → (c .own .result) ≡ firstRefusal (ownTests (c .before .look .result) process)
+found c = (c .own .ensures) ∙ refusing-first (ownTests (c .before .look .result) process) refl
+
+counted : (c : tie.After-own) (buffer : List ℕ) → (c .own .result) ≡ firstRefusal (ruleAt (start c .args .t .now) (λ h r. releaseProcess h r
+    (start c .args .c .slot) (start c .args .a) buffer) .refusals)
+counted c buffer = found c ∙ number (start c .pre .0) (start c .args .a) (c .before .before .before .or-self .ensures)
+    (c .before .look .ensures) buffer
+
+held : (c : tie.After-drop-entries-arg) (k : Kind) → holdable k ≡ true → Holding (start (c .before .before) .args .t .now) (start
+    (c .before .before) .args .n) (start (c .before .before) .args .c) k (c .before .before .before .look .result .slot)
+held c = holding (start (c .before .before) .pre .0) (start (c .before .before) .args .a)
+    (c .before .before .before .before .before .or-self .ensures) (c .before .before .before .look .ensures) (sym (found (c .before .before)) ∙
+    (c .before .if1 .left))
 
 or-self-requires : tie.Need-or-self-requires
 or-self-requires c κs = search needs
 
-check-requires : tie.Need-check-requires
-check-requires c κs = search needs
+look-requires : tie.Need-look-requires
+look-requires c κs = search needs
 
-enum-known-q : tie.Need-enum-known-q
-enum-known-q c = search needs
-
-not-own-requires : tie.Need-not-own-requires
-not-own-requires c κs = search needs
+own-requires : tie.Need-own-requires
+own-requires c κs = search needs
 
 refused-requires : tie.Need-refused-requires
 refused-requires c κs = search needs
@@ -91,19 +97,17 @@ same-length : tie.Need-same-length
 same-length c = search needs
 
 returns : tie.Need-returns
-returns c = λ buffer. left-refused _ _ (number (c .before .before .before .before .before .before .before .before .before .before .before .pre) _ (c .before .before .before .before .before .before .before .before .or-self .ensures) (found-process _ _ (sym (c .before .before .before .before .before .before .before .check .ensures) ∙ (c .before .before .before .before .before .q .given .1))) (c .before .before .not-own .ensures) buffer) (c .before .if1 .taken) (c .refused .ensures)
+returns c = λ buffer. left-refused _ _ (counted (c .before .before) buffer) (c .before .if1 .taken) (c .refused .ensures)
 
-index-requires : tie.Need-index-requires
-index-requires c κs = search needs
+drop-entries-requires : tie.Need-drop-entries-requires
+drop-entries-requires c κs = held c file refl
 
-drop-descriptors-requires : tie.Need-drop-descriptors-requires
-drop-descriptors-requires c κs = files (c .before .before .before .before .before .before .before .before .before .before .before .before .pre) _ (c .before .before .before .before .before .before .before .before .before .or-self .ensures) (found-process _ _ (sym (c .before .before .before .before .before .before .before .before .check .ensures) ∙ (c .before .before .before .before .before .before .q .given .1))) (c .before .before .before .not-own .ensures) (c .before .before .if1 .left) (c .before .index .ensures)
+drop-entries-requires-2 : tie.Need-drop-entries-requires-2
+drop-entries-requires-2 c κs = then-segments _ (held (c .before .before .before .before) file refl) (held
+    (c .before .before .before .before) segment refl) (c .before .before .before .drop-entries .ensures)
 
-drop-designators-requires : tie.Need-drop-designators-requires
-drop-designators-requires c κs = then-segments _ (files (c .before .before .before .before .before .before .before .before .before .before .before .before .before .before .before .before .pre) _ (c .before .before .before .before .before .before .before .before .before .before .before .before .before .or-self .ensures) (found-process _ _ (sym (c .before .before .before .before .before .before .before .before .before .before .before .before .check .ensures) ∙ (c .before .before .before .before .before .before .before .before .before .before .q .given .1))) (c .before .before .before .before .before .before .before .not-own .ensures) (c .before .before .before .before .before .before .if1 .left) (c .before .before .before .before .before .index .ensures)) (segments (c .before .before .before .before .before .before .before .before .before .before .before .before .before .before .before .before .pre) _ (c .before .before .before .before .before .before .before .before .before .before .before .before .before .or-self .ensures) (found-process _ _ (sym (c .before .before .before .before .before .before .before .before .before .before .before .before .check .ensures) ∙ (c .before .before .before .before .before .before .before .before .before .before .q .given .1))) (c .before .before .before .before .before .before .before .not-own .ensures) (c .before .before .before .before .before .before .if1 .left) (c .before .before .before .before .before .index .ensures)) (c .before .before .before .drop-descriptors .ensures)
-
-process-place-requires : tie.Need-process-place-requires
-process-place-requires c κs = search needs
+record-at-requires : tie.Need-record-at-requires
+record-at-requires c κs = search needs
 
 free-record-requires : tie.Need-free-record-requires
 free-record-requires c κs = search needs
@@ -111,47 +115,41 @@ free-record-requires c κs = search needs
 answered-requires : tie.Need-answered-requires
 answered-requires c κs = search needs
 
-enum-told : tie.Need-enum-told
-enum-told c = search needs
-
-refused-requires-2 : tie.Need-refused-requires-2
-refused-requires-2 c κs = search needs
-
 same-length-2 : tie.Need-same-length-2
 same-length-2 c = search needs
 
 returns-2 : tie.Need-returns-2
 unfolding releaseProcess
-returns-2 c = λ buffer. left-done _ (λ h r. releaseProcess h r _ _ buffer) (number (c .before .before .before .before .before .before .before .before .before .before .before .before .before .before .before .before .before .before .before .before .before .before .before .before .before .pre) _ (c .before .before .before .before .before .before .before .before .before .before .before .before .before .before .before .before .before .before .before .before .before .before .or-self .ensures) (found-process _ _ (sym (c .before .before .before .before .before .before .before .before .before .before .before .before .before .before .before .before .before .before .before .before .before .check .ensures) ∙ (c .before .before .before .before .before .before .before .before .before .before .before .before .before .before .before .before .before .before .before .q .given .1))) (c .before .before .before .before .before .before .before .before .before .before .before .before .before .before .before .before .not-own .ensures) buffer) (c .before .before .before .before .before .before .before .before .before .before .before .before .before .before .before .if1 .left) (c .answered .ensures)
-    (words (c .before .before .before .before .before .before .before .before .before .before .before .before .before .before .before .before .before .before .before .before .before .before .before .before .before .pre) _ (c .before .before .before .before .before .before .before .before .before .before .before .before .before .before .before .before .before .before .before .before .before .before .or-self .ensures) (found-process _ _ (sym (c .before .before .before .before .before .before .before .before .before .before .before .before .before .before .before .before .before .before .before .before .before .check .ensures) ∙ (c .before .before .before .before .before .before .before .before .before .before .before .before .before .before .before .before .before .before .before .q .given .1))) (c .before .before .before .before .before .before .before .before .before .before .before .before .before .before .before .before .not-own .ensures) (c .before .before .before .before .before .before .before .before .before .before .before .before .before .before .before .if1 .left) (c .before .before .before .before .before .before .before .before .before .before .before .before .before .before .index .ensures) buffer
-    (released-is _ (files (c .before .before .before .before .before .before .before .before .before .before .before .before .before .before .before .before .before .before .before .before .before .before .before .before .before .pre) _ (c .before .before .before .before .before .before .before .before .before .before .before .before .before .before .before .before .before .before .before .before .before .before .or-self .ensures) (found-process _ _ (sym (c .before .before .before .before .before .before .before .before .before .before .before .before .before .before .before .before .before .before .before .before .before .check .ensures) ∙ (c .before .before .before .before .before .before .before .before .before .before .before .before .before .before .before .before .before .before .before .q .given .1))) (c .before .before .before .before .before .before .before .before .before .before .before .before .before .before .before .before .not-own .ensures) (c .before .before .before .before .before .before .before .before .before .before .before .before .before .before .before .if1 .left) (c .before .before .before .before .before .before .before .before .before .before .before .before .before .before .index .ensures)) (segments (c .before .before .before .before .before .before .before .before .before .before .before .before .before .before .before .before .before .before .before .before .before .before .before .before .before .pre) _ (c .before .before .before .before .before .before .before .before .before .before .before .before .before .before .before .before .before .before .before .before .before .before .or-self .ensures) (found-process _ _ (sym (c .before .before .before .before .before .before .before .before .before .before .before .before .before .before .before .before .before .before .before .before .before .check .ensures) ∙ (c .before .before .before .before .before .before .before .before .before .before .before .before .before .before .before .before .before .before .before .q .given .1))) (c .before .before .before .before .before .before .before .before .before .before .before .before .before .before .before .before .not-own .ensures) (c .before .before .before .before .before .before .before .before .before .before .before .before .before .before .before .if1 .left) (c .before .before .before .before .before .before .before .before .before .before .before .before .before .before .index .ensures)) (c .before .before .before .before .before .before .before .before .before .before .before .before .drop-descriptors .ensures) (c .before .before .before .before .before .before .before .before .drop-designators .ensures) (c .before .before .before .before .process-place .ensures .0) (c .before .before .before .free-record .ensures)))
-
-same-length-3 : tie.Need-same-length-3
-same-length-3 c = search needs
-
-returns-3 : tie.Need-returns-3
-returns-3 c = λ buffer. left-refused _ _ (absent-number (c .before .before .before .before .before .before .before .pre) _ (c .before .before .before .before .or-self .ensures) buffer (process-not _ _ (sym (c .before .before .before .check .ensures) ∙ (c .before .enum-told .given .1)))) (λ z. omega arith) (c .refused2 .ensures)
+returns-2 c = λ buffer. left-done _ (λ h r. releaseProcess h r _ (start (judged
+    (c .before .before .before .before .before .before .before .before)) .args .a) buffer) (counted (judged
+    (c .before .before .before .before .before .before .before .before)) buffer)
+    (c .before .before .before .before .before .before .before .before .before .before .before .before .before .before .if1 .left)
+    (c .answered .ensures) (words (start (judged (c .before .before .before .before .before .before .before .before)) .pre .0) (start (judged
+    (c .before .before .before .before .before .before .before .before)) .args .a) (judged
+    (c .before .before .before .before .before .before .before .before) .before .before .before .or-self .ensures) (judged
+    (c .before .before .before .before .before .before .before .before) .before .look .ensures) (sym (found (judged
+    (c .before .before .before .before .before .before .before .before))) ∙
+    (c .before .before .before .before .before .before .before .before .before .before .before .before .before .before .if1 .left)) buffer
+    (released-is _ (held (c .before .before .before .before .before .before .before .before .before .before .before .before .before) file refl)
+    (held (c .before .before .before .before .before .before .before .before .before .before .before .before .before) segment refl)
+    (c .before .before .before .before .before .before .before .before .before .before .before .before .drop-entries .ensures)
+    (c .before .before .before .before .before .before .before .before .drop-entries2 .ensures)
+    (c .before .before .before .before .record-at .ensures .0) (c .before .before .before .free-record .ensures)))
 
 pub release-process-spec : {M : Type 1} → statement M
 release-process-spec =
     tie.close
     (tie.spec
     or-self-requires
-    check-requires
-    enum-known-q
-    not-own-requires
+    look-requires
+    own-requires
     refused-requires
     same-length
     returns
-    index-requires
-    drop-descriptors-requires
-    drop-designators-requires
-    process-place-requires
+    drop-entries-requires
+    drop-entries-requires-2
+    record-at-requires
     free-record-requires
     answered-requires
-    enum-told
-    refused-requires-2
     same-length-2
-    returns-2
-    same-length-3
-    returns-3)
+    returns-2)

@@ -1,87 +1,116 @@
 -- `processes::spawn` meets its contract: the rule's refusals in order, and the new process.
 use mathlib.Core.Path.{_≡_, refl, sym, ap, _∙_}
-use mathlib.Core.Bool.{cond, _&&_, _||_, not}
+use mathlib.Core.Bool.{false, _&&_, _||_, not}
 use mathlib.Core.List.{List, [], _∷_}
-use Prim.Native.Nat.{ℕ, _+_, _<_}
-use lib.Dec.{leb, ltb, eqb}
+use Prim.Native.Nat.{ℕ, _+_}
+use native.Mathlib.Omega.{arith}
+use lib.Dec.{ltb, eqb}
 use lib.ListN.{set}
-use Rattle.rules.specs.Rule.{firstRefusal, _≔_, write}
-use Rattle.calls.specs.declared.World.{World}
-use Rattle.calls.specs.Left.{said, ruleAt}
-use Rattle.calls.proofs.Leaves.{left-refused, left-done}
-use Rattle.rules.specs.Layout.{maxOwner, maxSerial, process, configuration, slots, cellSlots, firstSlot, cellOf, at, rd, serial, owner, group, parent}
-use Rattle.rules.specs.Seid.{class, seid, seidAt, orSelf}
+use Rattle.rules.specs.Layout.{maxOwner, process, configuration, cellOf, at, serial, owner, group, parent}
+use Rattle.rules.specs.Seid.{class, orSelf, seidAt}
+use Rattle.rules.specs.Errors.{XbParam, XnoPriv, XnoProc}
+use Rattle.rules.specs.Rule.{Refusal, _⇒_, _≔_, firstRefusal, write}
 use Rattle.rules.specs.Find.{freeSlot}
 use Rattle.rules.specs.Call01.{spawn}
 use Rattle.ids.specs.Seid.{seidOf}
-use Rattle.calls.specs.World.{offsetBy, rdBy, Sound}
-use Rattle.calls.specs.Finds.{fourAt}
-use Rattle.calls.proofs.Worlds.{see, spot}
-use Rattle.calls.proofs.Entries.{not-chosen}
-use Rattle.calls.proofs.Room.{slot-told, end-told, free-ok, new-seid}
-use Rattle.calls.proofs.SegmentsLaws.{four-is, searching}
-use native.Mathlib.Omega.{arith}
+use Rattle.layout.specs.declared.Header.{Header}
+use Rattle.layout.specs.Header.{recordOf, placeOf}
+use Rattle.calls.specs.declared.Caller.{Caller}
+use Rattle.calls.specs.declared.room.Slot.{Slot}
+use Rattle.calls.specs.World.{Sound, wordsOf}
+use Rattle.calls.specs.Left.{said, ruleAt}
+use Rattle.calls.specs.Seen.{slotFound}
+use Rattle.calls.specs.Entries.{fourAt}
+use Rattle.calls.proofs.Worlds.{spot}
+use Rattle.calls.proofs.Refusals.{refusing-first, clear-of}
+use Rattle.calls.proofs.Leaves.{left-refused, left-done}
+use Rattle.calls.proofs.Given.{begins}
+use Rattle.calls.proofs.Searches.{serial-rises, new-seid}
+use Rattle.calls.proofs.SegmentsLaws.{four-is}
 use borrow.Author.Needs.{needs}
 use Rattle.calls.proofs.processes.spawn.Statement.{statement}
 use Rattle.calls.proofs.processes.spawn.Tie as tie
 
--- u and v are the caller's owner and group, q the free slot, end the end of the run of the caller's cell
-module _ {t : List ℕ} {w : World} (sound : Sound t w) (a b : ℕ) (buffer : List ℕ) {u v q end x₁ x₂ e : ℕ} (ue : u ≡ rdBy w t (at process (w .me) owner))
-    (ve : v ≡ rdBy w t (at process (w .me) group)) (qe : q ≡ freeSlot (configuration t) (rd (configuration t) t) process (cellOf (configuration t) process (w .me)))
-    (ende : end ≡ firstSlot (configuration t) process (cellOf (configuration t) process (w .me)) + cellSlots (configuration t) process (cellOf (configuration t) process (w .me)))
-    (e₁ : x₁ ≡ cond (leb end q) 27 0) (e₂ : x₂ ≡ cond (not (eqb u 0) && (not (eqb a u) || not (eqb b v))) 15 x₁)
-    (e₃ : e ≡ cond (ltb maxOwner a || ltb maxOwner b) 4 x₂) where
-  -- the number that the code finds is the rule's first refusal
-  number : e ≡ firstRefusal (ruleAt t (λ h r. spawn h r (w .me) a b buffer) .refusals)
+-- the code's tests: u and v are the caller's owner and group, q the slot found
+abbrev tests : ℕ → ℕ → ℕ → ℕ → Slot → List Refusal
+tests a b u v q =
+    (ltb maxOwner a || ltb maxOwner b ⇒ XbParam) ∷ (not (eqb u 0) && (not (eqb a u) || not (eqb b v)) ⇒ XnoPriv) ∷ (q .none ⇒ XnoProc) ∷ []
+
+module _ {t : List ℕ} {n : Header} {p : Caller} (sound : Sound t n p) (a b : ℕ) (buffer : List ℕ) {u v : ℕ} {q : Slot}
+    (mine : u ≡ wordsOf t (at process (p .slot) owner))
+    (ours : v ≡ wordsOf t (at process (p .slot) group)) (slot : q ≡ slotFound (configuration t) (wordsOf t) process (p .cell)) where
+  -- the first of the code's refusals is the rule's
+  number : firstRefusal (tests a b u v q) ≡ firstRefusal (ruleAt t (λ h r. spawn h r (p .slot) a b buffer) .refusals)
   unfolding spawn
-  number = rw (e₃, e₂, e₁, ue, ve, see (sound .known) (at process (w .me) owner), see (sound .known) (at process (w .me) group), ende, qe)
+  number = rw (slot, mine, ours, sound .home)
 
-  -- where there is none, there is a slot
-  room : e ≡ 0 → (q < slots (configuration t) process) × (rd (configuration t) t (at process q serial) < maxSerial)
-  room z =
-      let p = not-chosen (ltb maxOwner a || ltb maxOwner b) 4 x₂ (omega arith) (sym e₃ ∙ z) in
-      let p′ = not-chosen (not (eqb u 0) && (not (eqb a u) || not (eqb b v))) 15 x₁ (omega arith) (sym e₂ ∙ p .1) in
-      free-ok sound process qe ende (not-chosen (leb end q) 27 0 (omega arith) (sym e₁ ∙ p′ .1) .0)
+  index : q .index ≡ freeSlot (configuration t) (wordsOf t) process (cellOf (configuration t) process (p .slot))
+  index = ap (λ (x : Slot). x .index) slot ∙ rw (sound .home)
 
-  -- the seid answered and the words written are the rule's; x is the slot's serial
-  module _ (z : e ≡ 0) {x : ℕ} (xe : x ≡ rdBy w t (at process q serial)) where
-    result : {s : ℕ} → s ≡ seidOf (class process) q (x + 1) → s ≡ ruleAt t (λ h r. spawn h r (w .me) a b buffer) .effects .first
+  -- where there is none, the seid answered and the words written are the rule's; x is the slot's serial
+  module _ (room : q .none ≡ false) {x : ℕ} (old : x ≡ wordsOf t (at process (q .index) serial)) where
+    result : {s : ℕ} → s ≡ seidOf (class process) (q .index) (x + 1) → s ≡ ruleAt t (λ h r. spawn h r (p .slot) a b buffer) .effects .first
     unfolding spawn
-    result se = new-seid sound process (room z) xe se .1 ∙ rw qe
+    result made = rw (← index) (new-seid sound process slot room old made)
 
-    words : {p place : ℕ} {t₁ t₂ : List ℕ} → p ≡ orSelf (rd (configuration t) t) (w .me) 0 → place ≡ offsetBy w (at process q 0) → t₁ ≡ fourAt t place 1 (x + 1) a b
-        → t₂ ≡ set t₁ (offsetBy w (at process q parent)) p → t₂ ≡ write (configuration t) t (ruleAt t (λ h r. spawn h r (w .me) a b buffer) .effects .words)
+    words : {self place : ℕ} {t₁ t₂ : List ℕ} → self ≡ orSelf (wordsOf t) (p .slot) 0 → place ≡ recordOf n process (q .index)
+        → t₁ ≡ fourAt t place 1 (x + 1) a b
+        → t₂ ≡ set t₁ (placeOf n (at process (q .index) parent)) self
+        → t₂ ≡ write (configuration t) t (ruleAt t (λ h r. spawn h r (p .slot) a b buffer) .effects .words)
     unfolding spawn orSelf
-    words {p} {place} {t₁} {t₂} pe le f₁ f₂ =
+    words {self} {place} {t₁} {t₂} me begin four fifth =
         let h : List ℕ = configuration t in
-        let y : x ≡ rd h t (at process q serial) = xe ∙ see (sound .known) (at process q serial) in
-        rw (← qe)
-        (f₂ ∙ rw (f₁, le, spot (sound .known) (at process q 0), spot (sound .known) (at process q parent), pe, y)
-        (sym (four-is h t process q 1 (rd h t (at process q serial) + 1) a b ((at process q parent ≔ seidAt (rd h t) process (w .me)) ∷ []))))
+        rw (← index, ← old)
+        (fifth ∙ rw (four, spot (sound .known) (at process (q .index) parent), begin, begins (sound .known) process (q .index), me)
+        (sym (four-is h t process (q .index) 1 (x + 1) a b ((at process (q .index) parent ≔ seidAt (wordsOf t) process (p .slot)) ∷ []))))
 
-in-process-requires : tie.Need-in-process-requires
-in-process-requires c κs = search needs
+abbrev start : tie.After-or-refuse3 → tie.Start
+start c = c .before .before .before .before .before .before .before .before
 
-in-process-requires-2 : tie.Need-in-process-requires-2
-in-process-requires-2 c κs = search needs
+abbrev passed-by : tie.After-put-four → tie.After-or-self-arg
+passed-by c = c .before .before .before .before .before .before
 
-process-base-requires : tie.Need-process-base-requires
-process-base-requires c κs = search needs
+abbrev wrote : tie.After-write → tie.After-put-four
+wrote c = c .before .before .before .before
 
-free-slot-requires : tie.Need-free-slot-requires
-free-slot-requires c κs = (searching (c .before .before .before .before .before .before .before .pre) process, (omega arith, omega arith))
+found : (c : tie.After-or-refuse3) → (c .or-refuse3 .result) ≡ firstRefusal (tests
+    (c .before .before .before .before .before .before .before .before .args .a)
+    (c .before .before .before .before .before .before .before .before .args .b) (c .before .before .before .before .before .read .result)
+    (c .before .before .before .read2 .result) (c .before .before .before .before .before .before .before .before .args .q))
+found c = rw (c .or-refuse3 .ensures, c .before .or-refuse2 .ensures, c .before .before .or-refuse .ensures) (refusing-first (tests
+    (c .before .before .before .before .before .before .before .before .args .a)
+    (c .before .before .before .before .before .before .before .before .args .b) (c .before .before .before .before .before .read .result)
+    (c .before .before .before .read2 .result) (c .before .before .before .before .before .before .before .before .args .q)) refl)
 
-run-end-requires : tie.Need-run-end-requires
-run-end-requires c κs = searching (c .before .before .before .before .before .before .before .before .before .pre) process
+counted : (c : tie.After-or-refuse3) (buffer : List ℕ) → (c .or-refuse3 .result) ≡ firstRefusal (ruleAt (start c .args .t .now) (λ h r. spawn h r
+    (start c .args .c .slot) (start c .args .a) (start c .args .b) buffer) .refusals)
+counted c buffer = found c ∙ number (start c .pre .0) _ _ buffer (c .before .before .before .before .before .read .ensures)
+    (c .before .before .before .read2 .ensures) (start c .pre .1)
 
-first-requires : tie.Need-first-requires
-first-requires c κs = search needs
+passed : (c : tie.After-or-self-arg) → firstRefusal (tests (start (c .before .before) .args .a) (start (c .before .before) .args .b)
+    (c .before .before .before .before .before .before .before .read .result) (c .before .before .before .before .before .read2 .result) (start
+    (c .before .before) .args .q)) ≡ 0
+passed c = sym (found (c .before .before)) ∙ (c .before .if1 .left)
 
-first-requires-2 : tie.Need-first-requires-2
-first-requires-2 c κs = search needs
+room : (c : tie.After-or-self-arg) → (start (c .before .before) .args .q .none) ≡ false
+room c = clear-of (tests (start (c .before .before) .args .a) (start (c .before .before) .args .b)
+    (c .before .before .before .before .before .before .before .read .result) (c .before .before .before .before .before .read2 .result) (start
+    (c .before .before) .args .q)) refl (passed c) .1 .1 .0
 
-first-requires-3 : tie.Need-first-requires-3
-first-requires-3 c κs = search needs
+read-requires : tie.Need-read-requires
+read-requires c κs = search needs
+
+read-requires-2 : tie.Need-read-requires-2
+read-requires-2 c κs = search needs
+
+or-refuse-requires : tie.Need-or-refuse-requires
+or-refuse-requires c κs = search needs
+
+or-refuse-requires-2 : tie.Need-or-refuse-requires-2
+or-refuse-requires-2 c κs = search needs
+
+or-refuse-requires-3 : tie.Need-or-refuse-requires-3
+or-refuse-requires-3 c κs = search needs
 
 refused-requires : tie.Need-refused-requires
 refused-requires c κs = search needs
@@ -90,25 +119,31 @@ same-length : tie.Need-same-length
 same-length c = search needs
 
 returns : tie.Need-returns
-returns c = λ buffer. left-refused _ _ (number (c .before .before .before .before .before .before .before .before .before .before .before .before .before .before .before .pre) _ _ buffer (c .before .before .before .before .before .before .before .before .before .before .before .before .in-process .ensures) (c .before .before .before .before .before .before .before .before .before .before .in-process2 .ensures) (slot-told (c .before .before .before .before .before .before .before .before .before .before .before .before .before .before .before .pre .known) process (c .before .before .before .before .before .before .before .before .process-base .ensures .0) refl (c .before .before .before .before .before .before .before .free-slot .ensures)) (end-told (c .before .before .before .before .before .before .before .before .before .before .before .before .before .before .before .pre .known) process (c .before .before .before .before .before .run-end .ensures)) (c .before .before .before .before .first .ensures) (c .before .before .before .first2 .ensures) (c .before .before .first3 .ensures)) (c .before .if1 .taken) (c .refused .ensures)
+returns c = λ buffer. left-refused _ _ (counted (c .before .before) buffer) (c .before .if1 .taken) (c .refused .ensures)
 
 or-self-requires : tie.Need-or-self-requires
 or-self-requires c κs = search needs
 
-in-process-requires-3 : tie.Need-in-process-requires-3
-in-process-requires-3 c κs = search needs
+read-requires-3 : tie.Need-read-requires-3
+read-requires-3 c κs = search needs
 
 add-serial : tie.Need-add-serial
-add-serial c = record { fits = omega (arith, new-seid (c .before .before .before .before .before .before .before .before .before .before .before .before .before .before .before .before .before .before .pre) process (room (c .before .before .before .before .before .before .before .before .before .before .before .before .before .before .before .before .before .before .pre) _ _ [] (c .before .before .before .before .before .before .before .before .before .before .before .before .before .before .before .in-process .ensures) (c .before .before .before .before .before .before .before .before .before .before .before .before .before .in-process2 .ensures) (slot-told (c .before .before .before .before .before .before .before .before .before .before .before .before .before .before .before .before .before .before .pre .known) process (c .before .before .before .before .before .before .before .before .before .before .before .process-base .ensures .0) refl (c .before .before .before .before .before .before .before .before .before .before .free-slot .ensures)) (end-told (c .before .before .before .before .before .before .before .before .before .before .before .before .before .before .before .before .before .before .pre .known) process (c .before .before .before .before .before .before .before .before .run-end .ensures)) (c .before .before .before .before .before .before .before .first .ensures) (c .before .before .before .before .before .before .first2 .ensures) (c .before .before .before .before .before .first3 .ensures) (c .before .before .before .before .if1 .left)) (c .in-process3 .ensures) refl .0) }
+add-serial c = record {
+  fits = omega (
+    arith,
+    serial-rises (start (c .before .before .before .before .before) .pre .0) process (start
+        (c .before .before .before .before .before) .pre .1) (room (c .before .before .before)) (c .read3 .ensures),
+  );
+}
 
-process-place-requires : tie.Need-process-place-requires
-process-place-requires c κs = search needs
+record-at-requires : tie.Need-record-at-requires
+record-at-requires c κs = search needs
 
 put-four-requires : tie.Need-put-four-requires
 put-four-requires c κs = search needs
 
-put-process-requires : tie.Need-put-process-requires
-put-process-requires c κs = search needs
+write-requires : tie.Need-write-requires
+write-requires c κs = search needs
 
 seid-requires : tie.Need-seid-requires
 seid-requires c κs = search needs
@@ -121,31 +156,45 @@ same-length-2 c = search needs
 
 returns-2 : tie.Need-returns-2
 unfolding spawn
-returns-2 c = λ buffer. left-done _ (λ h r. spawn h r _ _ _ buffer) (number (c .before .before .before .before .before .before .before .before .before .before .before .before .before .before .before .before .before .before .before .before .before .before .before .before .before .before .before .before .before .pre) _ _ buffer (c .before .before .before .before .before .before .before .before .before .before .before .before .before .before .before .before .before .before .before .before .before .before .before .before .before .before .in-process .ensures) (c .before .before .before .before .before .before .before .before .before .before .before .before .before .before .before .before .before .before .before .before .before .before .before .before .in-process2 .ensures) (slot-told (c .before .before .before .before .before .before .before .before .before .before .before .before .before .before .before .before .before .before .before .before .before .before .before .before .before .before .before .before .before .pre .known) process (c .before .before .before .before .before .before .before .before .before .before .before .before .before .before .before .before .before .before .before .before .before .before .process-base .ensures .0) refl (c .before .before .before .before .before .before .before .before .before .before .before .before .before .before .before .before .before .before .before .before .before .free-slot .ensures)) (end-told (c .before .before .before .before .before .before .before .before .before .before .before .before .before .before .before .before .before .before .before .before .before .before .before .before .before .before .before .before .before .pre .known) process (c .before .before .before .before .before .before .before .before .before .before .before .before .before .before .before .before .before .before .before .run-end .ensures)) (c .before .before .before .before .before .before .before .before .before .before .before .before .before .before .before .before .before .before .first .ensures) (c .before .before .before .before .before .before .before .before .before .before .before .before .before .before .before .before .before .first2 .ensures) (c .before .before .before .before .before .before .before .before .before .before .before .before .before .before .before .before .first3 .ensures)) (c .before .before .before .before .before .before .before .before .before .before .before .before .before .before .before .if1 .left)
-    ((c .answered .ensures) ∙ ap (λ (x : ℕ). said 0 x 0) (result (c .before .before .before .before .before .before .before .before .before .before .before .before .before .before .before .before .before .before .before .before .before .before .before .before .before .before .before .before .before .pre) _ _ buffer (c .before .before .before .before .before .before .before .before .before .before .before .before .before .before .before .before .before .before .before .before .before .before .before .before .before .before .in-process .ensures) (c .before .before .before .before .before .before .before .before .before .before .before .before .before .before .before .before .before .before .before .before .before .before .before .before .in-process2 .ensures) (slot-told (c .before .before .before .before .before .before .before .before .before .before .before .before .before .before .before .before .before .before .before .before .before .before .before .before .before .before .before .before .before .pre .known) process (c .before .before .before .before .before .before .before .before .before .before .before .before .before .before .before .before .before .before .before .before .before .before .process-base .ensures .0) refl (c .before .before .before .before .before .before .before .before .before .before .before .before .before .before .before .before .before .before .before .before .before .free-slot .ensures)) (end-told (c .before .before .before .before .before .before .before .before .before .before .before .before .before .before .before .before .before .before .before .before .before .before .before .before .before .before .before .before .before .pre .known) process (c .before .before .before .before .before .before .before .before .before .before .before .before .before .before .before .before .before .before .before .run-end .ensures)) (c .before .before .before .before .before .before .before .before .before .before .before .before .before .before .before .before .before .before .first .ensures) (c .before .before .before .before .before .before .before .before .before .before .before .before .before .before .before .before .before .first2 .ensures) (c .before .before .before .before .before .before .before .before .before .before .before .before .before .before .before .before .first3 .ensures) (c .before .before .before .before .before .before .before .before .before .before .before .before .before .before .before .if1 .left) (c .before .before .before .before .before .before .before .before .before .before .before .in-process3 .ensures) (c .before .seid .ensures)))
-    (words (c .before .before .before .before .before .before .before .before .before .before .before .before .before .before .before .before .before .before .before .before .before .before .before .before .before .before .before .before .before .pre) _ _ buffer (c .before .before .before .before .before .before .before .before .before .before .before .before .before .before .before .before .before .before .before .before .before .before .before .before .before .before .in-process .ensures) (c .before .before .before .before .before .before .before .before .before .before .before .before .before .before .before .before .before .before .before .before .before .before .before .before .in-process2 .ensures) (slot-told (c .before .before .before .before .before .before .before .before .before .before .before .before .before .before .before .before .before .before .before .before .before .before .before .before .before .before .before .before .before .pre .known) process (c .before .before .before .before .before .before .before .before .before .before .before .before .before .before .before .before .before .before .before .before .before .before .process-base .ensures .0) refl (c .before .before .before .before .before .before .before .before .before .before .before .before .before .before .before .before .before .before .before .before .before .free-slot .ensures)) (end-told (c .before .before .before .before .before .before .before .before .before .before .before .before .before .before .before .before .before .before .before .before .before .before .before .before .before .before .before .before .before .pre .known) process (c .before .before .before .before .before .before .before .before .before .before .before .before .before .before .before .before .before .before .before .run-end .ensures)) (c .before .before .before .before .before .before .before .before .before .before .before .before .before .before .before .before .before .before .first .ensures) (c .before .before .before .before .before .before .before .before .before .before .before .before .before .before .before .before .before .first2 .ensures) (c .before .before .before .before .before .before .before .before .before .before .before .before .before .before .before .before .first3 .ensures) (c .before .before .before .before .before .before .before .before .before .before .before .before .before .before .before .if1 .left) (c .before .before .before .before .before .before .before .before .before .before .before .in-process3 .ensures) (c .before .before .before .before .before .before .before .before .before .before .before .before .before .or-self .ensures) (c .before .before .before .before .before .before .before .before .before .process-place .ensures .0) (c .before .before .before .before .before .before .before .before .put-four .ensures) (c .before .before .before .before .put-process .ensures))
+returns-2 c = λ buffer. left-done _ (λ h r. spawn h r _ _ _ buffer) (counted (passed-by (wrote
+    (c .before .before .before .before)) .before .before) buffer) (passed-by (wrote (c .before .before .before .before)) .before .if1 .left)
+    ((c .answered .ensures) ∙ ap (λ (x : ℕ). said 0 x 0) (result (start (passed-by (wrote
+    (c .before .before .before .before)) .before .before) .pre .0) (start (passed-by (wrote
+    (c .before .before .before .before)) .before .before) .args .a) (start (passed-by (wrote
+    (c .before .before .before .before)) .before .before) .args .b) buffer (passed-by (wrote
+    (c .before .before .before .before)) .before .before .before .before .before .before .before .read .ensures) (passed-by (wrote
+    (c .before .before .before .before)) .before .before .before .before .before .read2 .ensures) (start (passed-by (wrote
+    (c .before .before .before .before)) .before .before) .pre .1) (room (passed-by (wrote (c .before .before .before .before)))) (wrote
+    (c .before .before .before .before) .before .before .before .read3 .ensures) (c .before .seid .ensures))) (words (start (passed-by (wrote
+    (c .before .before .before .before)) .before .before) .pre .0) (start (passed-by (wrote
+    (c .before .before .before .before)) .before .before) .args .a) (start (passed-by (wrote
+    (c .before .before .before .before)) .before .before) .args .b) buffer (passed-by (wrote
+    (c .before .before .before .before)) .before .before .before .before .before .before .before .read .ensures) (passed-by (wrote
+    (c .before .before .before .before)) .before .before .before .before .before .read2 .ensures) (start (passed-by (wrote
+    (c .before .before .before .before)) .before .before) .pre .1) (room (passed-by (wrote (c .before .before .before .before)))) (wrote
+    (c .before .before .before .before) .before .before .before .read3 .ensures) (wrote
+    (c .before .before .before .before) .before .before .before .before .before .or-self .ensures) (wrote
+    (c .before .before .before .before) .before .before .record-at .ensures .0) (wrote (c .before .before .before .before) .put-four .ensures)
+    (c .before .before .before .before .write .ensures))
 
 pub spawn-spec : {M : Type 1} → statement M
 spawn-spec =
     tie.close
     (tie.spec
-    in-process-requires
-    in-process-requires-2
-    process-base-requires
-    free-slot-requires
-    run-end-requires
-    first-requires
-    first-requires-2
-    first-requires-3
+    read-requires
+    read-requires-2
+    or-refuse-requires
+    or-refuse-requires-2
+    or-refuse-requires-3
     refused-requires
     same-length
     returns
     or-self-requires
-    in-process-requires-3
+    read-requires-3
     add-serial
-    process-place-requires
+    record-at-requires
     put-four-requires
-    put-process-requires
+    write-requires
     seid-requires
     answered-requires
     same-length-2

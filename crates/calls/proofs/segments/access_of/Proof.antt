@@ -1,100 +1,116 @@
 -- `segments::access_of` meets its contract: the rule's refusals in order, and the stored access limited by today's bits.
-use mathlib.Core.Path.{_≡_, refl, ap, _∙_}
-use mathlib.Core.Bool.{Bool, cond, _&&_, not}
-use mathlib.Core.List.{List}
-use Prim.Native.Nat.{ℕ, _+_, _*_}
+use mathlib.Core.Path.{_≡_, refl, sym, ap, _∙_}
+use mathlib.Core.Bool.{not}
+use mathlib.Core.List.{List, [], _∷_}
+use Prim.Native.Nat.{ℕ}
 use lib.Dec.{leb, eqb}
-use Rattle.rules.specs.Layout.{process, at, configuration, rd, entries}
-use Rattle.rules.specs.Rule.{firstRefusal}
-use Rattle.calls.specs.declared.World.{World}
-use Rattle.calls.specs.World.{rdBy, Sound}
-use Rattle.calls.specs.Left.{said, ruleAt}
-use Rattle.rules.specs.Rights.{mayRead, mayWrite, asksRead, asksWrite, access}
+use Rattle.layout.specs.declared.Header.{Header}
+use Rattle.calls.specs.declared.Caller.{Caller}
+use Rattle.calls.specs.declared.entries.Entry.{Entry}
+use Rattle.calls.specs.declared.objects.Seen.{Seen}
+use Rattle.calls.specs.World.{Sound, wordsOf}
+use Rattle.calls.specs.Entries.{entryOf}
+use Rattle.calls.specs.Seen.{namedOf, seenAs}
+use Rattle.rules.specs.Layout.{process, segment, configuration, at, entries, heldAt}
+use Rattle.rules.specs.Seid.{present}
+use Rattle.rules.specs.Errors.{XnSgDes, XbSgDes, XbSgSd}
+use Rattle.rules.specs.Rule.{Refusal, _⇒_, firstRefusal}
 use Rattle.rules.specs.Call18.{limited, accessOf}
-use Rattle.ids.specs.Seid.{segmentOf}
-use Rattle.ids.specs.declared.SegmentIs.{SegmentIs}
-use Rattle.calls.specs.declared.segments.Segment.{Segment}
-use Rattle.calls.specs.Seen.{seenSegment}
+use Rattle.calls.specs.Left.{said, ruleAt}
+use Rattle.calls.proofs.Refusals.{refusing-first, clear-of}
 use Rattle.calls.proofs.Leaves.{left-refused, left-done}
-use Rattle.calls.proofs.Entries.{entry-filled, segment-word}
-use Rattle.calls.proofs.SegmentsLaws.{after, seen-held, used-word}
-use native.Mathlib.Omega.{arith}
+use Rattle.calls.proofs.SegmentsLaws.{after, entry-named}
 use borrow.Author.Needs.{needs}
 use Rattle.calls.proofs.segments.access_of.Statement.{statement}
 use Rattle.calls.proofs.segments.access_of.Tie as tie
 
--- y and z are the designator's number, s what it holds, g what is seen of that
-module _ {t : List ℕ} {w : World} (sound : Sound t w) (a : ℕ) (buffer : List ℕ) {y z s x₁ x₂ e : ℕ} {i : SegmentIs} {g : Segment} (ya : y ≡ a)
-    (sr : s ≡ rdBy w t (at process (w .me) (40 + 2 * y))) (ie : i ≡ segmentOf (w .segments) s)
-    (ge : g ≡ seenSegment (configuration t) (rd (configuration t) t) (w .me) i) (za : z ≡ a) (e₁ : x₁ ≡ cond (not (g .present)) 11 0)
-    (e₂ : x₂ ≡ cond (eqb s 0) 9 x₁) (e₃ : e ≡ cond (leb entries z) 8 x₂) where
-  -- the number that the code finds is the rule's first refusal
-  number : e ≡ firstRefusal (ruleAt t (λ h q. accessOf h q (w .me) a buffer) .refusals)
+-- the code's tests, of entry a and what is seen of what it holds
+abbrev tests : ℕ → Entry → Seen → List Refusal
+tests a d g = (leb entries a ⇒ XnSgDes) ∷ (eqb (d .held) 0 ⇒ XbSgDes) ∷ (not (g .present) ⇒ XbSgSd) ∷ []
+
+-- d is the entry, g what is seen of what it holds
+module _ {t : List ℕ} {n : Header} {c : Caller} (sound : Sound t n c) (a : ℕ) (buffer : List ℕ) {d : Entry} {g : Seen}
+    (entry : d ≡ entryOf (wordsOf t) segment (c .slot) a) (seen : g ≡ seenAs (configuration t) (wordsOf t) (c .slot) segment (namedOf n segment (d .held))) where
+  -- the first of the code's refusals is the rule's
+  number : firstRefusal (tests a d g) ≡ firstRefusal (ruleAt t (λ h q. accessOf h q (c .slot) a buffer) .refusals)
+  unfolding accessOf present
+  number = rw (seen, entry) (after (leb entries a) XnSgDes
+      (λ l. after (eqb (wordsOf t (at process (c .slot) (heldAt segment a))) 0) XbSgDes
+      (λ s. rw (entry-named sound segment refl a l s))))
+
+  -- where there is none, the access is the rule's
+  result : firstRefusal (tests a d g) ≡ 0 → limited (d .used) (g .rights) ≡ ruleAt t (λ h q. accessOf h q (c .slot) a buffer) .effects .first
   unfolding accessOf
-  number =
-      rw (← segment-word (sound .known) (w .me) a ya sr, e₃, e₂, e₁, za)
-      (after (leb entries a) 8 (λ l. after (eqb s 0) 9 (λ q. rw (seen-held sound a ya sr ie ge l q))))
+  result z =
+      let none = clear-of (tests a d g) refl z in
+      rw (seen, entry) (rw (entry-named sound segment refl a (none .0) (rw entry at (none .1 .0))))
 
-  -- where there is none, the access that it finds is the rule's; u is how the designator is used
-  module _ (none : e ≡ 0) {v u x : ℕ} {ar mr aw mw : Bool} (va : v ≡ a) (ur : u ≡ rdBy w t (at process (w .me) (41 + 2 * v))) (are : ar ≡ asksRead u)
-      (mre : mr ≡ mayRead (g .rights)) (awe : aw ≡ asksWrite u) (mwe : mw ≡ mayWrite (g .rights)) (xe : x ≡ access (ar && mr) (aw && mw)) where
-    result : x ≡ ruleAt t (λ h q. accessOf h q (w .me) a buffer) .effects .first
-    unfolding accessOf limited
-    result =
-        let p = entry-filled 8 9 x₁ (omega arith) (omega arith) s za e₂ e₃ none in
-        let f = seen-held sound a ya sr ie ge (p .0) (p .1) in
-        rw (xe, are, mre, awe, mwe, f, ← segment-word (sound .known) (w .me) a ya sr, used-word (sound .known) (w .me) a va ur)
+abbrev looked : tie.After-or-refuse3 → tie.After-look
+looked c = c .before .before .before .before .before .before
 
-wide-requires : tie.Need-wide-requires
-wide-requires c κs = search needs
+abbrev start : tie.After-look → tie.Start
+start c = c .before .before .before
 
-mul-in-process : tie.Need-mul-in-process
-mul-in-process c = search needs
+abbrev judged : tie.After-access → tie.After-or-refuse3
+judged c = c .before .before .before .before .before .before
 
-add-in-process : tie.Need-add-in-process
-add-in-process c = search needs
+found : (c : tie.After-or-refuse3) → (c .or-refuse3 .result) ≡ firstRefusal (tests
+    (c .before .before .before .before .before .before .before .before .before .args .a)
+    (c .before .before .before .before .before .before .before .entry-of .result) (c .before .before .before .before .before .before .look .result))
+found c = rw (
+  c .or-refuse3 .ensures,
+  c .before .before .or-refuse2 .ensures,
+  c .before .before .before .before .or-refuse .ensures,
+  c .before .before .before .before .before .wide .ensures,
+) (refusing-first (tests
+    (c .before .before .before .before .before .before .before .before .before .args .a)
+    (c .before .before .before .before .before .before .before .entry-of .result)
+    (c .before .before .before .before .before .before .look .result)) refl)
 
-in-process-requires : tie.Need-in-process-requires
-in-process-requires c κs = search needs
+counted : (c : tie.After-or-refuse3) (buffer : List ℕ) → (c .or-refuse3 .result) ≡ firstRefusal (ruleAt (start (looked c) .args .t .now)
+    (λ h q. accessOf h q (start (looked c) .args .c .slot) (start (looked c) .args .a) buffer) .refusals)
+counted c buffer = found c ∙ number (start (looked c) .pre .0) _ buffer (looked c .before .entry-of .ensures) (looked c .look .ensures)
 
-add-in-process-2 : tie.Need-add-in-process-2
-add-in-process-2 c = search needs
+limits : (c : tie.After-access) → (c .access .result) ≡ limited
+    (c .before .before .before .before .before .before .before .before .before .before .before .before .before .entry-of .result .used)
+    (c .before .before .before .before .before .before .before .before .before .before .before .before .look .result .rights)
+unfolding limited
+limits c = rw (
+  c .access .ensures,
+  c .before .may-write .ensures,
+  c .before .before .asks-write .ensures,
+  c .before .before .before .may-read .ensures,
+  c .before .before .before .before .asks-read .ensures,
+)
 
-wide-requires-2 : tie.Need-wide-requires-2
-wide-requires-2 c κs = search needs
+answer : (c : tie.After-access) (buffer : List ℕ) → (c .access .result) ≡ ruleAt (start (looked (judged c)) .args .t .now) (λ h q. accessOf h q
+    (start (looked (judged c)) .args .c .slot) (start (looked (judged c)) .args .a) buffer) .effects .first
+answer c buffer = limits c ∙ result (start (looked (judged c)) .pre .0) _ buffer (looked (judged c) .before .entry-of .ensures) (looked
+    (judged c) .look .ensures) (sym (found (judged c)) ∙ (c .before .before .before .before .before .if1 .left))
 
-mul-in-process-2 : tie.Need-mul-in-process-2
-mul-in-process-2 c = search needs
-
-add-in-process-3 : tie.Need-add-in-process-3
-add-in-process-3 c = search needs
-
-in-process-requires-2 : tie.Need-in-process-requires-2
-in-process-requires-2 c κs = search needs
-
-check-requires : tie.Need-check-requires
-check-requires c κs = search needs
+entry-of-requires : tie.Need-entry-of-requires
+entry-of-requires c κs = search needs
 
 look-requires : tie.Need-look-requires
 look-requires c κs = search needs
 
-wide-requires-3 : tie.Need-wide-requires-3
-wide-requires-3 c κs = search needs
+wide-requires : tie.Need-wide-requires
+wide-requires c κs = search needs
 
-first-requires : tie.Need-first-requires
-first-requires c κs = search needs
+or-refuse-requires : tie.Need-or-refuse-requires
+or-refuse-requires c κs = search needs
 
-first-requires-2 : tie.Need-first-requires-2
-first-requires-2 c κs = search needs
+or-refuse-requires-2 : tie.Need-or-refuse-requires-2
+or-refuse-requires-2 c κs = search needs
 
-first-requires-3 : tie.Need-first-requires-3
-first-requires-3 c κs = search needs
+or-refuse-requires-3 : tie.Need-or-refuse-requires-3
+or-refuse-requires-3 c κs = search needs
 
 refused-requires : tie.Need-refused-requires
 refused-requires c κs = search needs
 
 returns : tie.Need-returns
-returns c = λ buffer. left-refused _ _ (number (c .before .before .before .before .before .before .before .before .before .before .before .before .before .before .pre) _ buffer (c .before .before .before .before .before .before .before .before .before .before .before .before .wide .ensures) (c .before .before .before .before .before .before .before .before .before .before .before .in-process .ensures) (c .before .before .before .before .before .before .before .before .check .ensures) (c .before .before .before .before .before .before .before .look .ensures) (c .before .before .before .before .before .before .wide3 .ensures) (c .before .before .before .before .first .ensures) (c .before .before .before .first2 .ensures) (c .before .before .first3 .ensures)) (c .before .if1 .taken) (c .refused .ensures)
+returns c = λ buffer. left-refused _ _ (counted (c .before .before) buffer) (c .before .if1 .taken) (c .refused .ensures)
 
 asks-read-requires : tie.Need-asks-read-requires
 asks-read-requires c κs = search needs
@@ -116,28 +132,20 @@ answered-requires c κs = search needs
 
 returns-2 : tie.Need-returns-2
 unfolding accessOf
-returns-2 c = λ buffer. left-done _ (λ h q. accessOf h q _ _ buffer) (number (c .before .before .before .before .before .before .before .before .before .before .before .before .before .before .before .before .before .before .before .pre) _ buffer (c .before .before .before .before .before .before .before .before .before .before .before .before .before .before .before .before .before .wide .ensures) (c .before .before .before .before .before .before .before .before .before .before .before .before .before .before .before .before .in-process .ensures) (c .before .before .before .before .before .before .before .before .before .before .before .before .before .check .ensures) (c .before .before .before .before .before .before .before .before .before .before .before .before .look .ensures) (c .before .before .before .before .before .before .before .before .before .before .before .wide3 .ensures) (c .before .before .before .before .before .before .before .before .before .first .ensures) (c .before .before .before .before .before .before .before .before .first2 .ensures) (c .before .before .before .before .before .before .before .first3 .ensures)) (c .before .before .before .before .before .before .if1 .left)
-    ((c .answered .ensures) ∙ ap (λ (x : ℕ). said 0 x 0) (result (c .before .before .before .before .before .before .before .before .before .before .before .before .before .before .before .before .before .before .before .pre) _ buffer (c .before .before .before .before .before .before .before .before .before .before .before .before .before .before .before .before .before .wide .ensures) (c .before .before .before .before .before .before .before .before .before .before .before .before .before .before .before .before .in-process .ensures) (c .before .before .before .before .before .before .before .before .before .before .before .before .before .check .ensures) (c .before .before .before .before .before .before .before .before .before .before .before .before .look .ensures) (c .before .before .before .before .before .before .before .before .before .before .before .wide3 .ensures) (c .before .before .before .before .before .before .before .before .before .first .ensures) (c .before .before .before .before .before .before .before .before .first2 .ensures) (c .before .before .before .before .before .before .before .first3 .ensures) (c .before .before .before .before .before .before .if1 .left) (c .before .before .before .before .before .before .before .before .before .before .before .before .before .before .before .wide2 .ensures) (c .before .before .before .before .before .before .before .before .before .before .before .before .before .before .in-process2 .ensures) (c .before .before .before .before .before .asks-read .ensures) (c .before .before .before .before .may-read .ensures) (c .before .before .before .asks-write .ensures) (c .before .before .may-write .ensures) (c .before .access .ensures))) refl
+returns-2 c = λ buffer. left-done _ (λ h q. accessOf h q _ _ buffer) (counted (judged (c .before)) buffer)
+    (c .before .before .before .before .before .before .if1 .left) ((c .answered .ensures) ∙ ap (λ (x : ℕ). said 0 x 0) (answer
+    (c .before) buffer)) refl
 
 pub access-of-spec : {M : Type 1} → statement M
 access-of-spec =
     tie.close
     (tie.spec
-    wide-requires
-    mul-in-process
-    add-in-process
-    in-process-requires
-    add-in-process-2
-    wide-requires-2
-    mul-in-process-2
-    add-in-process-3
-    in-process-requires-2
-    check-requires
+    entry-of-requires
     look-requires
-    wide-requires-3
-    first-requires
-    first-requires-2
-    first-requires-3
+    wide-requires
+    or-refuse-requires
+    or-refuse-requires-2
+    or-refuse-requires-3
     refused-requires
     returns
     asks-read-requires

@@ -1,118 +1,138 @@
 -- `segments::build_segment` meets its contract: the rule's refusals in order, the new segment and its designator.
-use mathlib.Core.Path.{_≡_, refl, sym, _∙_}
-use mathlib.Core.Bool.{Bool, cond, _||_, not}
-use mathlib.Core.List.{List, []}
-use Prim.Native.Nat.{ℕ, _+_, _*_, _/_, _<_}
-use lib.Dec.{leb, ltb}
+use mathlib.Core.Path.{_≡_, refl, sym, ap, _∙_}
+use mathlib.Core.Bool.{false, _||_, not}
+use mathlib.Core.List.{List, [], _∷_}
+use Prim.Native.Nat.{ℕ, _+_}
+use native.Mathlib.Omega.{arith}
+use lib.Dec.{ltb, leb}
 use lib.ListN.{set}
-use Rattle.rules.specs.Rule.{firstRefusal, write}
-use Rattle.calls.specs.declared.World.{World}
-use Rattle.calls.specs.Left.{said, ruleAt}
-use Rattle.calls.proofs.Leaves.{left-refused, left-done}
-use Rattle.rules.specs.Layout.{maxBits, maxSerial, process, segment, configuration, slots, cellSlots, firstSlot, cellOf, at, offset, rd, serial, owner, group, entries, heldAt}
-use Rattle.rules.specs.Seid.{class, seid}
-use Rattle.rules.specs.Rights.{mayRead, mayWrite, access}
+use Rattle.rules.specs.Layout.{maxBits, process, segment, configuration, cellOf, at, offset, entries, heldAt, serial, owner, group}
+use Rattle.rules.specs.Seid.{class}
 use Rattle.rules.specs.WellFormed.{segmentSize}
+use Rattle.rules.specs.Errors.{XbParam, XbSgSz, XodSpace, XnoSpace}
+use Rattle.rules.specs.Rule.{Refusal, _⇒_, firstRefusal, write}
 use Rattle.rules.specs.Find.{freeSlot, freeEntry, entered}
 use Rattle.rules.specs.Call03.{buildSegment}
 use Rattle.ids.specs.Seid.{seidOf}
-use Rattle.calls.specs.World.{offsetBy, rdBy, Known, Sound}
-use Rattle.calls.specs.Finds.{madeAt}
-use Rattle.calls.proofs.Worlds.{see, spot}
-use Rattle.calls.proofs.Given.{a-segment}
-use Rattle.calls.proofs.Entries.{not-chosen}
-use Rattle.calls.proofs.Room.{slot-told, end-told, free-ok, new-seid}
+use Rattle.layout.specs.declared.Header.{Header}
+use Rattle.layout.specs.Header.{recordOf}
+use Rattle.calls.specs.declared.Caller.{Caller}
+use Rattle.calls.specs.declared.room.Slot.{Slot}
+use Rattle.calls.specs.World.{Known, Sound, wordsOf}
+use Rattle.calls.specs.Left.{said, ruleAt}
+use Rattle.calls.specs.Seen.{slotFound}
+use Rattle.calls.specs.Entries.{madeAt}
+use Rattle.calls.specs.Calls.{ownerAccess}
+use Rattle.calls.proofs.Worlds.{spot}
+use Rattle.calls.proofs.Refusals.{refusing-first, clear-of}
+use Rattle.calls.proofs.Leaves.{left-refused, left-done}
+use Rattle.calls.proofs.Given.{begins}
 use Rattle.calls.proofs.Holders.{made-is, entered-is}
-use Rattle.calls.proofs.SegmentsLaws.{searching}
-use native.Mathlib.Omega.{arith}
+use Rattle.calls.proofs.Searches.{serial-rises, new-seid}
 use borrow.Author.Needs.{needs}
 use Rattle.calls.proofs.segments.build_segment.Statement.{statement}
 use Rattle.calls.proofs.segments.build_segment.Tie as tie
 
--- d is the empty designator, and y its number; g the free slot, end the end of the run of the caller's cell
-module _ {t : List ℕ} {w : World} (sound : Sound t w) (a b c : ℕ) (buffer : List ℕ) {d y g end x₁ x₂ x₃ e : ℕ} {sz : Bool}
-    (de : d ≡ freeEntry (rd (configuration t) t) segment (w .me))
-    (ge : g ≡ freeSlot (configuration t) (rd (configuration t) t) segment (cellOf (configuration t) process (w .me)))
-    (ende : end ≡ firstSlot (configuration t) segment (cellOf (configuration t) process (w .me)) + cellSlots (configuration t) segment (cellOf (configuration t) process (w .me)))
-    (sze : sz ≡ segmentSize a) (ye : y ≡ d) (e₁ : x₁ ≡ cond (leb end g) 26 0) (e₂ : x₂ ≡ cond (leb entries y) 25 x₁) (e₃ : x₃ ≡ cond (not sz) 6 x₂)
-    (e₄ : e ≡ cond (ltb maxBits b || ltb 1 c) 4 x₃) where
-  -- the number that the code finds is the rule's first refusal
-  number : e ≡ firstRefusal (ruleAt t (λ h r. buildSegment h r (w .me) a b c buffer) .refusals)
+-- the code's tests: d is the empty designator, g the slot found
+abbrev tests : ℕ → ℕ → ℕ → ℕ → Slot → List Refusal
+tests a b c d g = (ltb maxBits b || ltb 1 c ⇒ XbParam) ∷ (not (segmentSize a) ⇒ XbSgSz) ∷ (leb entries d ⇒ XodSpace) ∷ (g .none ⇒ XnoSpace) ∷ []
+
+module _ {t : List ℕ} {n : Header} {p : Caller} (sound : Sound t n p) (a b c : ℕ) (buffer : List ℕ) {d : ℕ} {g : Slot}
+    (empty : d ≡ freeEntry (wordsOf t) segment (p .slot)) (slot : g ≡ slotFound (configuration t) (wordsOf t) segment (p .cell)) where
+  -- the first of the code's refusals is the rule's
+  number : firstRefusal (tests a b c d g) ≡ firstRefusal (ruleAt t (λ h q. buildSegment h q (p .slot) a b c buffer) .refusals)
   unfolding buildSegment
-  number = rw (e₄, e₃, e₂, e₁, sze, ye, de, ende, ge)
+  number = rw (slot, empty, sound .home)
 
-  -- where there is none, there is a slot
-  room : e ≡ 0 → (g < slots (configuration t) segment) × (rd (configuration t) t (at segment g serial) < maxSerial)
-  room z =
-      let p = not-chosen (ltb maxBits b || ltb 1 c) 4 x₃ (omega arith) (sym e₄ ∙ z) in
-      let p₁ = not-chosen (not sz) 6 x₂ (omega arith) (sym e₃ ∙ p .1) in
-      let p₂ = not-chosen (leb entries y) 25 x₁ (omega arith) (sym e₂ ∙ p₁ .1) in
-      free-ok sound segment ge ende (not-chosen (leb end g) 26 0 (omega arith) (sym e₁ ∙ p₂ .1) .0)
+  index : g .index ≡ freeSlot (configuration t) (wordsOf t) segment (cellOf (configuration t) process (p .slot))
+  index = ap (λ (x : Slot). x .index) slot ∙ rw (sound .home)
 
-  -- the answer and the words written are the rule's; x is the slot's serial, s the seid
-  module _ (z : e ≡ 0) {x s : ℕ} (xe : x ≡ rdBy w t (at segment g serial)) (se : s ≡ seidOf (class segment) g (x + 1)) where
-    result : said 0 s d ≡ said 0 (ruleAt t (λ h r. buildSegment h r (w .me) a b c buffer) .effects .first) (ruleAt t (λ h r. buildSegment h r (w .me) a b c buffer) .effects .second)
+  -- where there is none, the answer and the words written are the rule's; x is the slot's serial, s the seid made
+  module _ (room : g .none ≡ false) {x s : ℕ} (old : x ≡ wordsOf t (at segment (g .index) serial))
+      (made : s ≡ seidOf (class segment) (g .index) (x + 1)) where
+    result : said 0 s d ≡ said 0 (ruleAt t (λ h q. buildSegment h q (p .slot) a b c buffer) .effects .first)
+        (ruleAt t (λ h q. buildSegment h q (p .slot) a b c buffer) .effects .second)
     unfolding buildSegment
-    result = rw (new-seid sound segment (room z) xe se .1, ge, de)
+    result = rw (← index, ← empty) (ap (λ (y : ℕ). said 0 y d) (new-seid sound segment slot room old made))
 
-    words : {u v place n entry y′ : ℕ} {mr mw : Bool} {t₁ t₂ : List ℕ} → y′ ≡ d → entry ≡ offsetBy w (at process (w .me) (40 + 2 * y′))
-        → u ≡ rdBy w t (at process (w .me) owner) → v ≡ rdBy w t (at process (w .me) group) → place ≡ offsetBy w (at segment g 0)
-        → t₁ ≡ madeAt t place (x + 1) u v b c a → mr ≡ mayRead (b / 64) → mw ≡ mayWrite (b / 64) → n ≡ access mr mw
-        → t₂ ≡ set (set t₁ entry s) (entry + 1) n
-        → t₂ ≡ write (configuration t) t (ruleAt t (λ h r. buildSegment h r (w .me) a b c buffer) .effects .words)
+    words : {u v place entry access : ℕ} {t₁ t₂ : List ℕ} → u ≡ wordsOf t (at process (p .slot) owner) → v ≡ wordsOf t (at process (p .slot) group)
+        → place ≡ recordOf n segment (g .index) → t₁ ≡ madeAt t place (x + 1) u v b c a → entry ≡ recordOf n process (p .slot) + heldAt segment d
+        → access ≡ ownerAccess b → t₂ ≡ set (set t₁ entry s) (entry + 1) access
+        → t₂ ≡ write (configuration t) t (ruleAt t (λ h q. buildSegment h q (p .slot) a b c buffer) .effects .words)
     unfolding buildSegment
-    words {u} {v} {place} {n} {entry} {y′} {mr} {mw} {t₁} {t₂} ye′ ee ue ve le f₁ mre mwe ne f₂ =
+    words {u} {v} {place} {entry} {access} {t₁} {t₂} mine ours begin record-made at-entry used filled =
         let h : List ℕ = configuration t in
-        let k : Known t w = sound .known in
-        let xr : x ≡ rd h t (at segment g serial) = xe ∙ see k (at segment g serial) in
-        let sr = new-seid sound segment (room z) xe se .1 in
-        let er : entry ≡ offset h (at process (w .me) (heldAt segment d)) = ee ∙ spot k (at process (w .me) (40 + 2 * y′)) ∙ rw ye′ in
-        let made : t₁ ≡ madeAt t (offset h (at segment g 0)) (x + 1) u v b c a = f₁ ∙ rw (le, spot k (at segment g 0)) in
-        let filled : t₂ ≡ write h t₁ (entered segment (w .me) d s n) = f₂ ∙ rw er (sym (entered-is h t₁ (w .me) d s n [] a-segment)) in
-        rw (← ge, ← de, ← sr, ← mwe, ← mre, ← ne, ← xr, ← see k (at process (w .me) owner), ← see k (at process (w .me) group), ← ue, ← ve)
-        (filled ∙ rw made (sym (made-is h t segment g (x + 1) u v b c a (entered segment (w .me) d s n))))
+        let known : Known t n = sound .known in
+        let seid-is = new-seid sound segment slot room old made in
+        let made-at : t₁ ≡ madeAt t (offset h (at segment (g .index) 0)) (x + 1) u v b c a = record-made ∙ rw (begin, begins known segment (g .index)) in
+        let entry-is : entry ≡ offset h (at process (p .slot) (heldAt segment d)) = at-entry ∙ spot known (at process (p .slot) (heldAt segment d)) in
+        let entered-at : t₂ ≡ write h t₁ (entered segment (p .slot) d s access) =
+        filled ∙ rw entry-is (sym (entered-is h t₁ segment (p .slot) d s access [] refl)) in
+        rw (← index, ← empty, ← seid-is, ← old, ← used, ← mine, ← ours)
+        (entered-at ∙ rw made-at (sym (made-is h t segment (g .index) (x + 1) u v b c a (entered segment (p .slot) d s access))))
 
-free-designator-requires : tie.Need-free-designator-requires
-free-designator-requires c κs = search needs
+abbrev start : tie.After-or-refuse4 → tie.Start
+start c = c .before .before .before .before .before .before .before .before .before
 
-wide-requires : tie.Need-wide-requires
-wide-requires c κs = search needs
+abbrev passed-by : tie.After-make → tie.Else1
+passed-by c = c .before .before .before .before .before .before .before .before .before .before
 
-mul-process-place : tie.Need-mul-process-place
-mul-process-place c = search needs
+abbrev made : tie.After-enter → tie.After-make
+made c = c .before .before .before .before .before .before
 
-add-process-place : tie.Need-add-process-place
-add-process-place c = search needs
+found : (c : tie.After-or-refuse4) → (c .or-refuse4 .result) ≡ firstRefusal (tests
+    (c .before .before .before .before .before .before .before .before .before .args .size)
+    (c .before .before .before .before .before .before .before .before .before .args .bits)
+    (c .before .before .before .before .before .before .before .before .before .args .sharable)
+    (c .before .before .before .before .before .before .free-entry .result)
+    (c .before .before .before .before .before .before .before .before .before .args .g))
+found c = rw (
+  c .or-refuse4 .ensures,
+  c .before .or-refuse3 .ensures,
+  c .before .before .before .or-refuse2 .ensures,
+  c .before .before .before .before .before .or-refuse .ensures,
+  c .before .before .wide .ensures,
+  c .before .before .before .before .is-size .ensures,
+) (refusing-first (tests
+    (c .before .before .before .before .before .before .before .before .before .args .size)
+    (c .before .before .before .before .before .before .before .before .before .args .bits)
+    (c .before .before .before .before .before .before .before .before .before .args .sharable)
+    (c .before .before .before .before .before .before .free-entry .result)
+    (c .before .before .before .before .before .before .before .before .before .args .g)) refl)
 
-process-place-requires : tie.Need-process-place-requires
-process-place-requires c κs = search needs
+counted : (c : tie.After-or-refuse4) (buffer : List ℕ) → (c .or-refuse4 .result) ≡ firstRefusal (ruleAt (start c .args .t .now)
+    (λ h q. buildSegment h q (start c .args .c .slot) (start c .args .size) (start c .args .bits) (start c .args .sharable) buffer) .refusals)
+counted c buffer = found c ∙ number (start c .pre .0) _ _ _ buffer (c .before .before .before .before .before .before .free-entry .ensures)
+    (start c .pre .1)
 
-segment-base-requires : tie.Need-segment-base-requires
-segment-base-requires c κs = search needs
+passed : (c : tie.Else1) → firstRefusal (tests (start (c .before) .args .size) (start (c .before) .args .bits) (start (c .before) .args .sharable)
+    (c .before .before .before .before .before .before .before .free-entry .result) (start (c .before) .args .g)) ≡ 0
+passed c = sym (found (c .before)) ∙ (c .if1 .left)
 
-free-slot-requires : tie.Need-free-slot-requires
-free-slot-requires c κs = (searching (c .before .before .before .before .before .before .before .pre) segment, (omega arith, omega arith))
+room : (c : tie.Else1) → (start (c .before) .args .g .none) ≡ false
+room c = clear-of (tests (start (c .before) .args .size) (start (c .before) .args .bits) (start (c .before) .args .sharable)
+    (c .before .before .before .before .before .before .before .free-entry .result) (start (c .before) .args .g)) refl (passed c) .1 .1 .1 .0
 
-run-end-requires : tie.Need-run-end-requires
-run-end-requires c κs = searching (c .before .before .before .before .before .before .before .before .before .pre) segment
+free-entry-requires : tie.Need-free-entry-requires
+free-entry-requires c κs = search needs
+
+or-refuse-requires : tie.Need-or-refuse-requires
+or-refuse-requires c κs = search needs
 
 is-size-requires : tie.Need-is-size-requires
 is-size-requires c κs = search needs
 
-wide-requires-2 : tie.Need-wide-requires-2
-wide-requires-2 c κs = search needs
+or-refuse-requires-2 : tie.Need-or-refuse-requires-2
+or-refuse-requires-2 c κs = search needs
 
-first-requires : tie.Need-first-requires
-first-requires c κs = search needs
+wide-requires : tie.Need-wide-requires
+wide-requires c κs = search needs
 
-first-requires-2 : tie.Need-first-requires-2
-first-requires-2 c κs = search needs
+or-refuse-requires-3 : tie.Need-or-refuse-requires-3
+or-refuse-requires-3 c κs = search needs
 
-first-requires-3 : tie.Need-first-requires-3
-first-requires-3 c κs = search needs
-
-first-requires-4 : tie.Need-first-requires-4
-first-requires-4 c κs = search needs
+or-refuse-requires-4 : tie.Need-or-refuse-requires-4
+or-refuse-requires-4 c κs = search needs
 
 refused-requires : tie.Need-refused-requires
 refused-requires c κs = search needs
@@ -121,40 +141,43 @@ same-length : tie.Need-same-length
 same-length c = search needs
 
 returns : tie.Need-returns
-returns c = λ buffer. left-refused _ _ (number (c .before .before .before .before .before .before .before .before .before .before .before .before .before .before .before .before .before .before .pre) (c .before .before .before .before .before .before .before .before .before .before .before .before .before .before .before .before .before .before .args .a) (c .before .before .before .before .before .before .before .before .before .before .before .before .before .before .before .before .before .before .args .b) (c .before .before .before .before .before .before .before .before .before .before .before .before .before .before .before .before .before .before .args .c) buffer (c .before .before .before .before .before .before .before .before .before .before .before .before .before .before .before .free-designator .ensures) (slot-told (c .before .before .before .before .before .before .before .before .before .before .before .before .before .before .before .before .before .before .pre .known) segment (c .before .before .before .before .before .before .before .before .before .before .before .segment-base .ensures .0) refl (c .before .before .before .before .before .before .before .before .before .before .free-slot .ensures)) (end-told (c .before .before .before .before .before .before .before .before .before .before .before .before .before .before .before .before .before .before .pre .known) segment (c .before .before .before .before .before .before .before .before .run-end .ensures)) (c .before .before .before .before .before .before .before .is-size .ensures) (c .before .before .before .before .before .before .wide2 .ensures) (c .before .before .before .before .before .first .ensures) (c .before .before .before .before .first2 .ensures) (c .before .before .before .first3 .ensures) (c .before .before .first4 .ensures)) (c .before .if1 .taken) (c .refused .ensures)
+returns c = λ buffer. left-refused _ _ (counted (c .before .before) buffer) (c .before .if1 .taken) (c .refused .ensures)
 
-in-segment-requires : tie.Need-in-segment-requires
-in-segment-requires c κs = search needs
+read-requires : tie.Need-read-requires
+read-requires c κs = search needs
 
 add-serial : tie.Need-add-serial
-add-serial c = record { fits = omega (arith, new-seid (c .before .before .before .before .before .before .before .before .before .before .before .before .before .before .before .before .before .before .before .pre) segment (room (c .before .before .before .before .before .before .before .before .before .before .before .before .before .before .before .before .before .before .before .pre) (c .before .before .before .before .before .before .before .before .before .before .before .before .before .before .before .before .before .before .before .args .a) (c .before .before .before .before .before .before .before .before .before .before .before .before .before .before .before .before .before .before .before .args .b) (c .before .before .before .before .before .before .before .before .before .before .before .before .before .before .before .before .before .before .before .args .c) [] (c .before .before .before .before .before .before .before .before .before .before .before .before .before .before .before .before .free-designator .ensures) (slot-told (c .before .before .before .before .before .before .before .before .before .before .before .before .before .before .before .before .before .before .before .pre .known) segment (c .before .before .before .before .before .before .before .before .before .before .before .before .segment-base .ensures .0) refl (c .before .before .before .before .before .before .before .before .before .before .before .free-slot .ensures)) (end-told (c .before .before .before .before .before .before .before .before .before .before .before .before .before .before .before .before .before .before .before .pre .known) segment (c .before .before .before .before .before .before .before .before .before .run-end .ensures)) (c .before .before .before .before .before .before .before .before .is-size .ensures) (c .before .before .before .before .before .before .before .wide2 .ensures) (c .before .before .before .before .before .before .first .ensures) (c .before .before .before .before .before .first2 .ensures) (c .before .before .before .before .first3 .ensures) (c .before .before .before .first4 .ensures) (c .before .before .if1 .left)) (c .in-segment .ensures) refl .0) }
+add-serial c = record {
+  fits = omega (
+    arith,
+    serial-rises (start (c .before .before .before) .pre .0) segment (start
+        (c .before .before .before) .pre .1) (room (c .before .before)) (c .read .ensures),
+  );
+}
+
+read-requires-2 : tie.Need-read-requires-2
+read-requires-2 c κs = search needs
+
+read-requires-3 : tie.Need-read-requires-3
+read-requires-3 c κs = search needs
 
 seid-requires : tie.Need-seid-requires
 seid-requires c κs = search needs
 
-in-process-requires : tie.Need-in-process-requires
-in-process-requires c κs = search needs
-
-in-process-requires-2 : tie.Need-in-process-requires-2
-in-process-requires-2 c κs = search needs
-
-segment-place-requires : tie.Need-segment-place-requires
-segment-place-requires c κs = search needs
+record-at-requires : tie.Need-record-at-requires
+record-at-requires c κs = search needs
 
 make-requires : tie.Need-make-requires
 make-requires c κs = search needs
 
-may-read-requires : tie.Need-may-read-requires
-may-read-requires c κs = search needs
+entry-at-requires : tie.Need-entry-at-requires
+entry-at-requires c κs = search needs
 
-may-write-requires : tie.Need-may-write-requires
-may-write-requires c κs = search needs
-
-access-requires : tie.Need-access-requires
-access-requires c κs = search needs
+owner-access-requires : tie.Need-owner-access-requires
+owner-access-requires c κs = search needs
 
 enter-requires : tie.Need-enter-requires
-enter-requires c κs = (c .before .before .before .before .before .before .before .before .before .before .before .before .before .before .before .before .before .before .before .before .before .before .before .before .before .before .before .before .process-place .ensures .1)
+enter-requires c κs = c .before .entry-at .ensures .1
 
 answered-requires : tie.Need-answered-requires
 answered-requires c κs = search needs
@@ -164,41 +187,48 @@ same-length-2 c = search needs
 
 returns-2 : tie.Need-returns-2
 unfolding buildSegment
-returns-2 c = λ buffer. left-done _ (λ h r. buildSegment h r _ _ _ _ buffer) (number (c .before .before .before .before .before .before .before .before .before .before .before .before .before .before .before .before .before .before .before .before .before .before .before .before .before .before .before .before .before .before .before .before .before .before .before .before .before .pre) (c .before .before .before .before .before .before .before .before .before .before .before .before .before .before .before .before .before .before .before .before .before .before .before .before .before .before .before .before .before .before .before .before .before .before .before .before .before .args .a) (c .before .before .before .before .before .before .before .before .before .before .before .before .before .before .before .before .before .before .before .before .before .before .before .before .before .before .before .before .before .before .before .before .before .before .before .before .before .args .b) (c .before .before .before .before .before .before .before .before .before .before .before .before .before .before .before .before .before .before .before .before .before .before .before .before .before .before .before .before .before .before .before .before .before .before .before .before .before .args .c) buffer (c .before .before .before .before .before .before .before .before .before .before .before .before .before .before .before .before .before .before .before .before .before .before .before .before .before .before .before .before .before .before .before .before .before .before .free-designator .ensures) (slot-told (c .before .before .before .before .before .before .before .before .before .before .before .before .before .before .before .before .before .before .before .before .before .before .before .before .before .before .before .before .before .before .before .before .before .before .before .before .before .pre .known) segment (c .before .before .before .before .before .before .before .before .before .before .before .before .before .before .before .before .before .before .before .before .before .before .before .before .before .before .before .before .before .before .segment-base .ensures .0) refl (c .before .before .before .before .before .before .before .before .before .before .before .before .before .before .before .before .before .before .before .before .before .before .before .before .before .before .before .before .before .free-slot .ensures)) (end-told (c .before .before .before .before .before .before .before .before .before .before .before .before .before .before .before .before .before .before .before .before .before .before .before .before .before .before .before .before .before .before .before .before .before .before .before .before .before .pre .known) segment (c .before .before .before .before .before .before .before .before .before .before .before .before .before .before .before .before .before .before .before .before .before .before .before .before .before .before .before .run-end .ensures)) (c .before .before .before .before .before .before .before .before .before .before .before .before .before .before .before .before .before .before .before .before .before .before .before .before .before .before .is-size .ensures) (c .before .before .before .before .before .before .before .before .before .before .before .before .before .before .before .before .before .before .before .before .before .before .before .before .before .wide2 .ensures) (c .before .before .before .before .before .before .before .before .before .before .before .before .before .before .before .before .before .before .before .before .before .before .before .before .first .ensures) (c .before .before .before .before .before .before .before .before .before .before .before .before .before .before .before .before .before .before .before .before .before .before .before .first2 .ensures) (c .before .before .before .before .before .before .before .before .before .before .before .before .before .before .before .before .before .before .before .before .before .before .first3 .ensures) (c .before .before .before .before .before .before .before .before .before .before .before .before .before .before .before .before .before .before .before .before .before .first4 .ensures)) (c .before .before .before .before .before .before .before .before .before .before .before .before .before .before .before .before .before .before .before .before .if1 .left)
-    ((c .answered .ensures) ∙ result (c .before .before .before .before .before .before .before .before .before .before .before .before .before .before .before .before .before .before .before .before .before .before .before .before .before .before .before .before .before .before .before .before .before .before .before .before .before .pre) (c .before .before .before .before .before .before .before .before .before .before .before .before .before .before .before .before .before .before .before .before .before .before .before .before .before .before .before .before .before .before .before .before .before .before .before .before .before .args .a) (c .before .before .before .before .before .before .before .before .before .before .before .before .before .before .before .before .before .before .before .before .before .before .before .before .before .before .before .before .before .before .before .before .before .before .before .before .before .args .b) (c .before .before .before .before .before .before .before .before .before .before .before .before .before .before .before .before .before .before .before .before .before .before .before .before .before .before .before .before .before .before .before .before .before .before .before .before .before .args .c) buffer (c .before .before .before .before .before .before .before .before .before .before .before .before .before .before .before .before .before .before .before .before .before .before .before .before .before .before .before .before .before .before .before .before .before .before .free-designator .ensures) (slot-told (c .before .before .before .before .before .before .before .before .before .before .before .before .before .before .before .before .before .before .before .before .before .before .before .before .before .before .before .before .before .before .before .before .before .before .before .before .before .pre .known) segment (c .before .before .before .before .before .before .before .before .before .before .before .before .before .before .before .before .before .before .before .before .before .before .before .before .before .before .before .before .before .before .segment-base .ensures .0) refl (c .before .before .before .before .before .before .before .before .before .before .before .before .before .before .before .before .before .before .before .before .before .before .before .before .before .before .before .before .before .free-slot .ensures)) (end-told (c .before .before .before .before .before .before .before .before .before .before .before .before .before .before .before .before .before .before .before .before .before .before .before .before .before .before .before .before .before .before .before .before .before .before .before .before .before .pre .known) segment (c .before .before .before .before .before .before .before .before .before .before .before .before .before .before .before .before .before .before .before .before .before .before .before .before .before .before .before .run-end .ensures)) (c .before .before .before .before .before .before .before .before .before .before .before .before .before .before .before .before .before .before .before .before .before .before .before .before .before .before .is-size .ensures) (c .before .before .before .before .before .before .before .before .before .before .before .before .before .before .before .before .before .before .before .before .before .before .before .before .before .wide2 .ensures) (c .before .before .before .before .before .before .before .before .before .before .before .before .before .before .before .before .before .before .before .before .before .before .before .before .first .ensures) (c .before .before .before .before .before .before .before .before .before .before .before .before .before .before .before .before .before .before .before .before .before .before .before .first2 .ensures) (c .before .before .before .before .before .before .before .before .before .before .before .before .before .before .before .before .before .before .before .before .before .before .first3 .ensures) (c .before .before .before .before .before .before .before .before .before .before .before .before .before .before .before .before .before .before .before .before .before .first4 .ensures) (c .before .before .before .before .before .before .before .before .before .before .before .before .before .before .before .before .before .before .before .before .if1 .left) (c .before .before .before .before .before .before .before .before .before .before .before .before .before .before .before .before .before .before .in-segment .ensures) (c .before .before .before .before .before .before .before .before .before .before .before .before .before .before .before .before .before .seid .ensures))
-    (words (c .before .before .before .before .before .before .before .before .before .before .before .before .before .before .before .before .before .before .before .before .before .before .before .before .before .before .before .before .before .before .before .before .before .before .before .before .before .pre) (c .before .before .before .before .before .before .before .before .before .before .before .before .before .before .before .before .before .before .before .before .before .before .before .before .before .before .before .before .before .before .before .before .before .before .before .before .before .args .a) (c .before .before .before .before .before .before .before .before .before .before .before .before .before .before .before .before .before .before .before .before .before .before .before .before .before .before .before .before .before .before .before .before .before .before .before .before .before .args .b) (c .before .before .before .before .before .before .before .before .before .before .before .before .before .before .before .before .before .before .before .before .before .before .before .before .before .before .before .before .before .before .before .before .before .before .before .before .before .args .c) buffer (c .before .before .before .before .before .before .before .before .before .before .before .before .before .before .before .before .before .before .before .before .before .before .before .before .before .before .before .before .before .before .before .before .before .before .free-designator .ensures) (slot-told (c .before .before .before .before .before .before .before .before .before .before .before .before .before .before .before .before .before .before .before .before .before .before .before .before .before .before .before .before .before .before .before .before .before .before .before .before .before .pre .known) segment (c .before .before .before .before .before .before .before .before .before .before .before .before .before .before .before .before .before .before .before .before .before .before .before .before .before .before .before .before .before .before .segment-base .ensures .0) refl (c .before .before .before .before .before .before .before .before .before .before .before .before .before .before .before .before .before .before .before .before .before .before .before .before .before .before .before .before .before .free-slot .ensures)) (end-told (c .before .before .before .before .before .before .before .before .before .before .before .before .before .before .before .before .before .before .before .before .before .before .before .before .before .before .before .before .before .before .before .before .before .before .before .before .before .pre .known) segment (c .before .before .before .before .before .before .before .before .before .before .before .before .before .before .before .before .before .before .before .before .before .before .before .before .before .before .before .run-end .ensures)) (c .before .before .before .before .before .before .before .before .before .before .before .before .before .before .before .before .before .before .before .before .before .before .before .before .before .before .is-size .ensures) (c .before .before .before .before .before .before .before .before .before .before .before .before .before .before .before .before .before .before .before .before .before .before .before .before .before .wide2 .ensures) (c .before .before .before .before .before .before .before .before .before .before .before .before .before .before .before .before .before .before .before .before .before .before .before .before .first .ensures) (c .before .before .before .before .before .before .before .before .before .before .before .before .before .before .before .before .before .before .before .before .before .before .before .first2 .ensures) (c .before .before .before .before .before .before .before .before .before .before .before .before .before .before .before .before .before .before .before .before .before .before .first3 .ensures) (c .before .before .before .before .before .before .before .before .before .before .before .before .before .before .before .before .before .before .before .before .before .first4 .ensures) (c .before .before .before .before .before .before .before .before .before .before .before .before .before .before .before .before .before .before .before .before .if1 .left) (c .before .before .before .before .before .before .before .before .before .before .before .before .before .before .before .before .before .before .in-segment .ensures) (c .before .before .before .before .before .before .before .before .before .before .before .before .before .before .before .before .before .seid .ensures) (c .before .before .before .before .before .before .before .before .before .before .before .before .before .before .before .before .before .before .before .before .before .before .before .before .before .before .before .before .before .before .before .before .before .wide .ensures) (c .before .before .before .before .before .before .before .before .before .before .before .before .before .before .before .before .before .before .before .before .before .before .before .before .before .before .before .before .before .before .before .before .process-place .ensures .0) (c .before .before .before .before .before .before .before .before .before .before .before .before .before .before .before .in-process .ensures) (c .before .before .before .before .before .before .before .before .before .before .before .before .before .in-process2 .ensures) (c .before .before .before .before .before .before .before .before .before .before .before .segment-place .ensures .0) (c .before .before .before .before .before .before .before .before .before .before .make .ensures) (c .before .before .before .before .before .before .before .may-read .ensures) (c .before .before .before .before .before .before .may-write .ensures) (c .before .before .before .before .before .access .ensures) (c .before .before .before .enter .ensures))
+returns-2 c = λ buffer. left-done _ (λ h q. buildSegment h q _ _ _ _ buffer) (counted (passed-by (made (c .before .before .before)) .before) buffer)
+    (passed-by (made (c .before .before .before)) .if1 .left) ((c .answered .ensures) ∙ result (start (passed-by (made
+    (c .before .before .before)) .before) .pre .0) (start (passed-by (made (c .before .before .before)) .before) .args .size) (start (passed-by
+    (made (c .before .before .before)) .before) .args .bits) (start (passed-by (made (c .before .before .before)) .before) .args .sharable) buffer
+    (passed-by (made (c .before .before .before)) .before .before .before .before .before .before .before .free-entry .ensures) (start (passed-by
+    (made (c .before .before .before)) .before) .pre .1) (room (passed-by (made (c .before .before .before)))) (made
+    (c .before .before .before) .before .before .before .before .before .before .before .before .read .ensures) (made
+    (c .before .before .before) .before .before .before .seid .ensures)) (words (start (passed-by (made
+    (c .before .before .before)) .before) .pre .0) (start (passed-by (made (c .before .before .before)) .before) .args .size) (start (passed-by
+    (made (c .before .before .before)) .before) .args .bits) (start (passed-by (made (c .before .before .before)) .before) .args .sharable) buffer
+    (passed-by (made (c .before .before .before)) .before .before .before .before .before .before .before .free-entry .ensures) (start (passed-by
+    (made (c .before .before .before)) .before) .pre .1) (room (passed-by (made (c .before .before .before)))) (made
+    (c .before .before .before) .before .before .before .before .before .before .before .before .read .ensures) (made
+    (c .before .before .before) .before .before .before .seid .ensures) (made
+    (c .before .before .before) .before .before .before .before .before .before .read2 .ensures) (made
+    (c .before .before .before) .before .before .before .before .read3 .ensures) (made (c .before .before .before) .before .record-at .ensures .0)
+    (made (c .before .before .before) .make .ensures) (c .before .before .before .before .before .entry-at .ensures .0)
+    (c .before .before .before .before .owner-access .ensures) (c .before .before .before .enter .ensures))
 
 pub build-segment-spec : {M : Type 1} → statement M
 build-segment-spec =
     tie.close
     (tie.spec
-    free-designator-requires
-    wide-requires
-    mul-process-place
-    add-process-place
-    process-place-requires
-    segment-base-requires
-    free-slot-requires
-    run-end-requires
+    free-entry-requires
+    or-refuse-requires
     is-size-requires
-    wide-requires-2
-    first-requires
-    first-requires-2
-    first-requires-3
-    first-requires-4
+    or-refuse-requires-2
+    wide-requires
+    or-refuse-requires-3
+    or-refuse-requires-4
     refused-requires
     same-length
     returns
-    in-segment-requires
+    read-requires
     add-serial
+    read-requires-2
+    read-requires-3
     seid-requires
-    in-process-requires
-    in-process-requires-2
-    segment-place-requires
+    record-at-requires
     make-requires
-    may-read-requires
-    may-write-requires
-    access-requires
+    entry-at-requires
+    owner-access-requires
     enter-requires
     answered-requires
     same-length-2

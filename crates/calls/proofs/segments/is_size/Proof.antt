@@ -9,4 +9,7 @@ unfolding segmentSize
 returns c = refl
 
 pub is-size-spec : {M : Type 1} → statement M
-is-size-spec = tie.close (tie.spec returns)
+is-size-spec =
+    tie.close
+    (tie.spec
+    returns)

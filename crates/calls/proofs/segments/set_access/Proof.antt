@@ -1,64 +1,92 @@
 -- `segments::set_access` meets its contract: the rule's refusals in order, and the access stored.
-use mathlib.Core.Path.{_≡_, _∙_}
-use mathlib.Core.Bool.{Bool, cond, _&&_, not}
-use mathlib.Core.List.{List}
-use Prim.Native.Nat.{ℕ, _+_, _*_}
+use mathlib.Core.Path.{_≡_, refl, ap, _∙_}
+use mathlib.Core.Bool.{Bool, _&&_, not}
+use mathlib.Core.List.{List, [], _∷_}
+use Prim.Native.Nat.{ℕ, _+_}
 use lib.Dec.{leb, eqb}
-use lib.ListN.{set}
-use Rattle.rules.specs.Layout.{process, at, configuration, rd, entries}
-use Rattle.rules.specs.Rule.{firstRefusal, write}
-use Rattle.calls.specs.declared.World.{World}
-use Rattle.calls.specs.World.{offsetBy, rdBy, Known, Sound}
-use Rattle.calls.specs.Left.{ruleAt}
-use Rattle.rules.specs.Rights.{lacks, asksRead, asksWrite, validAccess}
-use Rattle.rules.specs.Call06.{setAccess}
-use Rattle.ids.specs.Seid.{segmentOf}
-use Rattle.ids.specs.declared.SegmentIs.{SegmentIs}
-use Rattle.calls.specs.declared.segments.Segment.{Segment}
-use Rattle.calls.specs.Seen.{seenSegment}
-use Rattle.calls.proofs.Worlds.{spot}
-use Rattle.calls.proofs.Leaves.{left-refused, left-done}
-use Rattle.calls.proofs.Entries.{segment-word}
-use Rattle.calls.proofs.SegmentsLaws.{after, seen-held}
+use Rattle.layout.specs.declared.Header.{Header}
+use Rattle.calls.specs.declared.Caller.{Caller}
+use Rattle.calls.specs.declared.entries.Entry.{Entry}
+use Rattle.calls.specs.declared.objects.Seen.{Seen}
+use Rattle.calls.specs.World.{Sound, wordsOf, Known}
+use Rattle.calls.specs.Entries.{entryOf}
+use Rattle.calls.specs.Seen.{namedOf, seenAs}
 use native.Mathlib.Omega.{arith}
+use lib.ListN.{set}
+use Rattle.layout.specs.Header.{recordOf}
+use Rattle.calls.specs.Refusing.{orRefuse}
+use Rattle.rules.specs.Layout.{usedAt, process, segment, configuration, at, entries, heldAt}
+use Rattle.rules.specs.Rule.{_≔_, write, Refusal, _⇒_, firstRefusal}
+use Rattle.rules.specs.Seid.{present}
+use Rattle.rules.specs.Rights.{lacks, asksRead, asksWrite, validAccess}
+use Rattle.rules.specs.Errors.{XbParam, XnSgDes, XbSgDes, XbSgSd, XnoAcc, XdapViol}
+use Rattle.rules.specs.Call06.{setAccess}
+use Rattle.calls.specs.Left.{ruleAt}
+use Rattle.calls.proofs.Refusals.{refusing-first}
+use Rattle.calls.proofs.Leaves.{left-refused, left-done}
+use Rattle.calls.proofs.SegmentsLaws.{after, entry-named}
+use Rattle.calls.proofs.Worlds.{spot}
 use borrow.Author.Needs.{needs}
 use Rattle.calls.proofs.segments.set_access.Statement.{statement}
 use Rattle.calls.proofs.segments.set_access.Tie as tie
 
--- y and z are the designator's number, s what it holds, g what is seen of that
-module _ {t : List ℕ} {w : World} (sound : Sound t w) (a b : ℕ) (buffer : List ℕ) {y z s x₁ x₂ x₃ x₄ x₅ e : ℕ} {i : SegmentIs} {g : Segment} {va aw ar aw′ la : Bool}
-    (ya : y ≡ a) (sr : s ≡ rdBy w t (at process (w .me) (40 + 2 * y))) (ie : i ≡ segmentOf (w .segments) s)
-    (ge : g ≡ seenSegment (configuration t) (rd (configuration t) t) (w .me) i) (vae : va ≡ validAccess b) (za : z ≡ a) (awe : aw ≡ asksWrite b)
-    (are : ar ≡ asksRead b) (awe′ : aw′ ≡ asksWrite b) (lae : la ≡ lacks (g .rights) ar aw′) (e₁ : x₁ ≡ cond la 16 0)
-    (e₂ : x₂ ≡ cond (aw && not (g .own)) 13 x₁) (e₃ : x₃ ≡ cond (not (g .present)) 11 x₂) (e₄ : x₄ ≡ cond (eqb s 0) 9 x₃)
-    (e₅ : x₅ ≡ cond (leb entries z) 8 x₄) (e₆ : e ≡ cond (not va) 4 x₅) where
-  -- the number that the code finds is the rule's first refusal
-  number : e ≡ firstRefusal (ruleAt t (λ h q. setAccess h q (w .me) a b buffer) .refusals)
-  unfolding setAccess
+-- the code's tests, of entry a and what is seen of what it holds
+abbrev tests : ℕ → ℕ → Entry → Seen → List Refusal
+tests a b d g =
+    (not (validAccess b) ⇒ XbParam) ∷ (leb entries a ⇒ XnSgDes) ∷ (eqb (d .held) 0 ⇒ XbSgDes) ∷ (not (g .present) ⇒ XbSgSd)
+    ∷ (asksWrite b && not (g .own) ⇒ XnoAcc) ∷ (lacks (g .rights) (asksRead b) (asksWrite b) ⇒ XdapViol) ∷ []
+
+-- d is the entry, g what is seen of what it holds
+module _ {t : List ℕ} {n : Header} {c : Caller} (sound : Sound t n c) (a b : ℕ) (buffer : List ℕ) {d : Entry} {g : Seen}
+    (entry : d ≡ entryOf (wordsOf t) segment (c .slot) a) (seen : g ≡ seenAs (configuration t) (wordsOf t) (c .slot) segment (namedOf n segment (d .held))) where
+  -- the first of the code's refusals is the rule's
+  number : firstRefusal (tests a b d g) ≡ firstRefusal (ruleAt t (λ h q. setAccess h q (c .slot) a b buffer) .refusals)
+  unfolding setAccess present
   number =
-      rw (← segment-word (sound .known) (w .me) a ya sr, e₆, e₅, e₄, e₃, e₂, e₁, lae, awe′, are, awe, za, vae)
-      (after (not (validAccess b)) 4 (λ _. after (leb entries a) 8 (λ l. after (eqb s 0) 9 (λ q. rw (seen-held sound a ya sr ie ge l q)))))
+      rw (seen, entry)
+      (after (not (validAccess b)) XbParam (λ v. after (leb entries a) XnSgDes
+      (λ l. after (eqb (wordsOf t (at process (c .slot) (heldAt segment a))) 0) XbSgDes
+      (λ s. rw (entry-named sound segment refl a l s)))))
+
+-- what the code finds, test after test
+chained : (a b : ℕ) (d : Entry) (g : Seen) {w e₁ e₂ e₃ e₄ e₅ e : ℕ} {may asks reads writes lacking : Bool} → may ≡ validAccess b → w ≡ a → asks ≡ asksWrite b
+    → reads ≡ asksRead b → writes ≡ asksWrite b → lacking ≡ lacks (g .rights) reads writes → e₁ ≡ orRefuse 0 (not may) XbParam
+    → e₂ ≡ orRefuse e₁ (leb entries w) XnSgDes → e₃ ≡ orRefuse e₂ (eqb (d .held) 0) XbSgDes → e₄ ≡ orRefuse e₃ (not (g .present)) XbSgSd
+    → e₅ ≡ orRefuse e₄ (asks && not (g .own)) XnoAcc → e ≡ orRefuse e₅ lacking XdapViol → e ≡ firstRefusal (tests a b d g)
+chained a b d g me we ae re re′ le f₁ f₂ f₃ f₄ f₅ f₆ = rw (f₆, f₅, f₄, f₃, f₂, f₁, le, re′, re, ae, we, me) (refusing-first (tests a b d g) refl)
 
 -- the word written is the rule's
-words : {t : List ℕ} {w : World} → Known t w → (p a b : ℕ) (buffer : List ℕ) {y : ℕ} → y ≡ a
-    → set t (offsetBy w (at process p (41 + 2 * y))) b ≡ write (configuration t) t (ruleAt t (λ h q. setAccess h q p a b buffer) .effects .words)
-unfolding setAccess
-words k p a b buffer {y} ya = rw (spot k (at process p (41 + 2 * y)), ya)
+stored : {t : List ℕ} {n : Header} → Known t n → (p a b : ℕ) {x : ℕ} → x ≡ recordOf n process p + heldAt segment a
+    → set t (x + 1) b ≡ write (configuration t) t ((at process p (usedAt segment a) ≔ b) ∷ [])
+stored {t} known p a b place = ap (λ (i : ℕ). set t i b) (omega (arith, spot known (at process p (usedAt segment a))))
 
-wide-requires : tie.Need-wide-requires
-wide-requires c κs = search needs
+abbrev tried : tie.After-or-refuse6 → tie.After-or-refuse3
+tried c = c .before .before .before .before .before .before .before .before .before
 
-mul-in-process : tie.Need-mul-in-process
-mul-in-process c = search needs
+abbrev looked : tie.After-or-refuse3 → tie.After-look
+looked c = c .before .before .before .before .before .before
 
-add-in-process : tie.Need-add-in-process
-add-in-process c = search needs
+abbrev start : tie.After-look → tie.Start
+start c = c .before .before .before .before .before
 
-in-process-requires : tie.Need-in-process-requires
-in-process-requires c κs = search needs
+found : (c : tie.After-or-refuse6) → (c .or-refuse6 .result) ≡ firstRefusal (tests (start (looked (tried c)) .args .a) (start (looked
+    (tried c)) .args .b) (looked (tried c) .before .before .entry-of .result) (looked (tried c) .look .result))
+found c = chained _ _ (looked (tried c) .before .before .entry-of .result) (looked (tried c) .look .result)
+    (tried c .before .before .before .before .before .valid-access .ensures) (tried c .before .before .before .wide .ensures)
+    (c .before .before .before .before .before .before .asks-write .ensures) (c .before .before .before .asks-read .ensures)
+    (c .before .before .asks-write2 .ensures) (c .before .lacks .ensures) (tried c .before .before .before .before .or-refuse .ensures)
+    (tried c .before .before .or-refuse2 .ensures) (tried c .or-refuse3 .ensures)
+    (c .before .before .before .before .before .before .before .or-refuse4 .ensures) (c .before .before .before .before .or-refuse5 .ensures)
+    (c .or-refuse6 .ensures)
 
-check-requires : tie.Need-check-requires
-check-requires c κs = search needs
+counted : (c : tie.After-or-refuse6) (buffer : List ℕ) → (c .or-refuse6 .result) ≡ firstRefusal (ruleAt (start (looked (tried c)) .args .t .now)
+    (λ h q. setAccess h q (start (looked (tried c)) .args .c .slot) (start (looked (tried c)) .args .a) (start (looked
+    (tried c)) .args .b) buffer) .refusals)
+counted c buffer = found c ∙ number (start (looked (tried c)) .pre .0) _ _ buffer (looked (tried c) .before .before .entry-of .ensures) (looked
+    (tried c) .look .ensures)
+
+entry-of-requires : tie.Need-entry-of-requires
+entry-of-requires c κs = search needs
 
 look-requires : tie.Need-look-requires
 look-requires c κs = search needs
@@ -66,11 +94,26 @@ look-requires c κs = search needs
 valid-access-requires : tie.Need-valid-access-requires
 valid-access-requires c κs = search needs
 
-wide-requires-2 : tie.Need-wide-requires-2
-wide-requires-2 c κs = search needs
+or-refuse-requires : tie.Need-or-refuse-requires
+or-refuse-requires c κs = search needs
+
+wide-requires : tie.Need-wide-requires
+wide-requires c κs = search needs
+
+or-refuse-requires-2 : tie.Need-or-refuse-requires-2
+or-refuse-requires-2 c κs = search needs
+
+or-refuse-requires-3 : tie.Need-or-refuse-requires-3
+or-refuse-requires-3 c κs = search needs
+
+or-refuse-requires-4 : tie.Need-or-refuse-requires-4
+or-refuse-requires-4 c κs = search needs
 
 asks-write-requires : tie.Need-asks-write-requires
 asks-write-requires c κs = search needs
+
+or-refuse-requires-5 : tie.Need-or-refuse-requires-5
+or-refuse-requires-5 c κs = search needs
 
 asks-read-requires : tie.Need-asks-read-requires
 asks-read-requires c κs = search needs
@@ -81,23 +124,8 @@ asks-write-requires-2 c κs = search needs
 lacks-requires : tie.Need-lacks-requires
 lacks-requires c κs = search needs
 
-first-requires : tie.Need-first-requires
-first-requires c κs = search needs
-
-first-requires-2 : tie.Need-first-requires-2
-first-requires-2 c κs = search needs
-
-first-requires-3 : tie.Need-first-requires-3
-first-requires-3 c κs = search needs
-
-first-requires-4 : tie.Need-first-requires-4
-first-requires-4 c κs = search needs
-
-first-requires-5 : tie.Need-first-requires-5
-first-requires-5 c κs = search needs
-
-first-requires-6 : tie.Need-first-requires-6
-first-requires-6 c κs = search needs
+or-refuse-requires-6 : tie.Need-or-refuse-requires-6
+or-refuse-requires-6 c κs = search needs
 
 refused-requires : tie.Need-refused-requires
 refused-requires c κs = search needs
@@ -106,22 +134,16 @@ same-length : tie.Need-same-length
 same-length c = search needs
 
 returns : tie.Need-returns
-returns c = λ buffer. left-refused _ _ (number (c .before .before .before .before .before .before .before .before .before .before .before .before .before .before .before .before .before .before .before .before .before .before .before .pre) _ _ buffer (c .before .before .before .before .before .before .before .before .before .before .before .before .before .before .before .before .before .before .before .before .wide .ensures) (c .before .before .before .before .before .before .before .before .before .before .before .before .before .before .before .before .before .before .before .in-process .ensures) (c .before .before .before .before .before .before .before .before .before .before .before .before .before .before .before .before .before .check .ensures) (c .before .before .before .before .before .before .before .before .before .before .before .before .before .before .before .before .look .ensures) (c .before .before .before .before .before .before .before .before .before .before .valid-access .ensures) (c .before .before .before .before .before .before .before .before .before .wide2 .ensures) (c .before .before .before .before .before .before .before .before .before .before .before .before .before .before .before .asks-write .ensures) (c .before .before .before .before .before .before .before .before .before .before .before .before .before .asks-read .ensures) (c .before .before .before .before .before .before .before .before .before .before .before .before .asks-write2 .ensures) (c .before .before .before .before .before .before .before .before .before .before .before .lacks .ensures) (c .before .before .before .before .before .before .before .first .ensures) (c .before .before .before .before .before .before .first2 .ensures) (c .before .before .before .before .before .first3 .ensures) (c .before .before .before .before .first4 .ensures) (c .before .before .before .first5 .ensures) (c .before .before .first6 .ensures)) (c .before .if1 .taken) (c .refused .ensures)
+returns c = λ buffer. left-refused _ _ (counted (c .before .before) buffer) (c .before .if1 .taken) (c .refused .ensures)
 
-add-put-process : tie.Need-add-put-process
-add-put-process c = search needs
+entry-at-requires : tie.Need-entry-at-requires
+entry-at-requires c κs = search needs
 
-wide-requires-3 : tie.Need-wide-requires-3
-wide-requires-3 c κs = search needs
+add-put : tie.Need-add-put
+add-put c = search needs
 
-mul-put-process : tie.Need-mul-put-process
-mul-put-process c = record { fits = omega (arith, (c .wide3 .ensures), (c .before .before .before .before .before .before .before .before .before .before .before .before .before .before .before .before .before .before .before .before .before .before .before .before .fits .a)) }
-
-add-put-process-2 : tie.Need-add-put-process-2
-add-put-process-2 c = record { fits = omega (arith, (c .wide3 .ensures), (c .before .before .before .before .before .before .before .before .before .before .before .before .before .before .before .before .before .before .before .before .before .before .before .before .fits .a)) }
-
-put-process-requires : tie.Need-put-process-requires
-put-process-requires c κs = omega (arith, (c .wide3 .ensures), (c .before .before .before .before .before .before .before .before .before .before .before .before .before .before .before .before .before .before .before .before .before .before .before .before .fits .a))
+put-requires : tie.Need-put-requires
+put-requires c κs = search needs
 
 answered-requires : tie.Need-answered-requires
 answered-requires c κs = search needs
@@ -131,38 +153,35 @@ same-length-2 c = search needs
 
 returns-2 : tie.Need-returns-2
 unfolding setAccess
-returns-2 c = λ buffer. left-done _ (λ h q. setAccess h q _ _ _ buffer) (number (c .before .before .before .before .before .before .before .before .before .before .before .before .before .before .before .before .before .before .before .before .before .before .before .before .before .before .before .before .pre) _ _ buffer (c .before .before .before .before .before .before .before .before .before .before .before .before .before .before .before .before .before .before .before .before .before .before .before .before .before .wide .ensures) (c .before .before .before .before .before .before .before .before .before .before .before .before .before .before .before .before .before .before .before .before .before .before .before .before .in-process .ensures) (c .before .before .before .before .before .before .before .before .before .before .before .before .before .before .before .before .before .before .before .before .before .before .check .ensures) (c .before .before .before .before .before .before .before .before .before .before .before .before .before .before .before .before .before .before .before .before .before .look .ensures) (c .before .before .before .before .before .before .before .before .before .before .before .before .before .before .before .valid-access .ensures) (c .before .before .before .before .before .before .before .before .before .before .before .before .before .before .wide2 .ensures) (c .before .before .before .before .before .before .before .before .before .before .before .before .before .before .before .before .before .before .before .before .asks-write .ensures) (c .before .before .before .before .before .before .before .before .before .before .before .before .before .before .before .before .before .before .asks-read .ensures) (c .before .before .before .before .before .before .before .before .before .before .before .before .before .before .before .before .before .asks-write2 .ensures) (c .before .before .before .before .before .before .before .before .before .before .before .before .before .before .before .before .lacks .ensures) (c .before .before .before .before .before .before .before .before .before .before .before .before .first .ensures) (c .before .before .before .before .before .before .before .before .before .before .before .first2 .ensures) (c .before .before .before .before .before .before .before .before .before .before .first3 .ensures) (c .before .before .before .before .before .before .before .before .before .first4 .ensures) (c .before .before .before .before .before .before .before .before .first5 .ensures) (c .before .before .before .before .before .before .before .first6 .ensures)) (c .before .before .before .before .before .before .if1 .left) (c .answered .ensures) ((c .before .before .before .put-process .ensures) ∙ words (c .before .before .before .before .before .before .before .before .before .before .before .before .before .before .before .before .before .before .before .before .before .before .before .before .before .before .before .before .pre .known) _ _ _ buffer (c .before .before .before .before .wide3 .ensures))
+returns-2 c = λ buffer. left-done _ (λ h q. setAccess h q _ _ _ buffer) (counted (c .before .before .before .before .before .before .before) buffer)
+    (c .before .before .before .before .before .before .if1 .left) (c .answered .ensures) ((c .before .before .before .put .ensures) ∙ stored (start
+    (looked (tried (c .before .before .before .before .before .before .before))) .pre .0 .known) _ _ _
+    (c .before .before .before .before .entry-at .ensures .0))
 
 pub set-access-spec : {M : Type 1} → statement M
 set-access-spec =
     tie.close
     (tie.spec
-    wide-requires
-    mul-in-process
-    add-in-process
-    in-process-requires
-    check-requires
+    entry-of-requires
     look-requires
+    valid-access-requires
+    or-refuse-requires
+    wide-requires
+    or-refuse-requires-2
+    or-refuse-requires-3
+    or-refuse-requires-4
     asks-write-requires
+    or-refuse-requires-5
     asks-read-requires
     asks-write-requires-2
     lacks-requires
-    valid-access-requires
-    wide-requires-2
-    first-requires
-    first-requires-2
-    first-requires-3
-    first-requires-4
-    first-requires-5
-    first-requires-6
+    or-refuse-requires-6
     refused-requires
     same-length
     returns
-    add-put-process
-    wide-requires-3
-    mul-put-process
-    add-put-process-2
-    put-process-requires
+    entry-at-requires
+    add-put
+    put-requires
     answered-requires
     same-length-2
     returns-2)

@@ -1,0 +1,64 @@
+-- What a word names, and what is seen of it, as the code finds it.
+use mathlib.Core.Path.{_≡_, refl, sym, ap, _∙_}
+use mathlib.Core.Bool.{Bool, true, false, cond, _&&_}
+use mathlib.Core.List.{List, []}
+use Prim.Native.Nat.{ℕ, _≤_, _<_, _^_}
+use native.Mathlib.Omega.{arith}
+use lib.Dec.{eqb}
+use lib.ListN.{getD}
+use Rattle.rules.specs.Layout.{maxSerial, Kind, process, segment, file, configuration, cellOf, flowMatrix, at, live, serial, owner, group, bits}
+use Rattle.rules.specs.Seid.{class, indexOf, serialOf, isSeid, seidAt, orSelf}
+use Rattle.rules.specs.Rights.{rights}
+use Rattle.rules.specs.Find.{rightsAt}
+use Rattle.laws.proofs.Shape.{process-record}
+use Rattle.levels.proofs.Cells.{matrix-any}
+use Rattle.layout.specs.declared.Header.{Header}
+use Rattle.layout.specs.Header.{slotsOf}
+use Rattle.ids.specs.Seid.{seidOf}
+use Rattle.ids.proofs.Parts.{seid-fits}
+use Rattle.calls.specs.declared.Caller.{Caller}
+use Rattle.calls.specs.declared.objects.Named.{Named}
+use Rattle.calls.specs.declared.objects.Seen.{Seen}
+use Rattle.calls.specs.World.{Known, Sound, wordsOf}
+use Rattle.calls.specs.Seen.{nameOf, noName, namedOf, seenAs}
+use Rattle.calls.proofs.Worlds.{shape}
+
+module _ (n : Header) (k : Kind) (s : ℕ) where
+  -- w is the identifier's word, i and z its parts
+  pub named : {w i z : ℕ} → isSeid (class k) (slotsOf n k) s ≡ true → s ≡ w → i ≡ indexOf w → z ≡ serialOf w
+      → _≡_ {A = Named} (record { formed = true; slot = i; serial = z }) (namedOf n k s)
+  unfolding namedOf
+  named form same ie ze = rw (form, ie, ze, same)
+
+  pub name-none : isSeid (class k) (slotsOf n k) s ≡ false → noName ≡ namedOf n k s
+  unfolding namedOf
+  name-none e = rw e
+
+-- the calling process for seid 0
+pub self-told : {t : List ℕ} {n : Header} {c : Caller} → Sound t n c → (a : ℕ) {s x r : ℕ} → s ≡ wordsOf t (at process (c .slot) serial)
+    → x ≡ seidOf (class process) (c .slot) s → r ≡ cond (eqb a 0) x a → r ≡ orSelf (wordsOf t) (c .slot) a
+unfolding orSelf seidAt
+self-told {t} {n} {c} sound a {s} se xe re =
+    let p = process-record (configuration t) (wordsOf t) (sound .records) (c .slot) (sound .caller) in
+    let l : s ≤ maxSerial = omega (arith, p .serial-fits) in
+    let q : c .slot < 256 = omega (arith, shape (sound .known) .few process, sound .caller) in
+    rw (re, xe, seid-fits (class process) (c .slot) s (omega arith) q l, se)
+
+pub bits-small : (k : Kind) {b : ℕ} → b ≡ bits k → b < 2 ^ 40
+bits-small process e = omega arith
+bits-small segment e = omega arith
+bits-small file e = omega arith
+
+-- ---- what is seen, field by field
+
+module _ {t : List ℕ} {n : Header} {c : Caller} (sound : Sound t n c) {m : List (List Bool)} (matrix : m ≡ flowMatrix (configuration t)) (k : Kind) (s : ℕ) {name : Named} {cell live-word serial-word owner-word group-word bits-at bits-word mine my-group x : ℕ} {f : Bool} (name-is : name ≡ namedOf n k s)
+    (cell-is : cell ≡ cellOf (configuration t) k (name .slot)) (live-is : live-word ≡ wordsOf t (at k (name .slot) live)) (serial-is : serial-word ≡ wordsOf t (at k (name .slot) serial))
+    (owner-is : owner-word ≡ wordsOf t (at k (name .slot) owner)) (group-is : group-word ≡ wordsOf t (at k (name .slot) group)) (bits-at-is : bits-at ≡ bits k)
+    (bits-is : bits-word ≡ wordsOf t (at k (name .slot) bits-at)) (mine-is : mine ≡ wordsOf t (at process (c .slot) owner)) (my-group-is : my-group ≡ wordsOf t (at process (c .slot) group))
+    (flow-is : f ≡ getD (getD m cell []) (c .cell) false) (rights-is : x ≡ rights mine my-group owner-word group-word bits-word) where
+  pub seen : _≡_ {A = Seen} (record { formed = name .formed; slot = name .slot; cell = cell; own = eqb cell (c .cell); flows = f; present = eqb live-word 1 && eqb serial-word (name .serial); mine = eqb owner-word mine; rights = x })
+      (seenAs (configuration t) (wordsOf t) (c .slot) k (namedOf n k s))
+  unfolding rightsAt
+  seen =
+      rw (← name-is, rights-is, flow-is, bits-is, bits-at-is, live-is, serial-is, owner-is, group-is, mine-is, my-group-is, matrix, cell-is, sound .home)
+      (rw (matrix-any (configuration t) (shape (sound .known) .few-cells) _ _))

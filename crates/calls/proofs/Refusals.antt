@@ -1,0 +1,57 @@
+-- Refusals found one after the other are the rule's first refusal.
+use mathlib.Core.Path.{_≡_, refl, _∙_}
+use mathlib.Core.Bool.{Bool, true, false, cond, _&&_, not}
+use mathlib.Core.List.{List, [], _∷_, _++_}
+use Prim.Native.Nat.{ℕ, zero, suc}
+use lib.Dec.{eqb}
+use borrow.Author.Tests.{eqb-false}
+use Rattle.rules.specs.Rule.{Refusal, _⇒_, firstRefusal}
+use Rattle.laws.proofs.Tests.{and-left, and-right, failed}
+use Rattle.calls.specs.Refusing.{orRefuse, refusing}
+
+-- every number is one that refuses
+abbrev pub numbered : List Refusal → Bool
+numbered [] = true
+numbered (x ∷ xs) = not (eqb (x .number) 0) && numbered xs
+
+-- a number found stays
+found-stays : (e : ℕ) (xs : List Refusal) → eqb e 0 ≡ false → refusing e xs ≡ e
+found-stays e [] n = refl
+found-stays e (x ∷ xs) n = rw n (found-stays e xs n)
+
+one-more : (x : Refusal) (xs : List Refusal) → numbered (x ∷ xs) ≡ true → refusing 0 xs ≡ firstRefusal xs → (b : Bool) → x .test ≡ b
+    → refusing 0 (x ∷ xs) ≡ firstRefusal (x ∷ xs)
+one-more x xs n h true e = rw e (found-stays (x .number) xs (failed (eqb (x .number) 0) (and-left _ (numbered xs) n)))
+one-more x xs n h false e = rw e h
+
+pub refusing-first : (xs : List Refusal) → numbered xs ≡ true → refusing 0 xs ≡ firstRefusal xs
+refusing-first [] n = refl
+refusing-first (x ∷ xs) n = one-more x xs n (refusing-first xs (and-right (not (eqb (x .number) 0)) _ n)) (x .test) refl
+
+-- past a refusal that does not hold, what follows may be known by that
+pub past : (b : Bool) (n : ℕ) (xs ys : List Refusal) → (b ≡ false → firstRefusal xs ≡ firstRefusal ys) → firstRefusal ((b ⇒ n) ∷ xs) ≡ firstRefusal ((b ⇒ n) ∷ ys)
+past true n xs ys f = refl
+past false n xs ys f = f refl
+
+-- a test that was made only where nothing refused before it
+pub only-then : (e : ℕ) (b : Bool) (n : ℕ) → orRefuse e (eqb e 0 && b) n ≡ orRefuse e b n
+only-then e b n = by-found (eqb e 0) b n e
+  where
+    by-found : (f b : Bool) (n e : ℕ) → cond f (cond (f && b) n 0) e ≡ cond f (cond b n 0) e
+    by-found true b n e = refl
+    by-found false b n e = refl
+
+-- where nothing refuses, no test holds
+abbrev pub Clear : List Refusal → Type 0
+Clear [] = Unit
+Clear (x ∷ xs) = (x .test ≡ false) × Clear xs
+
+one-clear : (x : Refusal) (xs : List Refusal) → numbered (x ∷ xs) ≡ true → (firstRefusal xs ≡ 0 → Clear xs) → (b : Bool) → x .test ≡ b → firstRefusal (x ∷ xs) ≡ 0
+    → Clear (x ∷ xs)
+one-clear x xs n f true e z =
+    absurd (eqb-false (x .number) 0 (failed (eqb (x .number) 0) (and-left _ (numbered xs) n)) (rw e at z))
+one-clear x xs n f false e z = (e, f (rw e at z))
+
+pub clear-of : (xs : List Refusal) → numbered xs ≡ true → firstRefusal xs ≡ 0 → Clear xs
+clear-of [] n z = tt
+clear-of (x ∷ xs) n z = one-clear x xs n (clear-of xs (and-right (not (eqb (x .number) 0)) _ n)) (x .test) refl z

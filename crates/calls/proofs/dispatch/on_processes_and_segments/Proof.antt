@@ -1,0 +1,93 @@
+use Rattle.calls.proofs.Codes.{plain-1, plain-2, plain-3, plain-4, plain-5, plain-6}
+use Rattle.calls.proofs.Searches.{home-in}
+use native.Mathlib.Omega.{arith}
+use mathlib.Core.Path.{refl}
+-- `dispatch::on_processes_and_segments` meets its contract: each code has its rule, and creating calls take the slot that the search finds.
+use borrow.Author.Needs.{needs}
+use Rattle.calls.proofs.dispatch.on_processes_and_segments.Statement.{statement}
+use Rattle.calls.proofs.dispatch.on_processes_and_segments.Tie as tie
+
+free-slot-requires : tie.Need-free-slot-requires
+free-slot-requires c κs = (c .before .before .before .pre .0 .known, home-in (c .before .before .before .pre .0))
+
+spawn-requires : tie.Need-spawn-requires
+spawn-requires c κs = (c .before .before .before .before .before .pre .0, c .before .free-slot .ensures)
+
+release-process-requires : tie.Need-release-process-requires
+release-process-requires c κs = search needs
+
+free-slot-requires-2 : tie.Need-free-slot-requires-2
+free-slot-requires-2 c κs = (c .before .before .before .pre .0 .known, home-in (c .before .before .before .pre .0))
+
+build-segment-requires : tie.Need-build-segment-requires
+build-segment-requires c κs = (c .before .before .before .before .before .pre .0, c .before .free-slot2 .ensures)
+
+rendezvous-requires : tie.Need-rendezvous-requires
+rendezvous-requires c κs = search needs
+
+give-up-requires : tie.Need-give-up-requires
+give-up-requires c κs = (c .before .before .before .pre .0, refl, omega arith, omega arith)
+
+set-access-requires : tie.Need-set-access-requires
+set-access-requires c κs = search needs
+
+same-length : tie.Need-same-length
+same-length c = search needs
+
+returns : tie.Need-returns
+returns c = plain-1 _ _ _ _ _ _ (c .before .before .before .before .before .before .match .keys1) (c .before .before .spawn .ensures)
+
+same-length-2 : tie.Need-same-length-2
+same-length-2 c = search needs
+
+returns-2 : tie.Need-returns-2
+returns-2 c = plain-2 _ _ _ _ _ _ (c .before .before .before .before .match .keys2) (c .before .before .release-process .ensures)
+
+same-length-3 : tie.Need-same-length-3
+same-length-3 c = search needs
+
+returns-3 : tie.Need-returns-3
+returns-3 c = plain-3 _ _ _ _ _ _ (c .before .before .before .before .before .before .match .keys3) (c .before .before .build-segment .ensures)
+
+same-length-4 : tie.Need-same-length-4
+same-length-4 c = search needs
+
+returns-4 : tie.Need-returns-4
+returns-4 c = plain-4 _ _ _ _ _ _ (c .before .before .before .before .match .keys4) (c .before .before .rendezvous .ensures)
+
+same-length-5 : tie.Need-same-length-5
+same-length-5 c = search needs
+
+returns-5 : tie.Need-returns-5
+returns-5 c = plain-5 _ _ _ _ _ _ (c .before .before .before .before .match .keys5) (c .before .before .give-up .ensures)
+
+same-length-6 : tie.Need-same-length-6
+same-length-6 c = search needs
+
+returns-6 : tie.Need-returns-6
+returns-6 c = plain-6 _ _ _ _ _ _ (omega arith) (c .before .before .set-access .ensures)
+
+pub on-processes-and-segments-spec : {M : Type 1} → statement M
+on-processes-and-segments-spec =
+    tie.close
+    (tie.spec
+    free-slot-requires
+    spawn-requires
+    release-process-requires
+    free-slot-requires-2
+    build-segment-requires
+    rendezvous-requires
+    give-up-requires
+    set-access-requires
+    same-length
+    returns
+    same-length-2
+    returns-2
+    same-length-3
+    returns-3
+    same-length-4
+    returns-4
+    same-length-5
+    returns-5
+    same-length-6
+    returns-6)

@@ -1,0 +1,63 @@
+-- `entries::take_up` meets its contract: the count is read before the entry is filled.
+use Rattle.calls.proofs.Searches.{holders-small}
+use Rattle.calls.specs.Entries.{takenUpAt}
+use Rattle.layout.specs.Kinds.{kindOf}
+use native.Mathlib.Omega.{arith}
+use borrow.Author.Needs.{needs}
+use Rattle.calls.proofs.entries.take_up.Statement.{statement}
+use Rattle.calls.proofs.entries.take_up.Tie as tie
+
+holders-word-requires : tie.Need-holders-word-requires
+holders-word-requires c κs = search needs
+
+add-count : tie.Need-add-count
+add-count c = record { fits = omega (arith, c .before .before .pre .1, c .holders-word .ensures, holders-small (kindOf (c .before .before .args .kind))) }
+
+word-requires : tie.Need-word-requires
+word-requires c κs = search needs
+
+add-n : tie.Need-add-n
+add-n c = record { fits = omega (arith, rw (← (c .before .before .holders-word .ensures)) at (c .before .before .before .before .pre .2), c .word .ensures) }
+
+put-requires : tie.Need-put-requires
+put-requires c κs = search needs
+
+add-put : tie.Need-add-put
+add-put c = search needs
+
+put-requires-2 : tie.Need-put-requires-2
+put-requires-2 c κs = search needs
+
+put-requires-3 : tie.Need-put-requires-3
+put-requires-3 c κs = search needs
+
+same-length : tie.Need-same-length
+same-length c = search needs
+
+returns : tie.Need-returns
+unfolding takenUpAt
+returns c = rw (c .before .before .before .before .if1 .taken, ← (c .before .before .before .before .before .before .before .before .before .before .before .before .before .before .before .holders-word .ensures), ← (c .before .before .before .before .before .before .before .before .before .before .before .before .before .word .ensures), ← (c .before .before .before .before .before .before .before .before .before .before .before .put .ensures), ← (c .before .before .before .before .before .before .before .put2 .ensures)) (c .before .before .put3 .ensures)
+
+same-length-2 : tie.Need-same-length-2
+same-length-2 c = search needs
+
+returns-2 : tie.Need-returns-2
+unfolding takenUpAt
+returns-2 c = rw (c .if1 .left, ← (c .before .before .before .before .before .before .before .put .ensures)) (c .before .before .before .put2 .ensures)
+
+pub take-up-spec : {M : Type 1} → statement M
+take-up-spec =
+    tie.close
+    (tie.spec
+    holders-word-requires
+    add-count
+    word-requires
+    add-n
+    put-requires
+    add-put
+    put-requires-2
+    put-requires-3
+    same-length
+    returns
+    same-length-2
+    returns-2)

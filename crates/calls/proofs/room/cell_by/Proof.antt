@@ -1,0 +1,68 @@
+-- `room::cell_by` meets its contract: the cells passed end at or before the slot, so that the first whose run ends past it is its cell.
+use Prim.Native.Nat.{_-_}
+use native.Mathlib.Omega.{arith}
+use borrow.Author.Needs.{needs}
+use Rattle.calls.proofs.Worlds.{Passed, passed-none, at-end, sum-small, found, further}
+use Rattle.calls.proofs.room.cell_by.Statement.{statement}
+use Rattle.calls.proofs.room.cell_by.Tie as tie
+
+abbrev Inv-loop : tie.InvT-loop
+Inv-loop t n k i end₀ c₀ end c = Passed t k i n end c
+
+abbrev μ-loop : tie.MeasureT-loop
+μ-loop t n k i end₀ c₀ end c = n - c
+
+loop-holds : tie.Need-loop-holds Inv-loop μ-loop
+loop-holds c = passed-none _ _ _ _ (c .before .pre .0)
+
+wide-requires : tie.Need-wide-requires Inv-loop μ-loop
+wide-requires c κs = search needs
+
+mul-word : tie.Need-mul-word Inv-loop μ-loop
+mul-word c = search needs
+
+add-word : tie.Need-add-word Inv-loop μ-loop
+add-word c = search needs
+
+add-word-2 : tie.Need-add-word-2 Inv-loop μ-loop
+add-word-2 c = search needs
+
+word-requires : tie.Need-word-requires Inv-loop μ-loop
+word-requires c κs = search needs
+
+add-end : tie.Need-add-end Inv-loop μ-loop
+add-end c = omega (arith, sum-small (c .before .before .before .before .before .pre .1) (c .before .before .before .loop .inv) (c .before .before .loop-test .taken) (c .before .wide .ensures) (c .word .ensures) (c .before .before .before .before .before .pre .2))
+
+returns : tie.Need-returns Inv-loop μ-loop
+returns c = found (c .before .before .before .before .before .before .pre .1) (c .before .before .before .before .loop .inv) (c .before .before .before .loop-test .taken) (c .before .before .wide .ensures) (c .before .word .ensures) (c .if1 .taken)
+
+add-c : tie.Need-add-c Inv-loop μ-loop
+add-c c = search needs
+
+loop-less : tie.Need-loop-less Inv-loop μ-loop
+loop-less c = search needs
+
+loop-again : tie.Need-loop-again Inv-loop μ-loop
+loop-again c = further (c .before .before .before .before .before .before .pre .1) (c .before .before .before .before .loop .inv) (c .before .before .before .loop-test .taken) (c .before .before .wide .ensures) (c .before .word .ensures) (c .if1 .left)
+
+returns-2 : tie.Need-returns-2 Inv-loop μ-loop
+returns-2 c = at-end (c .before .before .before .pre .1) (c .before .loop .inv) (c .loop-test .left)
+
+pub cell-by-spec : {M : Type 1} → statement M
+cell-by-spec =
+    tie.close
+    (tie.spec
+    Inv-loop
+    μ-loop
+    loop-holds
+    wide-requires
+    mul-word
+    add-word
+    add-word-2
+    word-requires
+    add-end
+    returns
+    add-c
+    loop-less
+    loop-again
+    returns-2)

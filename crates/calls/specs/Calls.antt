@@ -1,0 +1,35 @@
+-- What refuses some calls, of what the code has seen; and the one rule of calls 5 and 9.
+use mathlib.Core.Bool.{Bool, _&&_, _||_, not}
+use mathlib.Core.List.{List, [], _∷_, _++_}
+use Prim.Native.Nat.{ℕ, _/_}
+use lib.Dec.{leb, eqb}
+use Rattle.rules.specs.Layout.{Kind, process, file, Addr, at, entries, heldAt}
+use Rattle.rules.specs.Modes.{validModes, reads, writes}
+use Rattle.rules.specs.Rights.{mayRead, mayWrite, lacks, access}
+use Rattle.rules.specs.Errors.{XbadModes, XdapViol, XbadOd, XnoObj, XbadBlockNo}
+use Rattle.rules.specs.Rule.{Refusal, _⇒_, effect, Rule, rule}
+use Rattle.rules.specs.Find.{givenUp}
+use Rattle.calls.specs.declared.objects.Seen.{Seen}
+use Rattle.calls.specs.Seen.{findTests}
+
+-- calls 5 and 9: entry a is given up; two numbers refuse, past the last entry and empty
+abbrev pub giveUpRule : List ℕ → (Addr → ℕ) → Kind → ℕ → ℕ → ℕ → ℕ → List ℕ → Rule
+giveUpRule h r k p a beyond empty buffer =
+    let s : ℕ = r (at process p (heldAt k a)) in
+    rule ((leb entries a ⇒ beyond) ∷ (eqb s 0 ⇒ empty) ∷ []) (effect 0 0 buffer (givenUp h r k p a s) [])
+
+-- call 8, before the search for clashes
+abbrev pub openTests : Seen → ℕ → List Refusal
+openTests f b =
+    (not (validModes b) ⇒ XbadModes) ∷ findTests f file (not (f .flows) || (writes b && not (f .own)))
+    ++ (lacks (f .rights) (reads b) (writes b) ⇒ XdapViol) ∷ []
+
+-- calls 13 and 14, past the buffer's length: entry a holds s, with the mode or not, and f is seen of it
+abbrev pub blockTests : ℕ → ℕ → Bool → ℕ → Seen → Bool → Bool → ℕ → ℕ → List Refusal
+blockTests a s held number f read write blocks b =
+    (leb entries a ⇒ XbadOd) ∷ (eqb s 0 ⇒ XbadOd) ∷ (not held ⇒ number) ∷ (not (f .present) ⇒ XnoObj) ∷ (lacks (f .rights) read write ⇒ XdapViol)
+    ∷ (leb blocks b ⇒ XbadBlockNo) ∷ []
+
+-- call 3: "Access is the owner's read and write bits"
+abbrev pub ownerAccess : ℕ → ℕ
+ownerAccess bits = access (mayRead (bits / 64)) (mayWrite (bits / 64))
