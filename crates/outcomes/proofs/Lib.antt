@@ -1,7 +1,7 @@
 -- Any two outcomes that a public function's contract allows are equal. A file for each crate, a statement for each of its public functions.
 pub mod Exact
 pub mod Words
-pub mod Layout
+pub mod Places
 pub mod Levels
 pub mod Ids
 pub mod Modes

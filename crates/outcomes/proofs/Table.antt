@@ -4,7 +4,7 @@ use Rattle.table.proofs as code
 use Rattle.outcomes.proofs.Exact.{Exact, one, both}
 
 pub judge : Exact code.judge.Kinds.ps code.judge.Kinds.r code.judge.Reads.Asked code.judge.Reads.Learnt
-judge = (λ κs a. tt, λ κs a z z′ w w′ p q. (one (p .0) (q .0), both (one (p .1) (q .1)) refl))
+judge = (λ κs a. tt, λ κs a z z′ w w′ p q. (one (p .0) (q .0), both refl (both refl (both (one (p .1) (q .1)) refl))))
 
 pub check : Exact code.check.Kinds.ps code.check.Kinds.r code.check.Reads.Asked code.check.Reads.Learnt
 check = (λ κs a. tt, λ κs a z z′ w w′ p q. (one p q, refl))
