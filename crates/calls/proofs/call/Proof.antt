@@ -21,7 +21,10 @@ header-of-requires : tie.Need-header-of-requires
 header-of-requires c κs = search needs
 
 call-judged-requires : tie.Need-call-judged-requires
-call-judged-requires c κs = judged-by _ _ _ (c .before .before .before .before .before .before .judge .ensures .0) (passed (c .before .before .before .before .before .before .judge .result) (c .before .before .before .before .before .if1 .left)) (c .before .before .before .before .before .before .judge .ensures .1) (c .before .before .before .header-of .ensures)
+call-judged-requires c κs =
+    let at-header-of = c .before .before .before in let at-if1 = at-header-of .before .before in let at-judge = at-if1 .before in
+    judged-by _ _ _ (at-judge .judge .ensures .0) (passed (at-judge .judge .result) (at-if1 .if1 .left)) (at-judge .judge .ensures .1) (at-header-of
+    .header-of .ensures)
 
 same-length-2 : tie.Need-same-length-2
 same-length-2 c = search needs

@@ -32,8 +32,16 @@ cell-of-requires : tie.Need-cell-of-requires
 cell-of-requires c κs = known (c .before .before .before .before .before .before .before .before .before .pre)
 
 carry-out-requires : tie.Need-carry-out-requires
-carry-out-requires c κs = let g = good-code _ (c .before .before .before .before .before .before .bad-code .ensures) (c .before .before .before .before .before .if2 .left) in
-    (sound (c .before .before .before .before .before .before .before .before .before .before .before .before .before .pre) _ (c .before .before .before .before .before .before .before .before .bad-caller .ensures) (c .before .before .before .before .before .before .before .if1 .left) (c .before .before .before .cell-of .ensures), c .before .before .before .before .before .before .before .before .before .before .before .before .before .pre .matrix, store-long (c .before .before .before .before .before .before .before .before .before .before .before .before .before .pre), g .0, g .1)
+carry-out-requires c κs = let g = good-code _ (c .before .before .before .before .before .before .bad-code .ensures) (c .before .before .before .before .before .if2 .left) in (
+  sound (c .before .before .before .before .before .before .before .before .before .before .before .before .before .pre) _ (c .before .before
+      .before .before .before .before .before .before .bad-caller .ensures) (c .before .before .before .before .before .before .before .if1 .left) (c
+      .before .before .before .cell-of .ensures),
+  c .before .before .before .before .before .before .before .before .before .before .before .before
+      .before .pre .matrix,
+  store-long (c .before .before .before .before .before .before .before .before .before .before .before .before .before .pre),
+  g .0,
+  g .1,
+)
 
 same-length-3 : tie.Need-same-length-3
 same-length-3 c = search needs
@@ -45,7 +53,12 @@ same-length-5 : tie.Need-same-length-5
 same-length-5 c = search needs
 
 returns-3 : tie.Need-returns-3
-returns-3 c = all-done (c .before .before .before .before .before .before .before .before .before .before .before .before .before .before .before .before .before .before .before .before .pre) _ (c .before .before .before .before .before .before .before .before .before .before .before .before .before .before .before .bad-caller .ensures) _ _ _ _ _ (c .before .before .before .before .before .before .before .before .before .before .before .before .before .before .if1 .left) (c .before .before .before .before .before .before .before .before .before .before .before .before .before .bad-code .ensures) (c .before .before .before .before .before .before .before .before .before .before .before .before .if2 .left) (c .before .before .before .before .before .before .carry-out .ensures)
+returns-3 c =
+    let at-carry-out = c .before .before .before .before .before .before in
+    let at-if2 = at-carry-out .before .before .before .before .before .before in let at-bad-code = at-if2 .before in
+    let at-if1 = at-bad-code .before in let at-bad-caller = at-if1 .before in let at-start = at-bad-caller .before .before .before .before .before in
+    all-done (at-start .pre) _ (at-bad-caller .bad-caller .ensures) _ _ _ _ _ (at-if1 .if1 .left) (at-bad-code .bad-code .ensures) (at-if2 .if2 .left)
+    (at-carry-out .carry-out .ensures)
 
 pub call-judged-spec : {M : Type 1} → statement M
 call-judged-spec =

@@ -71,7 +71,9 @@ wide-requires-3 c κs = search needs
 read-store-requires : tie.Need-read-store-requires
 read-store-requires c κs =
     let after = c .before .before .before .before .before in
-    read-within (used after) (start after .args .store .now) (start after .args .b) (start after .args .buffer .now) (told after) (c .before .before .before .before .if1 .left) (start after .pre .2) (c .before .before .before .wide .ensures) (c .before .before .wide2 .ensures) (c .before .wide3 .ensures)
+    read-within (used after) (start after .args .store .now) (start after .args .b) (start after .args .buffer .now) (told after) (c .before .before
+    .before .before .if1 .left) (start after .pre .2) (c .before .before .before .wide .ensures) (c .before .before .wide2 .ensures) (c .before .wide3
+    .ensures)
 
 answered-requires : tie.Need-answered-requires
 answered-requires c κs = search needs

@@ -39,7 +39,11 @@ same-length c = search needs
 
 returns : tie.Need-returns
 unfolding part
-returns c = let a = c .before .before .before .before .before .before .before .args in let k : a .f * a .n + a .b * blockBytes + blockBytes - (a .f * a .n + a .b * blockBytes) ≡ blockBytes = omega arith in (rw k at (c .before .before .put-bytes .ensures)) ∙ sets-all _ _ (part-length (a .store .now) (a .f * a .n + a .b * blockBytes) blockBytes (omega arith) ∙ sym (c .before .before .before .before .before .before .before .pre .2))
+returns c =
+    let at-start = c .before .before .before .before .before .before .before in
+    let a = at-start .args in let k : a .f * a .n + a .b * blockBytes + blockBytes - (a .f * a .n + a .b * blockBytes) ≡ blockBytes = omega arith in
+    (rw k at (c .before .before .put-bytes .ensures)) ∙ sets-all _ _ (part-length (a .store .now) (a .f * a .n + a .b * blockBytes) blockBytes (omega
+    arith) ∙ sym (at-start .pre .2))
 
 pub read-store-spec : {M : Type 1} → statement M
 read-store-spec =

@@ -74,7 +74,9 @@ wide-requires-4 c κs = search needs
 write-store-requires : tie.Need-write-store-requires
 write-store-requires c κs =
     let after = c .before .before .before .before .before .before in
-    write-within (used after) (start after .args .store .now) (start after .args .b) (start after .args .buffer .now) (told after) (c .before .before .before .before .before .if1 .left) (start after .pre .2) (c .before .before .before .before .wide .ensures) (c .before .before .wide2 .ensures) (c .before .wide3 .ensures) (c .wide4 .ensures)
+    write-within (used after) (start after .args .store .now) (start after .args .b) (start after .args .buffer .now) (told after) (c .before .before
+    .before .before .before .if1 .left) (start after .pre .2) (c .before .before .before .before .wide .ensures) (c .before .before .wide2 .ensures)
+    (c .before .wide3 .ensures) (c .wide4 .ensures)
 
 add-larger : tie.Need-add-larger
 add-larger c =

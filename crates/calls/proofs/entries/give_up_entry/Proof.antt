@@ -29,7 +29,13 @@ same-length : tie.Need-same-length
 same-length c = search needs
 
 returns : tie.Need-returns
-returns c = c .before .before .give-up .ensures ∙ given-told (c .before .before .before .before .before .before .before .before .before .before .before .before .before .pre .0) (c .before .before .before .before .before .before .before .before .before .before .before .before .before .args .c) (kindOf (c .before .before .before .before .before .before .before .before .before .before .before .before .before .args .kind)) _ _ _ (c .before .before .before .before .before .before .before .before .before .before .before .before .before .pre .1) (c .before .before .before .before .before .before .before .before .before .before .before .before .before .pre .2) (c .before .before .before .before .before .before .before .before .before .before .before .index-of .ensures) (c .before .before .before .before .before .before .before .before .before .cell-of .ensures) (c .before .before .before .before .before .before .is-kept .ensures) (c .before .before .before .before .before .entry-at .ensures .0) (c .before .before .before .before .record-at .ensures .0)
+returns c =
+    let at-record-at = c .before .before .before .before in let at-entry-at = at-record-at .before in let at-is-kept = at-entry-at .before in
+    let at-cell-of = at-is-kept .before .before .before in let at-index-of = at-cell-of .before .before in
+    let at-start = at-index-of .before .before in
+    c .before .before .give-up .ensures ∙ given-told (at-start .pre .0) (at-start .args .c) (kindOf (at-start .args .kind)) _ _ _ (at-start .pre .1)
+    (at-start .pre .2) (at-index-of .index-of .ensures) (at-cell-of .cell-of .ensures) (at-is-kept .is-kept .ensures) (at-entry-at .entry-at .ensures
+    .0) (at-record-at .record-at .ensures .0)
 
 pub give-up-entry-spec : {M : Type 1} → statement M
 give-up-entry-spec =

@@ -36,7 +36,17 @@ same-length c = search needs
 
 returns : tie.Need-returns
 unfolding takenUpAt
-returns c = rw (c .before .before .before .before .if1 .taken, ← (c .before .before .before .before .before .before .before .before .before .before .before .before .before .before .before .holders-word .ensures), ← (c .before .before .before .before .before .before .before .before .before .before .before .before .before .word .ensures), ← (c .before .before .before .before .before .before .before .before .before .before .before .put .ensures), ← (c .before .before .before .before .before .before .before .put2 .ensures)) (c .before .before .put3 .ensures)
+returns c =
+    let at-if1 = c .before .before .before .before in let at-put2 = at-if1 .before .before .before in
+    let at-put = at-put2 .before .before .before .before in let at-word = at-put .before .before in let at-holders-word = at-word .before .before in
+    rw (
+      at-if1 .if1 .taken,
+      ← (at-holders-word .holders-word .ensures),
+      ← (at-word .word .ensures),
+      ← (at-put .put .ensures),
+      ← (at-put2 .put2
+          .ensures),
+    ) (c .before .before .put3 .ensures)
 
 same-length-2 : tie.Need-same-length-2
 same-length-2 c = search needs

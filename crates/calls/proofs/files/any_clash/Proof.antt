@@ -47,10 +47,30 @@ wide-requires : tie.Need-wide-requires Inv-loop μ-loop Inv-search μ-search
 wide-requires c κs = search needs
 
 add-clashes-at : tie.Need-add-clashes-at Inv-loop μ-loop Inv-search μ-search
-add-clashes-at c = record { fits = omega (arith, run-slots (c .before .before .before .before .before .before .before .before .pre .0) process refl (c .before .before .before .before .before .before .first-slot .ensures .0) (c .before .before .before .before .before .in-cell .ensures), shape (c .before .before .before .before .before .before .before .before .pre .0 .known) .few process, c .before .before .before .search-test .taken) }
+add-clashes-at c =
+    let at-search-test = c .before .before .before in let at-in-cell = at-search-test .before .before in let at-first-slot = at-in-cell .before in
+    let at-start = at-first-slot .before .before in
+    record {
+      fits = omega (
+        arith,
+        run-slots (at-start .pre .0) process refl (at-first-slot .first-slot .ensures .0) (at-in-cell .in-cell .ensures),
+        shape (at-start .pre .0 .known) .few process,
+        at-search-test .search-test .taken,
+      );
+    }
 
 clashes-at-requires : tie.Need-clashes-at-requires Inv-loop μ-loop Inv-search μ-search
-clashes-at-requires c κs = (c .before .before .before .before .before .before .before .before .pre .1, omega (arith, run-slots (c .before .before .before .before .before .before .before .before .pre .0) process refl (c .before .before .before .before .before .before .first-slot .ensures .0) (c .before .before .before .before .before .in-cell .ensures), c .before .before .before .search-test .taken), omega (arith, c .before .wide .ensures, c .if1 .taken))
+clashes-at-requires c κs =
+    let at-search-test = c .before .before .before in let at-in-cell = at-search-test .before .before in let at-first-slot = at-in-cell .before in
+    let at-start = at-first-slot .before .before in (
+      at-start .pre .1,
+      omega (
+        arith,
+        run-slots (at-start .pre .0) process refl (at-first-slot .first-slot .ensures .0) (at-in-cell .in-cell .ensures),
+        at-search-test .search-test .taken,
+      ),
+      omega (arith, c .before .wide .ensures, c .if1 .taken),
+    )
 
 add-d : tie.Need-add-d Inv-loop μ-loop Inv-search μ-search
 add-d c = record { fits = omega (arith, c .before .before .before .wide .ensures, c .before .before .if1 .taken) }
@@ -74,7 +94,11 @@ returns : tie.Need-returns Inv-loop μ-loop Inv-search μ-search
 returns c = c .before .search .inv .0 ∙ sym (none-clash _ _ _ _ (c .before .before .before .first-slot .ensures .0) (c .before .before .in-cell .ensures) (λ k l. c .before .search .inv .2 k (le-trans l (c .search-test .left))))
 
 returns-2 : tie.Need-returns-2 Inv-loop μ-loop Inv-search μ-search
-returns-2 c = sym (some-clash _ _ _ _ (c .before .before .before .before .before .before .before .before .first-slot .ensures .0) (c .before .before .before .before .before .before .before .in-cell .ensures) _ _ (c .before .before .before .before .before .search-test .taken) (omega (arith, c .before .before .before .wide .ensures, c .before .before .if1 .taken)) (sym (c .before .clashes-at .ensures) ∙ c .if2 .taken))
+returns-2 c =
+    let at-wide = c .before .before .before in let at-search-test = at-wide .before .before in let at-in-cell = at-search-test .before .before in
+    let at-first-slot = at-in-cell .before in
+    sym (some-clash _ _ _ _ (at-first-slot .first-slot .ensures .0) (at-in-cell .in-cell .ensures) _ _ (at-search-test .search-test .taken) (omega
+    (arith, at-wide .wide .ensures, c .before .before .if1 .taken)) (sym (c .before .clashes-at .ensures) ∙ c .if2 .taken))
 
 pub any-clash-spec : {M : Type 1} → statement M
 any-clash-spec =

@@ -15,11 +15,24 @@ use borrow.Author.Needs.{needs}
 use Rattle.calls.proofs.files.create.Statement.{statement}
 use Rattle.calls.proofs.files.create.Tie as tie
 
-number : (c : tie.After-or-refuse4) (buffer : List ℕ) → c .or-refuse4 .result ≡ firstRefusal (ruleAt (c .before .before .before .before .before .before .before .before .before .args .t .now) (λ h q. create h q (c .before .before .before .before .before .before .before .before .before .args .c .slot) (c .before .before .before .before .before .before .before .before .before .args .a) (c .before .before .before .before .before .before .before .before .before .args .b) buffer) .refusals)
-number c buffer = create-number (c .before .before .before .before .before .before .before .before .before .pre .0) (c .before .before .before .before .before .before .before .before .before .args .a) (c .before .before .before .before .before .before .before .before .before .args .b) buffer (c .before .before .before .before .before .before .before .before .before .pre .1) (c .before .before .before .before .before .before .free-entry .ensures) (c .before .before .before .before .before .or-refuse .ensures) (c .before .before .before .before .valid .ensures) (c .before .before .before .or-refuse2 .ensures) (c .before .before .wide .ensures) (c .before .or-refuse3 .ensures) (c .or-refuse4 .ensures)
+number : (c : tie.After-or-refuse4) (buffer : List ℕ) → c .or-refuse4 .result ≡ firstRefusal (ruleAt (c .before .before .before .before .before
+    .before .before .before .before .args .t .now) (λ h q. create h q (c .before .before .before .before .before .before .before .before .before .args
+    .c .slot) (c .before .before .before .before .before .before .before .before .before .args .a) (c .before .before .before .before .before .before
+    .before .before .before .args .b) buffer) .refusals)
+number c buffer =
+    let at-or-refuse2 = c .before .before .before in let at-valid = at-or-refuse2 .before in let at-or-refuse = at-valid .before in
+    let at-free-entry = at-or-refuse .before in let at-start = at-free-entry .before .before .before in
+    create-number (at-start .pre .0) (at-start .args .a) (at-start .args .b) buffer (at-start .pre .1) (at-free-entry .free-entry .ensures)
+    (at-or-refuse .or-refuse .ensures) (at-valid .valid .ensures) (at-or-refuse2 .or-refuse2 .ensures) (c .before .before .wide .ensures) (c .before
+    .or-refuse3 .ensures) (c .or-refuse4 .ensures)
 
 room : (c : tie.Else1) → c .before .before .before .before .before .before .before .before .before .before .args .f .none ≡ false
-room c = create-room (c .before .before .before .before .before .before .before .before .before .before .pre .0) (c .before .before .before .before .before .before .before .before .before .before .args .a) (c .before .before .before .before .before .before .before .before .before .before .args .b) [] (c .before .before .before .before .before .before .before .before .before .before .pre .1) (c .before .before .before .before .before .before .before .free-entry .ensures) (c .before .before .before .before .before .before .or-refuse .ensures) (c .before .before .before .before .before .valid .ensures) (c .before .before .before .before .or-refuse2 .ensures) (c .before .before .before .wide .ensures) (c .before .before .or-refuse3 .ensures) (c .before .or-refuse4 .ensures) (c .if1 .left)
+room c =
+    let at-wide = c .before .before .before in let at-or-refuse2 = at-wide .before in let at-valid = at-or-refuse2 .before in
+    let at-or-refuse = at-valid .before in let at-free-entry = at-or-refuse .before in let at-start = at-free-entry .before .before .before in
+    create-room (at-start .pre .0) (at-start .args .a) (at-start .args .b) [] (at-start .pre .1) (at-free-entry .free-entry .ensures) (at-or-refuse
+    .or-refuse .ensures) (at-valid .valid .ensures) (at-or-refuse2 .or-refuse2 .ensures) (at-wide .wide .ensures) (c .before .before .or-refuse3
+    .ensures) (c .before .or-refuse4 .ensures) (c .if1 .left)
 
 free-entry-requires : tie.Need-free-entry-requires
 free-entry-requires c κs = search needs
@@ -55,7 +68,9 @@ read-requires : tie.Need-read-requires
 read-requires c κs = search needs
 
 add-serial : tie.Need-add-serial
-add-serial c = record { fits = omega (arith, serial-rises (c .before .before .before .before .before .before .before .before .before .before .before .before .pre .0) file (c .before .before .before .before .before .before .before .before .before .before .before .before .pre .1) (room (c .before .before)) (c .read .ensures)) }
+add-serial c =
+    let at-start = c .before .before .before .before .before .before .before .before .before .before .before .before in
+    record { fits = omega (arith, serial-rises (at-start .pre .0) file (at-start .pre .1) (room (c .before .before)) (c .read .ensures)) }
 
 read-requires-2 : tie.Need-read-requires-2
 read-requires-2 c κs = search needs
@@ -86,9 +101,57 @@ same-length-2 c = search needs
 
 returns-2 : tie.Need-returns-2
 unfolding create
-returns-2 c = λ buffer. left-done _ (λ h q. create h q _ _ _ buffer) (number (c .before .before .before .before .before .before .before .before .before .before .before .before .before .before .before .before .before .before .before) buffer) (c .before .before .before .before .before .before .before .before .before .before .before .before .before .before .before .before .before .before .if1 .left)
-    (c .answered .ensures ∙ ap₂ (said 0) (create-seid (c .before .before .before .before .before .before .before .before .before .before .before .before .before .before .before .before .before .before .before .before .before .before .before .before .before .before .before .before .pre .0) (c .before .before .before .before .before .before .before .before .before .before .before .before .before .before .before .before .before .before .before .before .before .before .before .before .before .before .before .before .args .a) (c .before .before .before .before .before .before .before .before .before .before .before .before .before .before .before .before .before .before .before .before .before .before .before .before .before .before .before .before .args .b) buffer (c .before .before .before .before .before .before .before .before .before .before .before .before .before .before .before .before .before .before .before .before .before .before .before .before .before .before .before .before .pre .1) (c .before .before .before .before .before .before .before .before .before .before .before .before .before .before .before .before .before .before .before .before .before .before .before .before .before .free-entry .ensures) (c .before .before .before .before .before .before .before .before .before .before .before .before .before .before .before .before .before .before .before .before .before .before .before .before .or-refuse .ensures) (c .before .before .before .before .before .before .before .before .before .before .before .before .before .before .before .before .before .before .before .before .before .before .before .valid .ensures) (c .before .before .before .before .before .before .before .before .before .before .before .before .before .before .before .before .before .before .before .before .before .before .or-refuse2 .ensures) (c .before .before .before .before .before .before .before .before .before .before .before .before .before .before .before .before .before .before .before .before .before .wide .ensures) (c .before .before .before .before .before .before .before .before .before .before .before .before .before .before .before .before .before .before .before .before .or-refuse3 .ensures) (c .before .before .before .before .before .before .before .before .before .before .before .before .before .before .before .before .before .before .before .or-refuse4 .ensures) (c .before .before .before .before .before .before .before .before .before .before .before .before .before .before .before .before .before .before .if1 .left) (c .before .before .before .before .before .before .before .before .before .before .before .before .before .before .before .before .read .ensures) (c .before .before .before .before .before .before .before .before .before .before .before .before .before .before .read2 .ensures) (c .before .before .before .before .before .before .before .before .before .before .before .before .read3 .ensures) (c .before .before .before .before .before .before .before .before .before .before .before .seid .ensures)) (c .before .before .before .before .before .before .before .before .before .before .before .before .before .before .before .before .before .before .before .before .before .before .before .before .before .free-entry .ensures))
-    (create-words (c .before .before .before .before .before .before .before .before .before .before .before .before .before .before .before .before .before .before .before .before .before .before .before .before .before .before .before .before .pre .0) (c .before .before .before .before .before .before .before .before .before .before .before .before .before .before .before .before .before .before .before .before .before .before .before .before .before .before .before .before .args .a) (c .before .before .before .before .before .before .before .before .before .before .before .before .before .before .before .before .before .before .before .before .before .before .before .before .before .before .before .before .args .b) buffer (c .before .before .before .before .before .before .before .before .before .before .before .before .before .before .before .before .before .before .before .before .before .before .before .before .before .before .before .before .pre .1) (c .before .before .before .before .before .before .before .before .before .before .before .before .before .before .before .before .before .before .before .before .before .before .before .before .before .free-entry .ensures) (c .before .before .before .before .before .before .before .before .before .before .before .before .before .before .before .before .before .before .before .before .before .before .before .before .or-refuse .ensures) (c .before .before .before .before .before .before .before .before .before .before .before .before .before .before .before .before .before .before .before .before .before .before .before .valid .ensures) (c .before .before .before .before .before .before .before .before .before .before .before .before .before .before .before .before .before .before .before .before .before .before .or-refuse2 .ensures) (c .before .before .before .before .before .before .before .before .before .before .before .before .before .before .before .before .before .before .before .before .before .wide .ensures) (c .before .before .before .before .before .before .before .before .before .before .before .before .before .before .before .before .before .before .before .before .or-refuse3 .ensures) (c .before .before .before .before .before .before .before .before .before .before .before .before .before .before .before .before .before .before .before .or-refuse4 .ensures) (c .before .before .before .before .before .before .before .before .before .before .before .before .before .before .before .before .before .before .if1 .left) (c .before .before .before .before .before .before .before .before .before .before .before .before .before .before .before .before .read .ensures) (c .before .before .before .before .before .before .before .before .before .before .before .before .before .before .read2 .ensures) (c .before .before .before .before .before .before .before .before .before .before .before .before .read3 .ensures) (c .before .before .before .before .before .before .before .before .before .before .before .seid .ensures) (c .before .before .before .before .before .before .before .before .before .record-at .ensures .0) (c .before .before .before .before .before .before .before .before .make .ensures) (c .before .before .before .before .entry-at .ensures .0) (c .before .before .before .enter .ensures))
+returns-2 c =
+    let at-if1 = c .before .before .before .before .before .before .before .before .before .before .before .before .before .before .before .before .before .before in
+    let at-or-refuse4 = at-if1 .before in
+    λ buffer. left-done _ (λ h q. create h q _ _ _ buffer) (number (at-or-refuse4) buffer) (at-if1 .if1 .left)
+    (c .answered .ensures ∙ ap₂ (said 0) (create-seid (c .before .before .before .before .before .before .before .before .before .before .before
+    .before .before .before .before .before .before .before .before .before .before .before .before .before .before .before .before .before .pre .0)
+    (c .before .before .before .before .before .before .before .before .before .before .before .before .before .before .before .before .before .before
+    .before .before .before .before .before .before .before .before .before .before .args .a) (c .before .before .before .before .before .before
+    .before .before .before .before .before .before .before .before .before .before .before .before .before .before .before .before .before .before
+    .before .before .before .before .args .b) buffer (c .before .before .before .before .before .before .before .before .before .before .before
+    .before .before .before .before .before .before .before .before .before .before .before .before .before .before .before .before .before .pre .1)
+    (c .before .before .before .before .before .before .before .before .before .before .before .before .before .before .before .before .before .before
+    .before .before .before .before .before .before .before .free-entry .ensures) (c .before .before .before .before .before .before .before .before
+    .before .before .before .before .before .before .before .before .before .before .before .before .before .before .before .before .or-refuse
+    .ensures) (c .before .before .before .before .before .before .before .before .before .before .before .before .before .before .before .before
+    .before .before .before .before .before .before .before .valid .ensures) (c .before .before .before .before .before .before .before .before
+    .before .before .before .before .before .before .before .before .before .before .before .before .before .before .or-refuse2 .ensures) (c .before
+    .before .before .before .before .before .before .before .before .before .before .before .before .before .before .before .before .before .before
+    .before .before .wide .ensures) (c .before .before .before .before .before .before .before .before .before .before .before .before .before .before
+    .before .before .before .before .before .before .or-refuse3 .ensures) (c .before .before .before .before .before .before .before .before .before
+    .before .before .before .before .before .before .before .before .before .before .or-refuse4 .ensures) (c .before .before .before .before .before
+    .before .before .before .before .before .before .before .before .before .before .before .before .before .if1 .left) (c .before .before .before
+    .before .before .before .before .before .before .before .before .before .before .before .before .before .read .ensures) (c .before .before .before
+    .before .before .before .before .before .before .before .before .before .before .before .read2 .ensures) (c .before .before .before .before
+    .before .before .before .before .before .before .before .before .read3 .ensures) (c .before .before .before .before .before .before .before
+    .before .before .before .before .seid .ensures)) (c .before .before .before .before .before .before .before .before .before .before .before
+    .before .before .before .before .before .before .before .before .before .before .before .before .before .before .free-entry .ensures))
+    (create-words (c .before .before .before .before .before .before .before .before .before .before .before .before .before .before .before .before
+    .before .before .before .before .before .before .before .before .before .before .before .before .pre .0) (c .before .before .before .before
+    .before .before .before .before .before .before .before .before .before .before .before .before .before .before .before .before .before .before
+    .before .before .before .before .before .before .args .a) (c .before .before .before .before .before .before .before .before .before .before
+    .before .before .before .before .before .before .before .before .before .before .before .before .before .before .before .before .before .before
+    .args .b) buffer (c .before .before .before .before .before .before .before .before .before .before .before .before .before .before .before
+    .before .before .before .before .before .before .before .before .before .before .before .before .before .pre .1) (c .before .before .before
+    .before .before .before .before .before .before .before .before .before .before .before .before .before .before .before .before .before .before
+    .before .before .before .before .free-entry .ensures) (c .before .before .before .before .before .before .before .before .before .before .before
+    .before .before .before .before .before .before .before .before .before .before .before .before .before .or-refuse .ensures) (c .before .before
+    .before .before .before .before .before .before .before .before .before .before .before .before .before .before .before .before .before .before
+    .before .before .before .valid .ensures) (c .before .before .before .before .before .before .before .before .before .before .before .before
+    .before .before .before .before .before .before .before .before .before .before .or-refuse2 .ensures) (c .before .before .before .before .before
+    .before .before .before .before .before .before .before .before .before .before .before .before .before .before .before .before .wide .ensures) (c
+    .before .before .before .before .before .before .before .before .before .before .before .before .before .before .before .before .before .before
+    .before .before .or-refuse3 .ensures) (c .before .before .before .before .before .before .before .before .before .before .before .before .before
+    .before .before .before .before .before .before .or-refuse4 .ensures) (c .before .before .before .before .before .before .before .before .before
+    .before .before .before .before .before .before .before .before .before .if1 .left) (c .before .before .before .before .before .before .before
+    .before .before .before .before .before .before .before .before .before .read .ensures) (c .before .before .before .before .before .before .before
+    .before .before .before .before .before .before .before .read2 .ensures) (c .before .before .before .before .before .before .before .before
+    .before .before .before .before .read3 .ensures) (c .before .before .before .before .before .before .before .before .before .before .before .seid
+    .ensures) (c .before .before .before .before .before .before .before .before .before .record-at .ensures .0) (c .before .before .before .before
+    .before .before .before .before .make .ensures) (c .before .before .before .before .entry-at .ensures .0) (c .before .before .before .enter
+    .ensures))
 
 pub create-spec : {M : Type 1} → statement M
 create-spec =

@@ -14,8 +14,14 @@ use borrow.Author.Needs.{needs}
 use Rattle.calls.proofs.files.link.Statement.{statement}
 use Rattle.calls.proofs.files.link.Tie as tie
 
-number : (c : tie.After-or-refuse) (buffer : List ℕ) → c .or-refuse .result ≡ firstRefusal (ruleAt (c .before .before .before .before .before .before .before .before .before .args .t .now) (λ h q. link h q (c .before .before .before .before .before .before .before .before .before .args .c .slot) (c .before .before .before .before .before .before .before .before .before .args .a) buffer) .refusals)
-number c buffer = link-number (c .before .before .before .before .before .before .before .before .before .pre .0) _ buffer (c .before .before .before .before .before .before .or-self .ensures) (c .before .before .before .before .look .ensures) (c .before .before .read .ensures) (c .before .own .ensures) (c .or-refuse .ensures)
+number : (c : tie.After-or-refuse) (buffer : List ℕ) → c .or-refuse .result ≡ firstRefusal (ruleAt (c .before .before .before .before .before .before
+    .before .before .before .args .t .now) (λ h q. link h q (c .before .before .before .before .before .before .before .before .before .args .c .slot)
+    (c .before .before .before .before .before .before .before .before .before .args .a) buffer) .refusals)
+number c buffer =
+    let at-look = c .before .before .before .before in let at-or-self = at-look .before .before in
+    let at-start = at-or-self .before .before .before in
+    link-number (at-start .pre .0) _ buffer (at-or-self .or-self .ensures) (at-look .look .ensures) (c .before .before .read .ensures) (c .before .own
+    .ensures) (c .or-refuse .ensures)
 
 or-self-requires : tie.Need-or-self-requires
 or-self-requires c κs = search needs
@@ -42,7 +48,16 @@ returns : tie.Need-returns
 returns c = λ buffer. left-refused _ _ (number (c .before .before) buffer) (c .before .if1 .taken) (c .refused .ensures)
 
 add-write : tie.Need-add-write
-add-write c = record { fits = omega (arith, links-few (c .before .before .before .before .before .before .before .before .before .before .before .pre .0) _ [] (c .before .before .before .before .before .before .before .before .or-self .ensures) (c .before .before .before .before .before .before .look .ensures) (c .before .before .before .before .read .ensures) (c .before .before .before .own .ensures) (eqb (c .before .before .before .before .read .result) maxLinks) (c .before .before .or-refuse .ensures) (c .before .if1 .left)) }
+add-write c =
+    let at-own = c .before .before .before in let at-read = at-own .before in let at-look = at-read .before .before in
+    let at-or-self = at-look .before .before in let at-start = at-or-self .before .before .before in
+    record {
+      fits = omega (
+        arith,
+        links-few (at-start .pre .0) _ [] (at-or-self .or-self .ensures) (at-look .look .ensures) (at-read .read .ensures)
+            (at-own .own .ensures) (eqb (at-read .read .result) maxLinks) (c .before .before .or-refuse .ensures) (c .before .if1 .left),
+      );
+    }
 
 write-requires : tie.Need-write-requires
 write-requires c κs = search needs
@@ -55,7 +70,13 @@ same-length-2 c = search needs
 
 returns-2 : tie.Need-returns-2
 unfolding link
-returns-2 c = λ buffer. left-done _ (λ h q. link h q _ _ buffer) (number (c .before .before .before .before .before .before) buffer) (c .before .before .before .before .before .if1 .left) (c .answered .ensures) (c .before .before .before .write .ensures ∙ link-words (c .before .before .before .before .before .before .before .before .before .before .before .before .before .before .before .pre .0) _ buffer (c .before .before .before .before .before .before .before .before .before .before .before .before .or-self .ensures) (c .before .before .before .before .before .before .before .before .before .before .look .ensures) (c .before .before .before .before .before .before .before .before .read .ensures) (c .before .before .before .before .before .before .before .own .ensures) (eqb (c .before .before .before .before .before .before .before .before .read .result) maxLinks) (c .before .before .before .before .before .before .or-refuse .ensures) (c .before .before .before .before .before .if1 .left))
+returns-2 c =
+    let at-write = c .before .before .before in let at-if1 = at-write .before .before in let at-or-refuse = at-if1 .before in
+    let at-own = at-or-refuse .before in let at-read = at-own .before in let at-look = at-read .before .before in
+    let at-or-self = at-look .before .before in let at-start = at-or-self .before .before .before in
+    λ buffer. left-done _ (λ h q. link h q _ _ buffer) (number (at-or-refuse) buffer) (at-if1 .if1 .left) (c .answered .ensures) (at-write .write
+    .ensures ∙ link-words (at-start .pre .0) _ buffer (at-or-self .or-self .ensures) (at-look .look .ensures) (at-read .read .ensures) (at-own .own
+    .ensures) (eqb (at-read .read .result) maxLinks) (at-or-refuse .or-refuse .ensures) (at-if1 .if1 .left))
 
 pub link-spec : {M : Type 1} → statement M
 link-spec =

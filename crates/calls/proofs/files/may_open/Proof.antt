@@ -29,7 +29,19 @@ or-refuse-requires-2 : tie.Need-or-refuse-requires-2
 or-refuse-requires-2 c κs = search needs
 
 returns : tie.Need-returns
-returns c = rw (c .or-refuse2 .ensures, c .before .lacks .ensures, c .before .before .writes2 .ensures, c .before .before .before .reads .ensures, c .before .before .before .before .find .ensures, c .before .before .before .before .before .or-refuse .ensures, c .before .before .before .before .before .before .valid .ensures, c .before .before .before .before .before .before .before .before .writes .ensures)
+returns c =
+    let at-reads = c .before .before .before in let at-find = at-reads .before in let at-or-refuse = at-find .before in
+    let at-valid = at-or-refuse .before in let at-writes = at-valid .before .before in
+    rw (
+      c .or-refuse2 .ensures,
+      c .before .lacks .ensures,
+      c .before .before .writes2 .ensures,
+      at-reads .reads .ensures,
+      at-find .find .ensures,
+      at-or-refuse .or-refuse .ensures,
+      at-valid .valid .ensures,
+      at-writes .writes .ensures,
+    )
 
 pub may-open-spec : {M : Type 1} → statement M
 may-open-spec =

@@ -12,8 +12,17 @@ use borrow.Author.Needs.{needs}
 use Rattle.calls.proofs.files.open.Statement.{statement}
 use Rattle.calls.proofs.files.open.Tie as tie
 
-number : (c : tie.After-or-refuse2) (buffer : List ℕ) → c .or-refuse2 .result ≡ firstRefusal (ruleAt (c .before .before .before .before .before .before .before .before .before .before .before .before .before .args .t .now) (λ h q. openFile h q (c .before .before .before .before .before .before .before .before .before .before .before .before .before .args .c .slot) (c .before .before .before .before .before .before .before .before .before .before .before .before .before .args .a) (c .before .before .before .before .before .before .before .before .before .before .before .before .before .args .b) buffer) .refusals)
-number c buffer = open-number (c .before .before .before .before .before .before .before .before .before .before .before .before .before .pre .0) (c .before .before .before .before .before .before .before .before .before .before .before .before .before .args .a) (c .before .before .before .before .before .before .before .before .before .before .before .before .before .args .b) buffer (c .before .before .before .before .before .before .before .before .before .before .or-self .ensures) (c .before .before .before .before .before .before .before .before .look .ensures) (c .before .before .before .before .before .before .free-entry .ensures) (c .before .before .before .before .before .may-open .ensures) (c .before .before .before .busy .ensures) (c .before .before .or-refuse .ensures) (c .before .wide .ensures) (c .or-refuse2 .ensures)
+number : (c : tie.After-or-refuse2) (buffer : List ℕ) → c .or-refuse2 .result ≡ firstRefusal (ruleAt (c .before .before .before .before .before
+    .before .before .before .before .before .before .before .before .args .t .now) (λ h q. openFile h q (c .before .before .before .before .before
+    .before .before .before .before .before .before .before .before .args .c .slot) (c .before .before .before .before .before .before .before .before
+    .before .before .before .before .before .args .a) (c .before .before .before .before .before .before .before .before .before .before .before
+    .before .before .args .b) buffer) .refusals)
+number c buffer =
+    let at-busy = c .before .before .before in let at-may-open = at-busy .before .before in let at-free-entry = at-may-open .before in
+    let at-look = at-free-entry .before .before in let at-or-self = at-look .before .before in let at-start = at-or-self .before .before .before in
+    open-number (at-start .pre .0) (at-start .args .a) (at-start .args .b) buffer (at-or-self .or-self .ensures) (at-look .look .ensures)
+    (at-free-entry .free-entry .ensures) (at-may-open .may-open .ensures) (at-busy .busy .ensures) (c .before .before .or-refuse .ensures) (c .before
+    .wide .ensures) (c .or-refuse2 .ensures)
 
 or-self-requires : tie.Need-or-self-requires
 or-self-requires c κs = search needs
@@ -28,7 +37,13 @@ may-open-requires : tie.Need-may-open-requires
 may-open-requires c κs = search needs
 
 busy-requires : tie.Need-busy-requires
-busy-requires c κs = (c .before .before .before .before .before .before .before .before .before .pre .0, may-clash (c .before .before .before .before .before .before .before .before .before .pre .0) (c .before .before .before .before .before .before .before .before .before .args .a) (c .before .before .before .before .before .before .before .before .before .args .b) [] (c .before .before .before .before .before .before .or-self .ensures) (c .before .before .before .before .look .ensures) (c .before .before .free-entry .ensures) (c .before .may-open .ensures))
+busy-requires c κs =
+    let at-look = c .before .before .before .before in let at-or-self = at-look .before .before in
+    let at-start = at-or-self .before .before .before in (
+      at-start .pre .0,
+      may-clash (at-start .pre .0) (at-start .args .a) (at-start .args .b) [] (at-or-self .or-self .ensures) (at-look .look .ensures)
+          (c .before .before .free-entry .ensures) (c .before .may-open .ensures),
+    )
 
 or-refuse-requires : tie.Need-or-refuse-requires
 or-refuse-requires c κs = search needs
@@ -55,7 +70,21 @@ record-at-requires : tie.Need-record-at-requires
 record-at-requires c κs = search needs
 
 take-up-requires : tie.Need-take-up-requires
-take-up-requires c κs = (c .before .before .entry-at .ensures .1, c .before .record-at .ensures .1, omega (arith, open-fits (c .before .before .before .before .before .before .before .before .before .before .before .before .before .before .before .before .before .pre .0) (c .before .before .before .before .before .before .before .before .before .before .before .before .before .before .before .before .before .args .a) (c .before .before .before .before .before .before .before .before .before .before .before .before .before .before .before .before .before .args .b) [] (c .before .before .before .before .before .before .before .before .before .before .before .before .before .before .or-self .ensures) (c .before .before .before .before .before .before .before .before .before .before .before .before .look .ensures) (c .before .before .before .before .before .before .before .before .before .before .free-entry .ensures) (c .before .before .before .before .before .before .before .before .before .may-open .ensures) (c .before .before .before .before .before .before .before .busy .ensures) (c .before .before .before .before .before .before .or-refuse .ensures) (c .before .before .before .before .before .wide .ensures) (c .before .before .before .before .or-refuse2 .ensures) (c .before .before .before .if1 .left) (c .before .record-at .ensures .0)))
+take-up-requires c κs =
+    let at-if1 = c .before .before .before in let at-or-refuse2 = at-if1 .before in let at-wide = at-or-refuse2 .before in
+    let at-or-refuse = at-wide .before in let at-busy = at-or-refuse .before in let at-may-open = at-busy .before .before in
+    let at-free-entry = at-may-open .before in let at-look = at-free-entry .before .before in let at-or-self = at-look .before .before in
+    let at-start = at-or-self .before .before .before in (
+      c .before .before .entry-at .ensures .1,
+      c .before .record-at .ensures .1,
+      omega (
+        arith,
+        open-fits (at-start .pre .0) (at-start .args .a)
+            (at-start .args .b) [] (at-or-self .or-self .ensures) (at-look .look .ensures) (at-free-entry .free-entry .ensures) (at-may-open .may-open
+            .ensures) (at-busy .busy .ensures) (at-or-refuse .or-refuse .ensures) (at-wide .wide .ensures) (at-or-refuse2 .or-refuse2 .ensures) (at-if1 .if1
+            .left) (c .before .record-at .ensures .0),
+      ),
+    )
 
 answered-requires : tie.Need-answered-requires
 answered-requires c κs = search needs
@@ -67,7 +96,19 @@ returns-2 : tie.Need-returns-2
 unfolding openFile
 returns-2 c = λ buffer. left-done _ (λ h q. openFile h q _ _ _ buffer) (number (c .before .before .before .before .before .before .before .before) buffer) (c .before .before .before .before .before .before .before .if1 .left)
     (c .answered .ensures ∙ ap (λ (d : ℕ). said 0 d 0) (c .before .before .before .before .before .before .before .before .before .before .before .before .before .before .free-entry .ensures))
-    (c .before .before .before .take-up .ensures ∙ open-words (c .before .before .before .before .before .before .before .before .before .before .before .before .before .before .before .before .before .before .before .before .before .pre .0) (c .before .before .before .before .before .before .before .before .before .before .before .before .before .before .before .before .before .before .before .before .before .args .a) (c .before .before .before .before .before .before .before .before .before .before .before .before .before .before .before .before .before .before .before .before .before .args .b) buffer (c .before .before .before .before .before .before .before .before .before .before .before .before .before .before .before .before .before .before .or-self .ensures) (c .before .before .before .before .before .before .before .before .before .before .before .before .before .before .before .before .look .ensures) (c .before .before .before .before .before .before .before .before .before .before .before .before .before .before .free-entry .ensures) (c .before .before .before .before .before .before .before .before .before .before .before .before .before .may-open .ensures) (c .before .before .before .before .before .before .before .before .before .before .before .busy .ensures) (c .before .before .before .before .before .before .before .before .before .before .or-refuse .ensures) (c .before .before .before .before .before .before .before .before .before .wide .ensures) (c .before .before .before .before .before .before .before .before .or-refuse2 .ensures) (c .before .before .before .before .before .before .before .if1 .left) (c .before .before .before .before .before .before .entry-at .ensures .0) (c .before .before .before .before .before .record-at .ensures .0))
+    (c .before .before .before .take-up .ensures ∙ open-words (c .before .before .before .before .before .before .before .before .before .before
+    .before .before .before .before .before .before .before .before .before .before .before .pre .0) (c .before .before .before .before .before
+    .before .before .before .before .before .before .before .before .before .before .before .before .before .before .before .before .args .a) (c
+    .before .before .before .before .before .before .before .before .before .before .before .before .before .before .before .before .before .before
+    .before .before .before .args .b) buffer (c .before .before .before .before .before .before .before .before .before .before .before .before
+    .before .before .before .before .before .before .or-self .ensures) (c .before .before .before .before .before .before .before .before .before
+    .before .before .before .before .before .before .before .look .ensures) (c .before .before .before .before .before .before .before .before .before
+    .before .before .before .before .before .free-entry .ensures) (c .before .before .before .before .before .before .before .before .before .before
+    .before .before .before .may-open .ensures) (c .before .before .before .before .before .before .before .before .before .before .before .busy
+    .ensures) (c .before .before .before .before .before .before .before .before .before .before .or-refuse .ensures) (c .before .before .before
+    .before .before .before .before .before .before .wide .ensures) (c .before .before .before .before .before .before .before .before .or-refuse2
+    .ensures) (c .before .before .before .before .before .before .before .if1 .left) (c .before .before .before .before .before .before .entry-at
+    .ensures .0) (c .before .before .before .before .before .record-at .ensures .0))
 
 pub open-spec : {M : Type 1} → statement M
 open-spec =

@@ -20,7 +20,10 @@ same-length : tie.Need-same-length
 same-length c = search needs
 
 returns : tie.Need-returns
-returns c = λ buffer. left-same _ _ (λ h q. setBits h q _ _ _ buffer) (by-segment _ _ _ _ _ buffer (c .before .before .before .before .before .before .or-self .ensures) (c .before .before .before .before .before .class-of .ensures) (c .before .before .before .before .if1 .taken)) (c .before .before .set-bits-of .ensures buffer)
+returns c =
+    let at-if1 = c .before .before .before .before in let at-class-of = at-if1 .before in let at-or-self = at-class-of .before in
+    λ buffer. left-same _ _ (λ h q. setBits h q _ _ _ buffer) (by-segment _ _ _ _ _ buffer (at-or-self .or-self .ensures) (at-class-of .class-of
+    .ensures) (at-if1 .if1 .taken)) (c .before .before .set-bits-of .ensures buffer)
 
 set-bits-of-requires-2 : tie.Need-set-bits-of-requires-2
 set-bits-of-requires-2 c κs = search needs
@@ -29,7 +32,10 @@ same-length-2 : tie.Need-same-length-2
 same-length-2 c = search needs
 
 returns-2 : tie.Need-returns-2
-returns-2 c = λ buffer. left-same _ _ (λ h q. setBits h q _ _ _ buffer) (by-file _ _ _ _ _ buffer (c .before .before .before .before .before .before .or-self .ensures) (c .before .before .before .before .before .class-of .ensures) (c .before .before .before .before .if1 .left)) (c .before .before .set-bits-of2 .ensures buffer)
+returns-2 c =
+    let at-if1 = c .before .before .before .before in let at-class-of = at-if1 .before in let at-or-self = at-class-of .before in
+    λ buffer. left-same _ _ (λ h q. setBits h q _ _ _ buffer) (by-file _ _ _ _ _ buffer (at-or-self .or-self .ensures) (at-class-of .class-of
+    .ensures) (at-if1 .if1 .left)) (c .before .before .set-bits-of2 .ensures buffer)
 
 pub set-bits-spec : {M : Type 1} → statement M
 set-bits-spec =

@@ -15,8 +15,14 @@ use borrow.Author.Needs.{needs}
 use Rattle.calls.proofs.files.set_bits_of.Statement.{statement}
 use Rattle.calls.proofs.files.set_bits_of.Tie as tie
 
-number : (c : tie.After-own) (buffer : List ℕ) → c .own .result ≡ firstRefusal (setBitsOf (configuration (c .before .before .before .before .before .args .t .now)) (wordsOf (c .before .before .before .before .before .args .t .now)) (c .before .before .before .before .before .args .c .slot) (c .before .before .before .before .before .args .s) (c .before .before .before .before .before .args .b) buffer (kindOf (c .before .before .before .before .before .args .kind)) .refusals)
-number c buffer = bits-number (c .before .before .before .before .before .pre .0) (kindOf (c .before .before .before .before .before .args .kind)) (c .before .before .before .before .before .args .s) (c .before .before .before .before .before .args .b) buffer (c .before .before .look .ensures) (c .before .or-refuse .ensures) (c .own .ensures)
+number : (c : tie.After-own) (buffer : List ℕ) → c .own .result ≡ firstRefusal (setBitsOf (configuration (c .before .before .before .before .before
+    .args .t .now)) (wordsOf (c .before .before .before .before .before .args .t .now)) (c .before .before .before .before .before .args .c .slot) (c
+    .before .before .before .before .before .args .s) (c .before .before .before .before .before .args .b) buffer (kindOf (c .before .before .before
+    .before .before .args .kind)) .refusals)
+number c buffer =
+    let at-start = c .before .before .before .before .before in
+    bits-number (at-start .pre .0) (kindOf (at-start .args .kind)) (at-start .args .s) (at-start .args .b) buffer (c .before .before .look .ensures)
+    (c .before .or-refuse .ensures) (c .own .ensures)
 
 look-requires : tie.Need-look-requires
 look-requires c κs = search needs
@@ -49,7 +55,13 @@ same-length-2 : tie.Need-same-length-2
 same-length-2 c = search needs
 
 returns-2 : tie.Need-returns-2
-returns-2 c = λ buffer. left-done _ _ (number (c .before .before .before .before .before .before .before) buffer) (c .before .before .before .before .before .before .if1 .left) (c .answered .ensures) (c .before .before .before .write .ensures ∙ bits-words (c .before .before .before .before .before .before .before .before .before .before .before .before .pre .0) (kindOf (c .before .before .before .before .before .before .before .before .before .before .before .before .args .kind)) (c .before .before .before .before .before .before .before .before .before .before .before .before .args .s) (c .before .before .before .before .before .before .before .before .before .before .before .before .args .b) buffer (c .before .before .before .before .before .before .before .before .before .look .ensures) (c .before .before .before .before .before .before .before .before .or-refuse .ensures) (c .before .before .before .before .before .before .before .own .ensures) (c .before .before .before .before .before .before .if1 .left) (c .before .before .before .before .bits-word .ensures))
+returns-2 c =
+    let at-write = c .before .before .before in let at-bits-word = at-write .before in let at-if1 = at-bits-word .before .before in
+    let at-own = at-if1 .before in let at-or-refuse = at-own .before in let at-look = at-or-refuse .before in
+    let at-start = at-look .before .before .before in
+    λ buffer. left-done _ _ (number (at-own) buffer) (at-if1 .if1 .left) (c .answered .ensures) (at-write .write .ensures ∙ bits-words (at-start .pre
+    .0) (kindOf (at-start .args .kind)) (at-start .args .s) (at-start .args .b) buffer (at-look .look .ensures) (at-or-refuse .or-refuse .ensures)
+    (at-own .own .ensures) (at-if1 .if1 .left) (at-bits-word .bits-word .ensures))
 
 pub set-bits-of-spec : {M : Type 1} → statement M
 set-bits-of-spec =

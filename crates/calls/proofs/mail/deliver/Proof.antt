@@ -44,7 +44,9 @@ returns : tie.Need-returns
 returns c =
     let put = c .before .before in
     let written = put .before .before .before .before .before .before .before in
-    deliver-words (written .before .before .before .before .before .before .pre .0) _ _ _ _ (written .before .before .before .record-at .ensures .0) (written .before .before .wide .ensures) (written .write .ensures) (put .before .before .before .word-at .ensures) (put .before .before .word-at2 .ensures) (put .before .word-at3 .ensures)
+    deliver-words (written .before .before .before .before .before .before .pre .0) _ _ _ _ (written .before .before .before .record-at .ensures .0)
+    (written .before .before .wide .ensures) (written .write .ensures) (put .before .before .before .word-at .ensures) (put .before .before .word-at2
+    .ensures) (put .before .word-at3 .ensures)
     (put .put-four .ensures)
 
 pub deliver-spec : {M : Type 1} → statement M

@@ -47,7 +47,10 @@ mul-moved : tie.Need-mul-moved
 mul-moved c = search needs
 
 move-up-requires : tie.Need-move-up-requires
-move-up-requires c κs = (omega arith, omega arith, messages-within (c .before .before .before .before .before .before .before .before .before .before .before .before .before .before .before .before .before .before .before .pre) _ _ (c .before .before .before .before .before .before .before .before .before .before .before .record-at .ensures .0) (c .before .before .before .write .ensures))
+move-up-requires c κs =
+    let at-write = c .before .before .before in let at-record-at = at-write .before .before .before .before .before .before .before .before in
+    let at-start = at-record-at .before .before .before .before .before .before .before .before in
+    (omega arith, omega arith, messages-within (at-start .pre) _ _ (at-record-at .record-at .ensures .0) (at-write .write .ensures))
 
 add-clear : tie.Need-add-clear
 add-clear c = search needs

@@ -43,7 +43,14 @@ rights-requires : tie.Need-rights-requires
 rights-requires c κs = search needs
 
 returns : tie.Need-returns
-returns c = seen (c .before .before .before .before .before .before .before .before .before .before .before .before .before .before .before .pre .0) (c .before .before .before .before .before .before .before .before .before .before .before .before .before .before .before .pre .1) _ _ (c .before .before .before .before .before .before .before .before .before .before .before .before .before .name-of .ensures) (c .before .before .before .before .before .before .before .before .before .before .before .before .cell-of .ensures) (c .before .before .before .before .before .before .before .before .before .before .before .read .ensures) (c .before .before .before .before .before .before .before .before .before .before .read2 .ensures) (c .before .before .before .before .before .before .before .before .before .read3 .ensures) (c .before .before .before .before .before .before .before .before .read4 .ensures) (c .before .before .before .before .before .before .before .bits-word .ensures) (c .before .before .before .before .before .before .read5 .ensures) (c .before .before .before .before .before .read6 .ensures) (c .before .before .before .before .read7 .ensures) (c .before .before .before .may-flow .ensures) (c .before .before .rights .ensures)
+returns c =
+    let at-may-flow = c .before .before .before in let at-read7 = at-may-flow .before in let at-read6 = at-read7 .before in
+    let at-read5 = at-read6 .before in let at-bits-word = at-read5 .before in let at-read4 = at-bits-word .before in
+    let at-read3 = at-read4 .before in let at-read2 = at-read3 .before in let at-read = at-read2 .before in let at-cell-of = at-read .before in
+    let at-name-of = at-cell-of .before in let at-start = at-name-of .before .before in
+    seen (at-start .pre .0) (at-start .pre .1) _ _ (at-name-of .name-of .ensures) (at-cell-of .cell-of .ensures) (at-read .read .ensures) (at-read2
+    .read2 .ensures) (at-read3 .read3 .ensures) (at-read4 .read4 .ensures) (at-bits-word .bits-word .ensures) (at-read5 .read5 .ensures) (at-read6
+    .read6 .ensures) (at-read7 .read7 .ensures) (at-may-flow .may-flow .ensures) (c .before .before .rights .ensures)
 
 pub look-spec : {M : Type 1} → statement M
 look-spec =

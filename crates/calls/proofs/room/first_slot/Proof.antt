@@ -24,7 +24,14 @@ in-cell-requires : tie.Need-in-cell-requires Inv-loop μ-loop
 in-cell-requires c κs = (c .before .before .before .pre .0, omega arith, c .before .before .before .pre .2)
 
 add-from : tie.Need-add-from Inv-loop μ-loop
-add-from c = omega (arith, first-more (configuration (c .before .before .before .before .args .t .now)) (c .before .before .before .before .args .k) (c .before .before .loop .i), first-fits (c .before .before .before .before .pre .0) (c .before .before .before .before .args .k) (c .before .before .loop .i + 1) (omega arith) (c .before .before .before .before .pre .3))
+add-from c =
+    let at-start = c .before .before .before .before in
+    omega (
+      arith,
+      first-more (configuration (at-start .args .t .now)) (at-start .args .k) (c .before .before .loop .i),
+      first-fits (at-start .pre .0)
+          (at-start .args .k) (c .before .before .loop .i + 1) (omega arith) (at-start .pre .3),
+    )
 
 add-i : tie.Need-add-i Inv-loop μ-loop
 add-i c = search needs
@@ -36,7 +43,16 @@ loop-again : tie.Need-loop-again Inv-loop μ-loop
 loop-again c = (omega arith, rw (c .before .before .loop .inv .1, c .in-cell .ensures) (first-more _ _ _))
 
 returns : tie.Need-returns Inv-loop μ-loop
-returns c = let e : c .before .loop .i ≡ c .before .before .before .args .c = omega arith in (rw e at (c .before .loop .inv .1), omega (arith, c .before .loop .inv .1, first-fits (c .before .before .before .pre .0) (c .before .before .before .args .k) (c .before .loop .i) (omega arith) (c .before .before .before .pre .3)))
+returns c =
+    let at-start = c .before .before .before in
+    let e : c .before .loop .i ≡ at-start .args .c = omega arith in (
+      rw e at (c .before .loop .inv .1),
+      omega (
+        arith,
+        c .before .loop .inv .1,
+        first-fits (at-start .pre .0) (at-start .args .k) (c .before .loop .i) (omega arith) (at-start .pre .3),
+      ),
+    )
 
 pub first-slot-spec : {M : Type 1} → statement M
 first-slot-spec =

@@ -23,13 +23,36 @@ record-words-requires : tie.Need-record-words-requires
 record-words-requires c κs = search needs
 
 free-at-requires : tie.Need-free-at-requires
-free-at-requires c κs = (c .before .base .ensures .1, rw (c .record-words .ensures) (record-small (kindOf (c .before .before .before .before .before .before .args .kind))), omega (arith, run-small (c .before .before .before .before .before .before .pre .0) (kindOf (c .before .before .before .before .before .before .args .kind)) _ (c .before .before .before .before .before .before .pre .1) (c .before .before .before .before .cell-word .ensures .0) (c .before .before .before .first-slot .ensures .0) (c .before .before .in-cell .ensures)))
+free-at-requires c κs =
+    let at-first-slot = c .before .before .before in let at-cell-word = at-first-slot .before in let at-start = at-cell-word .before .before in (
+      c .before .base .ensures .1,
+      rw (c .record-words .ensures) (record-small (kindOf (at-start .args .kind))),
+      omega (
+        arith,
+        run-small (at-start .pre
+            .0) (kindOf (at-start .args .kind)) _ (at-start .pre .1) (at-cell-word .cell-word .ensures .0) (at-first-slot .first-slot .ensures .0) (c .before
+            .before .in-cell .ensures),
+      ),
+    )
 
 add-t11 : tie.Need-add-t11
-add-t11 c = record { fits = omega (arith, run-small (c .before .before .before .before .before .before .before .pre .0) (kindOf (c .before .before .before .before .before .before .before .args .kind)) _ (c .before .before .before .before .before .before .before .pre .1) (c .before .before .before .before .before .cell-word .ensures .0) (c .before .before .before .before .first-slot .ensures .0) (c .before .before .before .in-cell .ensures)) }
+add-t11 c =
+    let at-in-cell = c .before .before .before in let at-first-slot = at-in-cell .before in let at-cell-word = at-first-slot .before in
+    let at-start = at-cell-word .before .before in
+    record {
+      fits = omega (
+        arith,
+        run-small (at-start .pre .0) (kindOf (at-start .args .kind)) _ (at-start .pre .1) (at-cell-word .cell-word .ensures
+            .0) (at-first-slot .first-slot .ensures .0) (at-in-cell .in-cell .ensures),
+      );
+    }
 
 returns : tie.Need-returns
-returns c = slot-told (c .before .before .before .before .before .before .before .pre .0) (kindOf (c .before .before .before .before .before .before .before .args .kind)) _ (c .before .before .before .before .before .before .before .pre .1) (c .before .before .before .before .before .cell-word .ensures .0) (c .before .before .before .before .first-slot .ensures .0) (c .before .before .before .in-cell .ensures) (c .before .before .base .ensures .0) (c .before .record-words .ensures) (c .free-at .ensures)
+returns c =
+    let at-in-cell = c .before .before .before in let at-first-slot = at-in-cell .before in let at-cell-word = at-first-slot .before in
+    let at-start = at-cell-word .before .before in
+    slot-told (at-start .pre .0) (kindOf (at-start .args .kind)) _ (at-start .pre .1) (at-cell-word .cell-word .ensures .0) (at-first-slot .first-slot
+    .ensures .0) (at-in-cell .in-cell .ensures) (c .before .before .base .ensures .0) (c .before .record-words .ensures) (c .free-at .ensures)
 
 pub free-slot-spec : {M : Type 1} → statement M
 free-slot-spec =

@@ -11,13 +11,23 @@ level-at-requires : tie.Need-level-at-requires
 level-at-requires c κs = search needs
 
 put-four-bytes-requires : tie.Need-put-four-bytes-requires
-put-four-bytes-requires c κs = let s = shape-of (configuration (c .before .before .before .before .args .t .now)) (c .before .before .before .before .pre .0) in (c .before .before .before .before .pre .1, omega (arith, s .few-cells, c .before .before .before .before .pre .2), omega arith, omega arith)
+put-four-bytes-requires c κs =
+    let at-start = c .before .before .before .before in
+    let s = shape-of (configuration (at-start .args .t .now)) (at-start .pre .0) in (
+      at-start .pre .1,
+      omega (arith, s .few-cells, at-start .pre .2),
+      omega arith,
+      omega arith,
+    )
 
 put-four-bytes-requires-2 : tie.Need-put-four-bytes-requires-2
 put-four-bytes-requires-2 c κs = search needs
 
 put-four-bytes-requires-3 : tie.Need-put-four-bytes-requires-3
-put-four-bytes-requires-3 c κs = let l = level-small _ _ (c .before .before .before .before .before .before .before .before .before .before .before .before .pre .0) (c .before .before .before .before .before .before .before .before .before .before .before .before .pre .2) (c .before .before .before .before .before .before .before .before .before .level-at .ensures) in (l .0, l .1, omega arith, omega arith)
+put-four-bytes-requires-3 c κs =
+    let at-level-at = c .before .before .before .before .before .before .before .before .before in
+    let at-start = at-level-at .before .before .before in
+    let l = level-small _ _ (at-start .pre .0) (at-start .pre .2) (at-level-at .level-at .ensures) in (l .0, l .1, omega arith, omega arith)
 
 put-four-bytes-requires-4 : tie.Need-put-four-bytes-requires-4
 put-four-bytes-requires-4 c κs = search needs
@@ -26,7 +36,12 @@ same-length : tie.Need-same-length
 same-length c = search needs
 
 returns : tie.Need-returns
-returns c = told-four _ _ _ _ _ _ _ (c .before .before .before .before .before .before .before .before .before .before .before .before .before .before .before .before .level-at .ensures) (c .before .before .before .before .before .before .before .before .before .before .before .before .before .before .put-four-bytes .ensures) (c .before .before .before .before .before .before .before .before .before .before .put-four-bytes2 .ensures) (c .before .before .before .before .before .before .put-four-bytes3 .ensures) (c .before .before .put-four-bytes4 .ensures)
+returns c =
+    let at-put-four-bytes3 = c .before .before .before .before .before .before in
+    let at-put-four-bytes2 = at-put-four-bytes3 .before .before .before .before in
+    let at-put-four-bytes = at-put-four-bytes2 .before .before .before .before in let at-level-at = at-put-four-bytes .before .before in
+    told-four _ _ _ _ _ _ _ (at-level-at .level-at .ensures) (at-put-four-bytes .put-four-bytes .ensures) (at-put-four-bytes2 .put-four-bytes2
+    .ensures) (at-put-four-bytes3 .put-four-bytes3 .ensures) (c .before .before .put-four-bytes4 .ensures)
 
 pub tell-spec : {M : Type 1} → statement M
 tell-spec =
