@@ -1,8 +1,8 @@
 #!/usr/bin/env bash
 # The host's tests: the safe wrapper, the header, the C program and the examples over the proved library, the plain monitor by itself, and
 # the two against each other; and whether the trials find faults, some of which are drawn (faults.sh tries all). They read
-# target/staticlib/libmonitor.a and target/bin/replay of the repository, which `rt staticlib monitor` and `rt check replay` write,
-# whatever the environment says.
+# target/staticlib/libmonitor.a and target/bin/replay of the repository, which `rt staticlib monitor` and `rt check replay` write, or, where
+# the machine is not x86-64, what `tools/native target/native` makes of them; whatever the environment says.
 #
 #   test.sh [FOLDER]     with FOLDER, its library and its replay are tested instead: a stand-in's, say
 set -euo pipefail

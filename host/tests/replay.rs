@@ -1,5 +1,5 @@
 //! The proved replay program against the plain replay. MONITOR_REPLAY names the program; without it, the one that the proofs leave
-//! in target/bin.
+//! in target/bin, or, where the machine is not x86-64, the one in target/native that runs it.
 
 mod common;
 use common::Archive;
@@ -10,7 +10,8 @@ use trial::listings::Program;
 /// The program, with a folder of the test's own.
 fn program(test: &str) -> Program<'static, Archive> {
     let here = PathBuf::from(env!("CARGO_MANIFEST_DIR"));
-    let program = std::env::var_os("MONITOR_REPLAY").map_or(here.join("../target/bin/replay"), PathBuf::from);
+    let made = here.join(if cfg!(target_arch = "x86_64") { "../target/bin/replay" } else { "../target/native/replay" });
+    let program = std::env::var_os("MONITOR_REPLAY").map_or(made, PathBuf::from);
     assert!(program.exists(), "no replay program at {}: run `rt check replay` first", program.display());
     let folder = PathBuf::from(env!("CARGO_TARGET_TMPDIR")).join(test);
     std::fs::create_dir_all(&folder).expect("the folder can be made");

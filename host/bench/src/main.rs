@@ -309,7 +309,9 @@ fn plain_replay() {
 
 fn replay() {
     let here = PathBuf::from(env!("CARGO_MANIFEST_DIR"));
-    let program = env::var_os("MONITOR_REPLAY").map_or(here.join("../../target/bin/replay"), PathBuf::from);
+    let made =
+        here.join(if cfg!(target_arch = "x86_64") { "../../target/bin/replay" } else { "../../target/native/replay" });
+    let program = env::var_os("MONITOR_REPLAY").map_or(made, PathBuf::from);
     if !program.exists() {
         println!("\nNo replay program at {}: not measured.", program.display());
         return;
