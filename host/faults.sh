@@ -7,7 +7,7 @@
 set -uo pipefail
 cd "$(dirname "$0")"
 work=target/stand-in
-export OPT_LEVEL=1 TRIAL_CALLS=${TRIAL_CALLS:-400000} TRIAL_RUNS=${TRIAL_RUNS:-3000} TRIAL_SCRIPTS=${TRIAL_SCRIPTS:-800}
+export OPT_LEVEL=1 CODEGEN_UNITS=16 TRIAL_CALLS=${TRIAL_CALLS:-400000} TRIAL_RUNS=${TRIAL_RUNS:-3000} TRIAL_SCRIPTS=${TRIAL_SCRIPTS:-800}
 
 cargo build --release --offline --locked --quiet --package trial --example try_library || exit 2
 program=${CARGO_TARGET_DIR:-target}/release/examples/try_library

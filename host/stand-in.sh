@@ -5,7 +5,7 @@
 #   stand-in.sh FOLDER [EDIT]     writes FOLDER/libmonitor.so and FOLDER/replay
 #
 # An edit has the lines 'file:', 'old:' and 'new:', and may have 'after:', a text behind which the old line is looked for. OPT_LEVEL is
-# rustc's, 3 by default; PARTS says which of 'library' and 'replay' are built, both by default.
+# rustc's, 3 by default, and CODEGEN_UNITS too, 1 by default; PARTS says which of 'library' and 'replay' are built, both by default.
 set -euo pipefail
 here=$(cd "$(dirname "$0")" && pwd)
 folder=$1
@@ -38,7 +38,7 @@ if [ -n "$edit" ]; then
     printf '%s%s%s%s\n' "$head" "${text%"$old$rest"}" "$new" "$rest" >"$file"
 fi
 
-compile() { rustc --edition 2024 -A warnings -C opt-level="${OPT_LEVEL:-3}" "$@"; }
+compile() { rustc --edition 2024 -A warnings -C opt-level="${OPT_LEVEL:-3}" -C codegen-units="${CODEGEN_UNITS:-1}" "$@"; }
 for part in ${PARTS:-library replay}; do
     case $part in
     library) compile --crate-type cdylib --crate-name monitor -o "$folder/libmonitor.so" "$folder/src/library.rs" ;;

@@ -16,7 +16,7 @@ use Rattle.laws.proofs.Places.{conf-cells, conf-slots, conf-blocks, conf-cell}
 use Rattle.laws.proofs.Shape.{Shape, shape-of}
 use Rattle.layout.specs.declared.Header.{Header}
 use Rattle.layout.specs.Header.{headerOf, slotsOf, baseOf, recordOf, placeOf}
-use Rattle.calls.specs.World.{Known, wordsOf, firstBy, cellBy, freeTest, emptyTest}
+use Rattle.calls.specs.World.{Known, wordsOf, firstBy, cellBy, emptyTest}
 
 -- ---- places and readings
 
@@ -128,11 +128,6 @@ module _ {t : List ℕ} {k i n end c : ℕ} (kl : k < cellWords) (p : Passed t k
     }
 
 -- ---- what the searches ask, in the words that the code has read: y is the place, x and z the words there
-
-pub free-told : (t : List ℕ) (base size i : ℕ) (b : Bool) {y x z : ℕ} → y ≡ i → x ≡ getD t (base + size * y + 0) 0 → z ≡ getD t (base + size * y + 1) 0
-    → eqb x 0 && ltb z maxSerial ≡ b → freeTest t base size i ≡ b
-unfolding freeTest
-free-told t base size i b e p q r = rw (← e, ← p, ← q) r
 
 pub empty-told : (t : List ℕ) (from d : ℕ) {y x : ℕ} → y ≡ d → x ≡ getD t (from + 2 * y) 0 → x ≡ 0 → emptyTest t from d ≡ true
 unfolding emptyTest

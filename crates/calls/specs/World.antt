@@ -5,7 +5,7 @@ use mathlib.Core.List.{List}
 use Prim.Native.Nat.{ℕ, _+_, _*_, _<_}
 use lib.Dec.{ltb, eqb}
 use lib.ListN.{length, getD}
-use Rattle.rules.specs.Words.{sumBelow, lowest}
+use Rattle.rules.specs.Words.{sumBelow, lowest, least}
 use Rattle.rules.specs.Claim.{Holds, test}
 use Rattle.rules.specs.Layout.{maxSerial, Kind, process, segment, file, cells, slots, cellWord, configuration, cellOf, flowMatrix, Addr, rd, tableWords, live, serial, entries}
 use Rattle.rules.specs.Seid.{class, isSeid}
@@ -52,9 +52,13 @@ cellBy h k i = lowest (λ c. ltb i (firstBy h k c + cellWord h c k)) (cells h) 0
 unfoldable pub freeTest : List ℕ → ℕ → ℕ → ℕ → Bool
 freeTest t base size i = eqb (getD t (base + size * i + live) 0) 0 && ltb (getD t (base + size * i + serial) 0) maxSerial
 
--- the lowest such of n slots from i on
+-- its serial
+unfoldable pub serialAt : List ℕ → ℕ → ℕ → ℕ → ℕ
+serialAt t base size i = getD t (base + size * i + serial) 0
+
+-- the one of n slots from i on that has the smallest serial, the lowest among equals
 unfoldable pub freeAt : List ℕ → ℕ → ℕ → ℕ → ℕ → ℕ
-freeAt t base size n i = lowest (freeTest t base size) n i
+freeAt t base size n i = least (freeTest t base size) (serialAt t base size) n i
 
 -- the lowest empty one of the entries from a place on
 unfoldable pub emptyTest : List ℕ → ℕ → ℕ → Bool

@@ -15,6 +15,7 @@ use rules::HEADER_WORDS;
 use rules::LIVE;
 use rules::MAX_SERIAL;
 use rules::SERIAL;
+use words::first;
 use words::wide;
 use words::word;
 
@@ -64,21 +65,25 @@ pub(crate) fn first_slot(t: &[u32], n: Header, c: u32, k: usize) -> u32
     from
 }
 
-// The lowest of n slots from one on that isn't live and can be used once more, or the end of them. The records begin at base.
+// Of n slots from one on, that which isn't live and has the smallest serial below 65535, the lowest among equals; the end of them where there is none. The records begin
+// at base.
 fn free_at(t: &[u32], base: usize, size: usize, n: u32, from: u32) -> u32
     requires { ⌜ (base < 2 ^ 43) × (size ≤ recordWords process) × (from + n < 2 ^ 32) ⌝ }
     ensures { λ r. ⌜ r ≡ freeAt (now (t .entry)) base size n from ⌝ }
 {
     let end = from + n;
+    let mut best = end;
+    let mut least = MAX_SERIAL;
     let mut i = from;
     while i < end {
         let at = base + size * wide(i);
-        if (word(t, at + LIVE) == 0) & (word(t, at + SERIAL) < MAX_SERIAL) {
-            return i;
-        }
+        let serial = word(t, at + SERIAL);
+        let better = (word(t, at + LIVE) == 0) & (serial < least);
+        best = first(better, i, best);
+        least = first(better, serial, least);
         i += 1;
     }
-    i
+    best
 }
 
 // The slot that a creating call takes, or none.
@@ -87,7 +92,7 @@ pub(crate) struct Slot {
     pub none: bool,
 }
 
-// "The lowest slot of the caller's cell that isn't live and has serial below 65535."
+// "The search for a free slot shall take the one with the smallest serial, and the lowest index among equals": in the run of a cell.
 pub(crate) fn free_slot(t: &[u32], n: Header, kind: Kind, cell: u32) -> Slot
     requires { ⌜ Known (now t) n × (cell < n .cells) ⌝ }
     ensures { λ r. ⌜ r ≡ slotFound (configuration (now (t .entry))) (wordsOf (now (t .entry))) (kindOf kind) cell ⌝ }

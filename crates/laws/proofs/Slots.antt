@@ -9,7 +9,7 @@ use borrow.Author.Tests.{eqb-true, ltb-true, leb-false, eq-eqb, lt-ltb, lt-leb}
 use Rattle.rules.specs.Layout.{maxSerial, Kind, cells, slots, cellSlots, firstSlot, cellOf, Addr, at, live, serial}
 use Rattle.rules.specs.Find.{canTake, freeSlot, noSlot}
 use Rattle.laws.proofs.Tests.{and-left, and-right, and-both}
-use Rattle.laws.proofs.Search.{lowest-ge, lowest-hit, lowest-before, lowest-same}
+use Rattle.laws.proofs.Least.{Smallest, least-is, least-before, least-same}
 use Rattle.laws.proofs.Cells.{cell-run, run-end}
 use Rattle.laws.proofs.Shape.{Shape}
 
@@ -45,25 +45,38 @@ module _ (r : Addr → ℕ) (k : Kind) (i : ℕ) where
 
 module _ (h : List ℕ) (r : Addr → ℕ) (k : Kind) (c : ℕ) where
   -- what is found
-  pub slot-in-run : noSlot h r k c ≡ false → InRun h k c (freeSlot h r k c)
+  smallest : noSlot h r k c ≡ false → Smallest (canTake r k) (λ i. r (at k i serial)) (firstSlot h k c) (firstSlot h k c + cellSlots h k c) (freeSlot h r k c)
   unfolding freeSlot
-  slot-in-run n = record { low = lowest-ge (canTake r k) (cellSlots h k c) (firstSlot h k c); high = leb-false _ _ n }
+  smallest n = least-is (canTake r k) (λ i. r (at k i serial)) (cellSlots h k c) (firstSlot h k c) (leb-false _ _ n)
+
+  pub slot-in-run : noSlot h r k c ≡ false → InRun h k c (freeSlot h r k c)
+  slot-in-run n = record { low = smallest n .low; high = smallest n .high }
 
   pub slot-untaken : noSlot h r k c ≡ false → Untaken r k (freeSlot h r k c)
-  unfolding freeSlot
-  slot-untaken n = untaken r k _ (lowest-hit (canTake r k) (cellSlots h k c) (firstSlot h k c) (leb-false _ _ n))
+  slot-untaken n = untaken r k _ (smallest n .passes)
+
+  -- no other that can be taken has a smaller serial, nor one before it the same
+  pub slot-smallest : noSlot h r k c ≡ false → (i : ℕ) → InRun h k c i → Untaken r k i
+      → (r (at k (freeSlot h r k c) serial) ≤ r (at k i serial)) × (i < freeSlot h r k c → r (at k (freeSlot h r k c) serial) < r (at k i serial))
+  slot-smallest n i x u =
+      let s = smallest n in
+      let t = can-take r k i u in
+      (s .smallest i (x .low) (x .high) t, λ l. s .first i (x .low) l t)
 
   -- where one of the run can be taken, one is found
   pub slot-there : (i : ℕ) → InRun h k c i → Untaken r k i → noSlot h r k c ≡ false
   unfolding freeSlot
-  slot-there i x u = lt-leb _ _ (lowest-before (canTake r k) (cellSlots h k c) (firstSlot h k c) i (x .low) (x .high) (can-take r k i u))
+  slot-there i x u =
+      lt-leb _ _ (least-before (canTake r k) (λ i. r (at k i serial)) (cellSlots h k c) (firstSlot h k c) i (x .low) (x .high) (can-take r k i u))
 
 -- it hangs on which slots of the run live, and on their serials
 pub same-slot : (h : List ℕ) (r q : Addr → ℕ) (k : Kind) (c : ℕ)
     → ((i : ℕ) → InRun h k c i → (q (at k i live) ≡ r (at k i live)) × (q (at k i serial) ≡ r (at k i serial))) → freeSlot h q k c ≡ freeSlot h r k c
 unfolding freeSlot
-same-slot h r q k c same = lowest-same (canTake q k) (canTake r k) (cellSlots h k c) (firstSlot h k c) (λ i lo hi.
-    let e = same i (record { low = lo; high = hi }) in rw (e .0, e .1))
+same-slot h r q k c same =
+    least-same (canTake q k) (canTake r k) (λ i. q (at k i serial)) (λ i. r (at k i serial)) (cellSlots h k c) (firstSlot h k c) (λ i lo hi.
+    let e = same i (record { low = lo; high = hi }) in
+    let t : canTake q k i ≡ canTake r k i = rw (e .0, e .1) in (t, e .1))
 
 -- ---- in a table's configuration
 

@@ -30,7 +30,7 @@ use Rattle.kept.proofs.Entries.{empty-entry}
 
 -- ---- a table whose records are all zero
 
-abbrev blank : Addr → ℕ
+abbrev pub blank : Addr → ℕ
 blank a = 0
 
 blank-fine : (h : List ℕ) → Fine h blank
@@ -199,6 +199,13 @@ unfolding canSetUp lengthsExact
 set-up-configuration t m w =
     let h = configuration t in
     rw (set-up-table t m w) (fresh-configuration h (whole-configuration t (w .1 .0)) (shape-of h (w .0)))
+
+pub set-up-reads : (t : List ℕ) (m : ℕ) → Holds (canSetUp t m) → (a : Addr) → Valid (configuration t) a
+    → rd (configuration t) (setUpTable t m) a ≡ over blank (firstProcesses (configuration t) (cells (configuration t))) a
+unfolding canSetUp lengthsExact
+set-up-reads t m w a v =
+    let h = configuration t in
+    rw (set-up-table t m w) (fresh-reads h (whole-configuration t (w .1 .0)) (shape-of h (w .0)) a v)
 
 pub set-up-serial : (t : List ℕ) (m : ℕ) → Holds (canSetUp t m) → (c : ℕ) → c < cells (configuration t)
     → rd (configuration t) (setUpTable t m) (at process (firstSlot (configuration t) process c) serial) ≡ 1

@@ -10,6 +10,7 @@ pub mod Delivered
 pub mod Fresh
 pub mod Judged
 pub mod Released
+pub mod Wear
 pub mod Single
 pub mod Gone
 pub mod Edges

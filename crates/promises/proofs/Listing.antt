@@ -4,7 +4,7 @@ use mathlib.Core.List.{List, [], _∷_, _++_}
 use Prim.Native.Nat.{ℕ}
 use Prim.Native.String.{String}
 use lib.ListN.{replicate}
-use Rattle.rules.specs.Words.{allBelow, someBelow, sumBelow, countBelow, lowest, tabFrom, part, word4}
+use Rattle.rules.specs.Words.{allBelow, someBelow, sumBelow, countBelow, lowest, orRather, least, tabFrom, part, word4}
 use Rattle.rules.specs.Level.{within, equals, flowsTo}
 use Rattle.rules.specs.Layout.{cells, slots, blocks, cellWord, levelOf, configuration, firstSlot, cellOf, flows, rd}
 use Rattle.rules.specs.Seid.{seid, classOf, indexOf, serialOf, isSeid, seidAt, orSelf, present}
@@ -68,5 +68,5 @@ pub the-listing : listing (configuration-bytes ++ calls-bytes)
     ∷ "7 XOK 2164260866 0"
     ∷ "8 XnoObj 0 0"
     ∷ [])
-unfolding allBelow someBelow sumBelow countBelow lowest tabFrom part word4 within equals flowsTo cells slots blocks cellWord levelOf configuration firstSlot cellOf flows rd seid classOf indexOf serialOf isSeid seidAt orSelf present validModes reads writes excludesReaders excludesWriters clash rights mayRead mayWrite lacks asksRead asksWrite validAccess access headerOk cellOk levelsDistinct sumsMatch configured lengthsExact recordOk heldOk currentOk entryOk parentOk heldOnce messageOk processOk ownEntry ownEntries segmentSize segmentOk fileOk recordsOk wellFormed ascii errorNames errorName sameAddr over rightsAt freeSlot freeEntry zeros oneLess givenUp create clashesAt clashes openFile close block readBlock firstProcesses freshTable ruleOf badCaller badCode carriedOut wholeRule step groups numberFrom numbersFrom configurationIn replayable callIn scriptIn decimalIn hex showsBuffer line linesFrom heading startOf scriptListing listing
+unfolding allBelow someBelow sumBelow countBelow lowest orRather least tabFrom part word4 within equals flowsTo cells slots blocks cellWord levelOf configuration firstSlot cellOf flows rd seid classOf indexOf serialOf isSeid seidAt orSelf present validModes reads writes excludesReaders excludesWriters clash rights mayRead mayWrite lacks asksRead asksWrite validAccess access headerOk cellOk levelsDistinct sumsMatch configured lengthsExact recordOk heldOk currentOk entryOk parentOk heldOnce messageOk processOk ownEntry ownEntries segmentSize segmentOk fileOk recordsOk wellFormed ascii errorNames errorName sameAddr over rightsAt freeSlot freeEntry zeros oneLess givenUp create clashesAt clashes openFile close block readBlock firstProcesses freshTable ruleOf badCaller badCode carriedOut wholeRule step groups numberFrom numbersFrom configurationIn replayable callIn scriptIn decimalIn hex showsBuffer line linesFrom heading startOf scriptListing listing
 the-listing = refl

@@ -7,7 +7,7 @@ use native.Mathlib.Omega.{arith}
 use lib.Dec.{ltb}
 use lib.ListN.{length, replicate}
 use borrow.Author.Tests.{ltb-true}
-use Rattle.rules.specs.Words.{allBelow, someBelow, sumBelow, countBelow, lowest, tabFrom, part}
+use Rattle.rules.specs.Words.{allBelow, someBelow, sumBelow, countBelow, lowest, orRather, least, tabFrom, part}
 use Rattle.rules.specs.Claim.{test}
 use Rattle.rules.specs.Level.{within, equals, flowsTo}
 use Rattle.rules.specs.Layout.{Kind, process, file, recordWords, live, serial, owner, bits, links, size, cells, slots, blocks, cellWord, levelOf, configuration, firstSlot, cellOf, flows, at, rd}
@@ -35,7 +35,7 @@ use Rattle.secrecy.proofs.Demand3.{one-observer}
 
 -- the rules' definitions that the examples compute with: to open this is to open them
 open-rules : Unit {0}
-unfolding freshTable firstProcesses allBelow someBelow sumBelow countBelow lowest tabFrom part within equals flowsTo cells slots blocks cellWord levelOf configuration firstSlot cellOf flows rd seid classOf indexOf serialOf isSeid seidAt orSelf present validModes reads writes excludesReaders excludesWriters clash rights mayRead mayWrite lacks asksRead asksWrite validAccess access headerOk cellOk levelsDistinct sumsMatch configured lengthsExact recordOk heldOk currentOk entryOk parentOk heldOnce messageOk processOk ownEntry ownEntries segmentSize segmentOk fileOk recordsOk wellFormed rightsAt freeSlot freeEntry zeros oneLess givenUp create clashesAt clashes openFile close block readBlock ruleOf badCaller badCode carriedOut wholeRule step reply stays remaining replies
+unfolding freshTable firstProcesses allBelow someBelow sumBelow countBelow lowest orRather least tabFrom part within equals flowsTo cells slots blocks cellWord levelOf configuration firstSlot cellOf flows rd seid classOf indexOf serialOf isSeid seidAt orSelf present validModes reads writes excludesReaders excludesWriters clash rights mayRead mayWrite lacks asksRead asksWrite validAccess access headerOk cellOk levelsDistinct sumsMatch configured lengthsExact recordOk heldOk currentOk entryOk parentOk heldOnce messageOk processOk ownEntry ownEntries segmentSize segmentOk fileOk recordsOk wellFormed rightsAt freeSlot freeEntry zeros oneLess givenUp create clashesAt clashes openFile close block readBlock ruleOf badCaller badCode carriedOut wholeRule step reply stays remaining replies
 open-rules = tt
 
 -- "Two cells, security 1 and 3, integrity, compartments, owner and group 0, two process and two file slots each, no segment slots, B 1."

@@ -4,9 +4,10 @@
 //! the median of the rounds with its quartiles. Single calls include the whole-table check, as document 01 has it. The words that a
 //! successful call changes are put back after each call, in both alike and inside the time measured. Buffers are not cleared.
 //!
-//!   cargo run --release --bin bench [single|mixed|check|replay]..
+//!   cargo run --release --bin bench [check|single|creation|mixed|replay]..
 
 use monitor::Code;
+use monitor::layout::MAX_SLOTS;
 use plain::{Kind, Request};
 use std::env;
 use std::fs::{self, File};
@@ -49,6 +50,10 @@ fn main() {
         for (name, world) in &tables {
             single_calls(name, world);
         }
+    }
+    if wanted("creation") {
+        heading("Creation beyond the check, one cell, after set-up");
+        creation();
     }
     if wanted("mixed") {
         heading("1,024 mixed calls");
@@ -234,26 +239,61 @@ fn proved_call(world: &mut World, request: &Request, buffer: &mut [u8]) -> u32 {
 }
 
 fn single_call(world: &World, call: &Call) -> Ratio {
+    let n = repetitions(repeated(world, call, plain_call));
+    ratio(ROUNDS, n, repeated(world, call, proved_call), repeated(world, call, plain_call))
+}
+
+/// A call as often as is asked for, each time on the table as it stands: what it changes is put back.
+fn repeated(world: &World, call: &Call, make: Make) -> impl FnMut(u32) -> Duration {
     let mut changed = world.clone();
     plain_call(&mut changed, &call.request, &mut call.buffer.clone());
     let undo: Vec<(usize, u32)> = (0..world.table.len())
         .filter(|&at| changed.table[at] != world.table[at])
         .map(|at| (at, world.table[at]))
         .collect();
-    let action = |make: Make| {
-        let (mut world, undo) = (world.clone(), undo.clone());
-        let (request, mut buffer) = (call.request, call.buffer.clone());
-        move |n| {
-            timed(n, || {
-                std::hint::black_box(make(&mut world, std::hint::black_box(&request), &mut buffer));
-                for &(at, word) in &undo {
-                    world.table[at] = word;
-                }
-            })
-        }
-    };
-    let n = repetitions(action(plain_call));
-    ratio(ROUNDS, n, action(proved_call), action(plain_call))
+    let (mut world, request, mut buffer) = (world.clone(), call.request, call.buffer.clone());
+    move |n| {
+        timed(n, || {
+            std::hint::black_box(make(&mut world, std::hint::black_box(&request), &mut buffer));
+            for &(at, word) in &undo {
+                world.table[at] = word;
+            }
+        })
+    }
+}
+
+// Calls beyond their check.
+
+/// The search for a slot, over as many as a cell can have. The table is as small as it can be beside, for the check's time is taken
+/// off.
+fn creation() {
+    let slots = MAX_SLOTS as u32;
+    for (code, [processes, segments, files], arguments) in [
+        (Code::Spawn, [slots, 0, 0], [0, 0, 0]),
+        (Code::BuildSegment, [1, slots, 0], [512, 0o600, 1]),
+        (Code::CreateFile, [1, 0, slots], [0o600, 3, 0]),
+    ] {
+        let words = [1, processes, segments, files, 1, 0, 0, 0, 0, 0, 0, processes, segments, files, 0, 0];
+        let world = after_setup(&World::configured(&words));
+        let [a, b, c] = arguments;
+        let request = Request { caller: 0, code: code.number(), a, b, c };
+        line(
+            &format!("{} {code}, {slots} slots", code.number()),
+            beyond(&world, &Call { request, buffer: Vec::new() }),
+        );
+    }
+}
+
+/// One call beyond the check: in each round the time of the check alone is taken off, of each side its own.
+fn beyond(world: &World, call: &Call) -> Ratio {
+    let bytes = world.store.len();
+    let table = std::hint::black_box(&world.table[..]);
+    let (mut proved, mut plain) = (repeated(world, call, proved_call), repeated(world, call, plain_call));
+    let proved_check = |n| timed(n, || assert!(monitor::well_formed(table, bytes)));
+    let plain_check = |n| timed(n, || assert!(plain::check(table, bytes).is_some()));
+    let n = repetitions(&mut plain);
+    let over = |call: Duration, check: Duration| call.saturating_sub(check).max(Duration::from_nanos(1));
+    ratio(ROUNDS, n, |n| over(proved(n), proved_check(n)), |n| over(plain(n), plain_check(n)))
 }
 
 // Many calls.

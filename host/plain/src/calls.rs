@@ -177,12 +177,14 @@ impl Caller<'_> {
 
     // Slots and entries.
 
-    /// The lowest slot of the caller's cell that isn't live and has a serial left.
+    /// Of the slots of the caller's cell that aren't live and have a serial left, the one with the smallest serial; the lowest
+    /// among equals.
     fn free_slot(&self, kind: Kind) -> Option<Object> {
         self.shape
             .run(kind, self.cell)
             .map(|index| self.slot(kind, index))
-            .find(|&slot| self.word(slot, LIVE) == 0 && self.word(slot, SERIAL) < MAX_SERIAL)
+            .filter(|&slot| self.word(slot, LIVE) == 0 && self.word(slot, SERIAL) < MAX_SERIAL)
+            .min_by_key(|&slot| self.word(slot, SERIAL))
     }
 
     /// Makes a free slot live, with what all three kinds have in common; its new seid.

@@ -1,4 +1,4 @@
-//! A monitor in ordinary Rust, written from document 01 and its readings alone.
+//! A monitor in ordinary Rust, written from documents 01 and 02 and their readings alone.
 //!
 //! Nothing here is proved, and nothing here was taken from the proved library: the two are compared call by call, so the worth of
 //! this one lies in its being simple and independent. It is also the yardstick for speed: it judges the whole table at each call in

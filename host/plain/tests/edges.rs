@@ -143,9 +143,11 @@ fn free_serial_65535_is_passed_over() {
     assert_eq!(hall.done(0, SPAWN, [0, 0, 0]), (process(2, 1), 0));
     assert_eq!(hall.error(0, SPAWN, [0, 0, 0]), XnoProc);
     assert_eq!(hall.done(0, CREATE, [420, 1, 0]), (file(1, 1), 0));
+    hall.segment(1)[1] = 65535;
+    hall.segment(2)[1] = 65535;
     assert_eq!(hall.done(0, BUILD, [512, 384, 0]), (segment(0, 65535), 0));
     hall.done(0, RELEASE_SEGMENT, [0; 3]);
-    assert_eq!(hall.done(0, BUILD, [512, 384, 0]), (segment(1, 1), 0));
+    assert_eq!(hall.error(0, BUILD, [512, 384, 0]), XnoSpace);
 }
 
 #[test]

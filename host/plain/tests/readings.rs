@@ -167,6 +167,7 @@ fn r08_rendezvous() {
     assert_eq!(hall.done(3, RENDEZVOUS, [seid, 256, 0]), (0, 0));
     hall.done(1, RELEASE_SEGMENT, [0; 3]);
     hall.done(0, RELEASE_SEGMENT, [0; 3]);
+    hall.segment(2)[1] = 9;
     let next = hall.done(0, BUILD, [512, 0o644, 1]).0;
     assert_eq!(next, seid + 1);
     assert_eq!(hall.done(3, RENDEZVOUS, [next, 256, 0]), (1, 0), "held is this exact seid");
@@ -285,7 +286,9 @@ fn r14_blocks() {
     assert_eq!(hall.read(3, 0, 2), Err(XdapViol));
     hall.done(0, CLOSE, [0; 3]);
     assert_eq!(hall.read(3, 0, 2), Err(XnoObj), "stale");
-    hall.done(0, CREATE, [0o644, 2, 0]);
+    hall.file(1)[1] = 9;
+    hall.file(2)[1] = 9;
+    assert_eq!(hall.done(0, CREATE, [0o644, 2, 0]).0, seid + 1);
     assert_eq!(hall.read(0, 0, 0), Err(XnotReadable));
     assert_eq!(hall.read(3, 0, 0), Err(XnoObj), "the slot's next use is another file");
 }

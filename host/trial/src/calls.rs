@@ -89,7 +89,10 @@ impl Draw<'_> {
             5 | 18 => (Some(self.place(DESIGNATORS)), None, None),
             6 => (Some(self.place(DESIGNATORS)), Some(self.access()), None),
             7 => (Some(self.bits()), Some(self.modes()), None),
-            8 => (Some(self.seid_or_held(Kind::File)), Some(self.modes()), None),
+            8 => match self.rng.chance(1, 6).then(|| self.quiet_file()).flatten() {
+                Some(file) => (Some(file), Some(self.rng.pick(&[15, 15, 11, 3])), None),
+                None => (Some(self.seid_or_held(Kind::File)), Some(self.modes()), None),
+            },
             9 => (Some(self.place(DESCRIPTORS)), None, None),
             10 | 11 => (Some(self.seid_or_held(Kind::File)), None, None),
             12 => {
@@ -221,6 +224,26 @@ impl Draw<'_> {
             8 => self.world.seid(self.shape, Kind::Process, self.process),
             _ => seid,
         }
+    }
+
+    /// A file of the caller's cell that nobody of it has open and that the caller may write; one that a higher process reads, if
+    /// there is one.
+    fn quiet_file(&mut self) -> Option<u32> {
+        let files = self.shape.run(Kind::File, self.shape.cell(Kind::Process, self.process));
+        let quiet = files.filter(|&file| {
+            let record = &self.world.table[self.shape.record(Kind::File, file)];
+            let same = |word: usize| record[word] == self.own_word(word);
+            let granted = plain::granted(record[BITS], same(OWNER), same(GROUP));
+            record[LIVE] == 1 && record[HOLDS] == 0 && granted == READ | WRITE
+        });
+        let quiet: Vec<u32> = quiet.map(|file| self.world.seid(self.shape, Kind::File, file)).collect();
+        let read = |seid: u32| {
+            (0..self.shape.count(Kind::Process)).any(|process| {
+                (0..ENTRIES).any(|place| self.world.entry(self.shape, process, DESCRIPTORS, place).0 == seid)
+            })
+        };
+        let read: Vec<u32> = quiet.iter().copied().filter(|&seid| read(seid)).collect();
+        [read, quiet].iter().find(|files| !files.is_empty()).map(|files| self.rng.pick(files))
     }
 
     /// A process to release: oneself less often, or no caller would be left.

@@ -208,6 +208,12 @@ struct Mood {
     quiet_files: u64,
 }
 
+impl Mood {
+    fn quiet(&self, file: usize) -> bool {
+        self.quiet_files >> file & 1 == 1
+    }
+}
+
 fn serial(rng: &mut Rng, mood: &Mood, live: bool) -> u32 {
     if mood.top_serials && rng.chance(1, 2) {
         return rng.pick(&[65535, 65535, 65534, 65533]);
@@ -247,8 +253,9 @@ fn head(rng: &mut Rng, mood: &Mood, world: &mut World, shape: &Shape, kind: Kind
             record[SIZE] = 512 * rng.pick(&[1, 2, 3, 64, 126, 127]);
         }
         Kind::File => {
-            record[BITS] = bits(rng);
-            record[LINKS] = rng.pick(&[0, 0, 0, 1, 1, 2, 254, 255]);
+            let quiet = mood.quiet(index); // linked, or it would not stay
+            record[BITS] = if quiet && rng.chance(1, 2) { 0o666 } else { bits(rng) };
+            record[LINKS] = if quiet { 1 } else { rng.pick(&[0, 0, 0, 1, 1, 2, 254, 255]) };
             record[SIZE] = rng.below(shape.blocks + 1) as u32;
         }
     }
@@ -276,16 +283,17 @@ fn held(rng: &mut Rng, world: &World, shape: &Shape, kind: Kind, index: usize, c
 
 fn holdings(rng: &mut Rng, mood: &Mood, world: &mut World, shape: &Shape, process: usize, cell: usize) {
     // Some files stay quiet: nobody of their own cell has them open, though a higher reader may.
-    let quiet = |file: usize| shape.cell(Kind::File, file) == cell && mood.quiet_files >> file & 1 == 1;
+    let own = |file: usize| shape.cell(Kind::File, file) == cell;
     let mut files = candidates(world, shape, Kind::File, cell);
-    files.retain(|&file| !quiet(file));
+    files.retain(|&file| !(own(file) && mood.quiet(file)));
+    let quiet: Vec<usize> = files.iter().copied().filter(|&file| mood.quiet(file)).collect();
     let segments = candidates(world, shape, Kind::Segment, cell);
     let senders = candidates(world, shape, Kind::Process, cell);
     let full = rng.chance(1, 8); // now and then no place is empty
     for place in 0..ENTRIES {
         if !files.is_empty() && (full || rng.chance(mood.entries, 8)) {
-            let file = rng.pick(&files);
-            let modes = if shape.cell(Kind::File, file) == cell { rng.pick(&VALID_MODES) } else { 1 };
+            let file = if !quiet.is_empty() && rng.chance(1, 4) { rng.pick(&quiet) } else { rng.pick(&files) };
+            let modes = if own(file) { rng.pick(&VALID_MODES) } else { 1 };
             let seid = held(rng, world, shape, Kind::File, file, cell);
             world.set_entry(shape, process, DESCRIPTORS, place, (seid, modes));
         }

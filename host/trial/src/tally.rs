@@ -34,11 +34,20 @@ pub const REFUSALS: [&[u32]; CODES + 1] = [
     &[8, 9, 11],
 ];
 
-pub const SITUATIONS: [&str; 37] = [
+pub const SITUATIONS: &[&str] = &[
     "spawn passes over a free slot of serial 65535",
+    "spawn passes over a lower slot that is worn more",
+    "spawn takes the lowest of slots worn equally",
     "spawn reaches serial 65535",
     "spawn of another owner by owner 0",
+    "build passes over a free slot of serial 65535",
+    "build passes over a lower slot that is worn more",
+    "build takes the lowest of slots worn equally",
+    "build reaches serial 65535",
     "create passes over a free slot of serial 65535",
+    "create passes over a lower slot that is worn more",
+    "create takes the lowest of slots worn equally",
+    "create reaches serial 65535",
     "build with write-only access",
     "release of oneself by seid 0",
     "release of oneself by the real seid",
@@ -90,7 +99,7 @@ impl Default for Tally {
             bad_table: 0,
             bad_caller: 0,
             bad_code: 0,
-            situations: SITUATIONS.map(|name| (name, 0)).into(),
+            situations: SITUATIONS.iter().map(|&name| (name, 0)).collect(),
         }
     }
 }
@@ -191,25 +200,53 @@ impl Scene<'_> {
         self.word(Kind::Process, self.caller, word)
     }
 
-    /// A lower slot of the same cell is free but has no serial left.
-    fn passed_over(&self, kind: Kind, taken: usize) -> bool {
-        let start = self.shape.run(kind, self.shape.cell(kind, taken)).start;
-        (start..taken).any(|slot| self.word(kind, slot, LIVE) == 0 && self.word(kind, slot, SERIAL) == MAX_SERIAL)
+    /// A new object: which slots of its cell it passed over.
+    fn created(&mut self, kind: Kind, seid: u32) {
+        let taken = Seid::of(seid).index;
+        let serial = self.word(kind, taken, SERIAL);
+        let run = self.shape.run(kind, self.shape.cell(kind, taken));
+        let free = run.filter(|&slot| slot != taken && self.word(kind, slot, LIVE) == 0);
+        let free: Vec<(usize, u32)> = free.map(|slot| (slot, self.word(kind, slot, SERIAL))).collect();
+        let [worn_out, worn_more, equal, reached] = match kind {
+            Kind::Process => [
+                "spawn passes over a free slot of serial 65535",
+                "spawn passes over a lower slot that is worn more",
+                "spawn takes the lowest of slots worn equally",
+                "spawn reaches serial 65535",
+            ],
+            Kind::Segment => [
+                "build passes over a free slot of serial 65535",
+                "build passes over a lower slot that is worn more",
+                "build takes the lowest of slots worn equally",
+                "build reaches serial 65535",
+            ],
+            Kind::File => [
+                "create passes over a free slot of serial 65535",
+                "create passes over a lower slot that is worn more",
+                "create takes the lowest of slots worn equally",
+                "create reaches serial 65535",
+            ],
+        };
+        let lower = |(slot, _): &(usize, u32)| *slot < taken;
+        self.tally.met(worn_out, free.iter().any(|free| lower(free) && free.1 == MAX_SERIAL));
+        self.tally.met(worn_more, free.iter().any(|free| lower(free) && free.1 > serial && free.1 < MAX_SERIAL));
+        self.tally.met(equal, free.iter().any(|free| free.1 == serial));
+        self.tally.met(reached, serial + 1 == MAX_SERIAL);
     }
 
     fn success(&mut self, first: u32, _second: u32) {
         let request = self.call.request;
         match request.code {
             1 => {
-                let seid = Seid::of(first);
-                let over = self.passed_over(Kind::Process, seid.index);
                 let other_owner = request.a != self.own_word(OWNER);
-                self.tally.met("spawn passes over a free slot of serial 65535", over);
-                self.tally.met("spawn reaches serial 65535", seid.serial == MAX_SERIAL);
                 self.tally.met("spawn of another owner by owner 0", other_owner);
+                self.created(Kind::Process, first);
             }
             2 => self.release_process(request.a),
-            3 => self.tally.met("build with write-only access", request.b & (READ | WRITE) == WRITE),
+            3 => {
+                self.tally.met("build with write-only access", request.b & (READ | WRITE) == WRITE);
+                self.created(Kind::Segment, first);
+            }
             4 => {
                 let cell = self.shape.cell(Kind::Segment, Seid::of(request.a).index);
                 let lower = cell != self.shape.cell(Kind::Process, self.caller);
@@ -220,10 +257,7 @@ impl Scene<'_> {
                 let (_, stored) = self.before.entry(self.shape, self.caller, DESIGNATORS, request.a as usize);
                 self.tally.met("set access beyond the stored access", request.b & !stored != 0);
             }
-            7 => {
-                let over = self.passed_over(Kind::File, Seid::of(first).index);
-                self.tally.met("create passes over a free slot of serial 65535", over);
-            }
+            7 => self.created(Kind::File, first),
             8 => self.open(request.a, request.b),
             9 => self.give_up(Kind::File, request.a as usize),
             11 => {

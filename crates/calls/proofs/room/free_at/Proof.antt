@@ -1,27 +1,24 @@
--- `room::free_at` meets its contract: every slot passed is in use or worn out.
-use Prim.Native.Nat.{_+_, _-_}
-use mathlib.Core.Path.{_≡_, refl}
-use native.Mathlib.Nat.{mul-le-mul-right}
-use Rattle.laws.proofs.Search.{Sought, sought-start, sought-more, sought-hit, sought-end}
-use Rattle.calls.specs.World.{freeAt, freeTest}
-use Rattle.calls.proofs.Worlds.{free-told}
+-- `room::free_at` meets its contract: of the slots passed the one with the smallest serial is kept, the lowest among equals.
 use borrow.Author.Needs.{needs}
 use native.Mathlib.Omega.{arith}
+use native.Mathlib.Nat.{mul-le-mul-right}
+use mathlib.Core.Path.{_≡_, refl}
+use Prim.Native.Nat.{_+_, _-_, _≤_}
+use Rattle.calls.proofs.Searches.{Chosen, chosen-start, chosen-next, chosen-end}
 use Rattle.calls.proofs.room.free_at.Statement.{statement}
 use Rattle.calls.proofs.room.free_at.Tie as tie
 
 abbrev Inv-loop : tie.InvT-loop
-Inv-loop t base size n from end i₀ i =
-    (end ≡ from + n) × Sought (freeTest t base size) n from i
+Inv-loop t base size n from end best₀ least₀ i₀ best least i = (end ≡ from + n) × (from ≤ i) × (i ≤ end) × Chosen t base size from i end best least
 
 abbrev μ-loop : tie.MeasureT-loop
-μ-loop t base size n from end i₀ i = end - i
+μ-loop t base size n from end best₀ least₀ i₀ best least i = end - i
 
 add-end : tie.Need-add-end Inv-loop μ-loop
 add-end c = search needs
 
 loop-holds : tie.Need-loop-holds Inv-loop μ-loop
-loop-holds c = (refl, sought-start _ _ _)
+loop-holds c = (refl, omega arith, omega arith, chosen-start _ _ _ _ _)
 
 wide-requires : tie.Need-wide-requires Inv-loop μ-loop
 wide-requires c κs = search needs
@@ -44,9 +41,11 @@ add-word-2 c = omega (arith, mul-le-mul-right (c .before .wide .result) (c .befo
 word-requires-2 : tie.Need-word-requires-2 Inv-loop μ-loop
 word-requires-2 c κs = search needs
 
-returns : tie.Need-returns Inv-loop μ-loop
-unfolding freeAt
-returns c = sought-hit (c .before .before .before .before .before .loop .inv .1) (omega (arith, c .before .before .before .before .before .loop .inv .0)) (free-told _ _ _ _ _ (c .before .before .before .wide .ensures) (c .before .before .word .ensures) (c .before .word2 .ensures) (c .if1 .taken))
+first-requires : tie.Need-first-requires Inv-loop μ-loop
+first-requires c κs = search needs
+
+first-requires-2 : tie.Need-first-requires-2 Inv-loop μ-loop
+first-requires-2 c κs = search needs
 
 add-i : tie.Need-add-i Inv-loop μ-loop
 add-i c = search needs
@@ -55,11 +54,10 @@ loop-less : tie.Need-loop-less Inv-loop μ-loop
 loop-less c = search needs
 
 loop-again : tie.Need-loop-again Inv-loop μ-loop
-loop-again c = (c .before .before .before .before .before .loop .inv .0, sought-more (c .before .before .before .before .before .loop .inv .1) (omega (arith, c .before .before .before .before .before .loop .inv .0)) (free-told _ _ _ _ _ (c .before .before .before .wide .ensures) (c .before .before .word .ensures) (c .before .word2 .ensures) (c .if1 .left)))
+loop-again c = (c .before .before .before .before .before .before .loop .inv .0, omega (arith, c .before .before .before .before .before .before .loop .inv .1), omega arith, chosen-next (c .before .before .before .before .before .before .loop .inv .1) (c .before .before .before .before .before .loop-test .taken) (c .before .before .before .before .before .before .loop .inv .3) (c .before .before .before .before .wide .ensures) (c .before .before .word2 .ensures) (c .before .before .before .word .ensures) _ refl (c .before .first .ensures) (c .first2 .ensures))
 
-returns-2 : tie.Need-returns-2 Inv-loop μ-loop
-unfolding freeAt
-returns-2 c = sought-end (c .before .loop .inv .1) (omega (arith, c .before .loop .inv .0))
+returns : tie.Need-returns Inv-loop μ-loop
+returns c = chosen-end _ (c .before .loop .inv .0) (omega (arith, c .before .loop .inv .2)) (c .before .loop .inv .3)
 
 pub free-at-spec : {M : Type 1} → statement M
 free-at-spec =
@@ -76,8 +74,9 @@ free-at-spec =
     word-requires
     add-word-2
     word-requires-2
-    returns
+    first-requires
+    first-requires-2
     add-i
     loop-less
     loop-again
-    returns-2)
+    returns)
