@@ -40,9 +40,11 @@ enum monitor_code {
     MONITOR_RECEIVE = 16, /* A buffer of 16 bytes, which is filled. */
     MONITOR_STATUS = 17, /* Seid; a buffer of 16 bytes, which is filled. */
     MONITOR_ACCESS = 18, /* Designator. Gives an access. */
+    MONITOR_REMAP = 19, /* Incoming designator, first page, outgoing designator; 16 is none. */
+    MONITOR_PAGE_ACCESS = 20, /* Page. Gives an access. */
 };
 
-/* The refusals, by document 01's names and numbers; 0 is success. A refusal has changed nothing. */
+/* The refusals, by the names and numbers of documents 01 and 02; 0 is success. A refusal has changed nothing. */
 enum monitor_error {
     MONITOR_XOK = 0, /* done */
     MONITOR_XbTab = 1, /* the table is not well formed, or a length is wrong */
@@ -74,6 +76,9 @@ enum monitor_error {
     MONITOR_XnoProc = 27, /* no free process slot in the cell */
     MONITOR_XpostEh = 28, /* eight messages are waiting already */
     MONITOR_XbNoMes = 29, /* no message is waiting */
+    MONITOR_XoutSgAldUmp = 30, /* the outgoing segment is not mapped */
+    MONITOR_XinSgAldMap = 31, /* the incoming segment is mapped already */
+    MONITOR_XvrtMmCfl = 32, /* its pages are used or pass the last one */
 };
 
 /* Limits: cells, slots of each kind, blocks of a file. */
@@ -84,7 +89,7 @@ enum monitor_error {
 /* Words of the parts of a table: header, cells, then the records of processes, segments and files. */
 #define MONITOR_HEADER_WORDS 8
 #define MONITOR_CELL_WORDS 8
-#define MONITOR_PROCESS_WORDS 104
+#define MONITOR_PROCESS_WORDS 112
 #define MONITOR_SEGMENT_WORDS 8
 #define MONITOR_FILE_WORDS 8
 
@@ -93,6 +98,10 @@ enum monitor_error {
 #define MONITOR_TEXT_BYTES 12
 #define MONITOR_MESSAGE_BYTES 16
 #define MONITOR_STATUS_BYTES 16
+
+/* The pages of a process's address map, and the bytes of a page. */
+#define MONITOR_PAGES 8
+#define MONITOR_PAGE_BYTES 8192
 
 /* The lengths of table and store. */
 #define MONITOR_TABLE_WORDS(cells, processes, segments, files)                                                               \
@@ -127,7 +136,7 @@ monitor_answer monitor_call(uint32_t *table, size_t words, uint8_t *store, size_
                             uint32_t caller, uint32_t code, uint32_t a, uint32_t b, uint32_t c,
                             uint8_t *buffer, size_t length);
 
-/* The name of an error number, as document 01 spells it and replay writes it; "?" if there is none. */
+/* The name of an error number, as the documents spell it and replay writes it; "?" if there is none. */
 static inline const char *monitor_error_name(uint32_t error)
 {
     static const char *const names[] = {
@@ -135,6 +144,7 @@ static inline const char *monitor_error_name(uint32_t error)
         "XbSgSd", "XnoObj", "XnoAcc", "XnoOwner", "XnoPriv", "XdapViol", "XsgNoAcc", "XdupSg", "Xbusy", "XnotReadable",
         "XnotWritable", "XbadBlockNo", "XendOfFile", "XbadLink", "XodSpace", "XnoSpace", "XnoProc", "XpostEh",
         "XbNoMes",
+        "XoutSgAldUmp", "XinSgAldMap", "XvrtMmCfl",
     };
     return error < sizeof names / sizeof *names ? names[error] : "?";
 }

@@ -56,6 +56,8 @@ codes! {
     Receive = 16, "receive", "A buffer of 16 bytes, which is filled.";
     Status = 17, "status", "Seid; a buffer of 16 bytes, which is filled.";
     Access = 18, "access", "Designator. Gives an access.";
+    Remap = 19, "remap", "Incoming designator, first page, outgoing designator; 16 is none.";
+    PageAccess = 20, "page-access", "Page. Gives an access.";
 }
 
 impl Code {

@@ -1,10 +1,10 @@
-//! The refusals by name and number: the one table of them. A test compares it with document 01's and with monitor.h.
+//! The refusals by name and number: the one table of them. A test compares it with the documents' and with monitor.h.
 
 use std::fmt;
 
 macro_rules! errors {
     ($($name:ident = $number:literal, $meaning:literal;)*) => {
-        /// Why a call was refused, by document 01's names and numbers. A refusal has changed nothing: no word of the table, no
+        /// Why a call was refused, by the names and numbers of documents 01 and 02. A refusal has changed nothing: no word of the table, no
         /// byte of store or buffer.
         #[derive(Clone, Copy, Debug, PartialEq, Eq, PartialOrd, Ord, Hash)]
         #[repr(u32)]
@@ -16,7 +16,7 @@ macro_rules! errors {
             /// All refusals, in the order of their numbers.
             pub const ALL: &'static [Error] = &[$(Error::$name),*];
 
-            /// The name as document 01 spells it.
+            /// The name as the documents spell it.
             pub const fn name(self) -> &'static str {
                 match self { $(Error::$name => stringify!($name)),* }
             }
@@ -67,6 +67,9 @@ errors! {
     XnoProc = 27, "no free process slot in the cell";
     XpostEh = 28, "eight messages are waiting already";
     XbNoMes = 29, "no message is waiting";
+    XoutSgAldUmp = 30, "the outgoing segment is not mapped";
+    XinSgAldMap = 31, "the incoming segment is mapped already";
+    XvrtMmCfl = 32, "its pages are used or pass the last one";
 }
 
 impl Error {

@@ -15,6 +15,7 @@
 
 use crate::code::Code;
 use crate::error::Error;
+use crate::layout::ENTRIES;
 use crate::raw::Answer;
 use crate::rights::{Access, Bits, Modes};
 use crate::seid::Seid;
@@ -60,6 +61,9 @@ impl Display for Call<'_> {
     }
 }
 
+/// What remap takes for no designator.
+const NO_DESIGNATOR: u32 = ENTRIES as u32;
+
 /// What a call asks.
 #[derive(Clone, Copy, Debug)]
 pub struct Asked {
@@ -98,6 +102,13 @@ impl Display for Asked {
             Code::Receive => write!(f, "receive a message"),
             Code::Status => write!(f, "ask about {object}"),
             Code::Access => write!(f, "ask what designator {a} is held to do"),
+            Code::Remap => match [a, c].map(|designator| designator == NO_DESIGNATOR) {
+                [true, true] => write!(f, "map nothing"),
+                [false, true] => write!(f, "map designator {a} from page {b} on"),
+                [true, false] => write!(f, "take designator {c} out of the map"),
+                [false, false] => write!(f, "map designator {a} from page {b} on, with designator {c} out"),
+            },
+            Code::PageAccess => write!(f, "ask what page {a} is held to do"),
         }
     }
 }
@@ -138,7 +149,7 @@ impl Display for CameBack<'_> {
                 Some(status) => write!(f, "{status}"),
                 None => write!(f, "a status"),
             },
-            Some(Code::Access) => write!(f, "to {}", Use(first)),
+            Some(Code::Access | Code::PageAccess) => write!(f, "to {}", Use(first)),
             _ => write!(f, "done"),
         }
     }

@@ -13,7 +13,7 @@ pub const HEADER_WORDS: usize = 8;
 /// The words of a cell.
 pub const CELL_WORDS: usize = 8;
 /// The words of a process record.
-pub const PROCESS_WORDS: usize = 104;
+pub const PROCESS_WORDS: usize = 112;
 /// The words of a segment record.
 pub const SEGMENT_WORDS: usize = 8;
 /// The words of a file record.
@@ -36,6 +36,10 @@ pub const ENTRY_WORDS: usize = 2;
 pub const QUEUE: usize = 8;
 /// The words of a waiting message.
 pub const MESSAGE_WORDS: usize = 4;
+/// The pages of a process.
+pub const PAGES: usize = 8;
+/// The bytes of a page.
+pub const PAGE_BYTES: usize = 8192;
 
 /// The words of a table.
 pub const fn table_words(cells: usize, processes: usize, segments: usize, files: usize) -> usize {
@@ -95,7 +99,7 @@ pub mod record {
 
 /// Words of a process record.
 pub mod process {
-    use super::{ENTRIES, ENTRY_WORDS};
+    use super::{ENTRIES, ENTRY_WORDS, MESSAGE_WORDS, QUEUE};
 
     /// The parent's seid.
     pub const PARENT: usize = 4;
@@ -107,6 +111,8 @@ pub mod process {
     pub const DESIGNATORS: usize = DESCRIPTORS + ENTRIES * ENTRY_WORDS;
     /// The oldest message: its sender and three words of text.
     pub const MESSAGES: usize = DESIGNATORS + ENTRIES * ENTRY_WORDS;
+    /// The first page of the map: 0, or the designator that is mapped there, and 1.
+    pub const MAP: usize = MESSAGES + QUEUE * MESSAGE_WORDS;
 }
 
 /// Words of a segment record.

@@ -54,7 +54,7 @@ mod told;
 pub use code::Code;
 pub use error::Error;
 pub use hall::{Cell, Hall, Level};
-pub use owner::{Caller, Descriptor, Designator, Monitor};
+pub use owner::{Caller, Descriptor, Designator, Monitor, Page};
 pub use raw::{Answer, call, setup, well_formed};
 pub use rights::{Access, Bits, Modes};
 pub use seid::{Kind, Seid};

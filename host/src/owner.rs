@@ -3,7 +3,7 @@
 use crate::code::Code;
 use crate::error::Error;
 use crate::hall::Hall;
-use crate::layout::{BLOCK_BYTES, MESSAGE_BYTES, STATUS_BYTES, TEXT_BYTES};
+use crate::layout::{BLOCK_BYTES, ENTRIES, MESSAGE_BYTES, STATUS_BYTES, TEXT_BYTES};
 use crate::raw::{self, Answer};
 use crate::rights::{Access, Bits, Modes};
 use crate::seid::Seid;
@@ -21,6 +21,10 @@ pub struct Descriptor(pub u32);
 /// A place among the segments that a process holds.
 #[derive(Clone, Copy, Debug, PartialEq, Eq, PartialOrd, Ord, Hash)]
 pub struct Designator(pub u32);
+
+/// A page of a process's address map.
+#[derive(Clone, Copy, Debug, PartialEq, Eq, PartialOrd, Ord, Hash)]
+pub struct Page(pub u32);
 
 /// A table and a store in use, and the calls on them.
 ///
@@ -159,7 +163,7 @@ impl Monitor {
         Ok(Designator(place))
     }
 
-    /// Gives up a segment; one that no designator of its own cell holds any more is gone.
+    /// Gives up a segment and empties its pages; one that no designator of its own cell holds any more is gone.
     pub fn release_segment(&mut self, caller: Caller, designator: Designator) -> Result<(), Error> {
         self.ask(caller, Code::ReleaseSegment, designator.0, 0, 0)?;
         Ok(())
@@ -254,6 +258,26 @@ impl Monitor {
     /// What the caller may do today with a segment that it holds.
     pub fn access(&mut self, caller: Caller, designator: Designator) -> Result<Access, Error> {
         let (access, _) = self.ask(caller, Code::Access, designator.0, 0, 0)?;
+        Ok(Access::of(access).expect("the monitor answers an access"))
+    }
+
+    /// Takes the outgoing segment out of the caller's map, if one is given, then brings in the incoming one from a page on, if one
+    /// is given. One and the same may go out and come in: it moves.
+    pub fn remap(
+        &mut self,
+        caller: Caller,
+        incoming: Option<(Designator, Page)>,
+        outgoing: Option<Designator>,
+    ) -> Result<(), Error> {
+        const NONE: u32 = ENTRIES as u32;
+        let (designator, page) = incoming.map_or((NONE, 0), |(designator, page)| (designator.0, page.0));
+        self.ask(caller, Code::Remap, designator, page, outgoing.map_or(NONE, |designator| designator.0))?;
+        Ok(())
+    }
+
+    /// What the caller may do today with the segment that is mapped at a page.
+    pub fn page_access(&mut self, caller: Caller, page: Page) -> Result<Access, Error> {
+        let (access, _) = self.ask(caller, Code::PageAccess, page.0, 0, 0)?;
         Ok(Access::of(access).expect("the monitor answers an access"))
     }
 }

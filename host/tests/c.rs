@@ -98,6 +98,8 @@ fn the_header_says_what_the_crate_says() {
         ("TEXT_BYTES", TEXT_BYTES),
         ("MESSAGE_BYTES", MESSAGE_BYTES),
         ("STATUS_BYTES", STATUS_BYTES),
+        ("PAGES", PAGES),
+        ("PAGE_BYTES", PAGE_BYTES),
         ("CLASS_PROCESS", class(Kind::Process)),
         ("CLASS_SEGMENT", class(Kind::Segment)),
         ("CLASS_FILE", class(Kind::File)),

@@ -12,7 +12,7 @@ const MESSAGE: [u8; 16] = *b"\x04\x03\x00\x07all is quiet";
 /// Code, arguments, results, buffer; what was asked, what came back.
 type Made = (Code, [u32; 3], [u32; 2], &'static [u8], &'static str, &'static str);
 
-const MADE: [Made; 18] = [
+const MADE: [Made; 20] = [
     (Code::Spawn, [10, 20, 0], [PROCESS, 0], &[], "spawn a process for owner 10, group 20", "process 3 (use 7)"),
     (Code::ReleaseProcess, [0, 0, 0], [0, 0], &[], "release itself", "done"),
     (
@@ -52,6 +52,8 @@ const MADE: [Made; 18] = [
         "file of cell 1, owner 10, group 20, rw-r--r--",
     ),
     (Code::Access, [3, 0, 0], [128, 0], &[], "ask what designator 3 is held to do", "to write"),
+    (Code::Remap, [3, 5, 16], [0, 0], &[], "map designator 3 from page 5 on", "done"),
+    (Code::PageAccess, [5, 0, 0], [384, 0], &[], "ask what page 5 is held to do", "to read and write"),
 ];
 
 #[test]
@@ -77,6 +79,9 @@ fn odd_numbers() {
         (Code::Rendezvous.number(), [SEGMENT, 5, 0], "take up segment 2 (use 9) to access 5"),
         (Code::BuildSegment.number(), [0, 512, 2], "build a segment of 0 bytes, bits 512, sharable 2"),
         (Code::SetBits.number(), [FILE, 65536, 0], "set bits 65536 on file 0 (use 1)"),
+        (Code::Remap.number(), [16, 9, 16], "map nothing"),
+        (Code::Remap.number(), [16, 9, 2], "take designator 2 out of the map"),
+        (Code::Remap.number(), [2, 0, 2], "map designator 2 from page 0 on, with designator 2 out"),
     ] {
         assert_eq!(explain::asked(code, arguments).to_string(), asked);
     }

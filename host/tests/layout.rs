@@ -136,7 +136,7 @@ fn places() {
     let second = process::MESSAGES + MESSAGE_WORDS;
     assert_eq!(posted[second], Seid::new(Kind::Process, 0, 1).into());
     assert_eq!(posted[second + 1], u32::from_be_bytes(*b"the "));
-    assert_eq!(posted.len(), process::MESSAGES + QUEUE * MESSAGE_WORDS);
+    assert_eq!(posted.len(), process::MAP + PAGES);
 
     // Segments and files, and how they are held.
     let segment = look.call(0, Code::BuildSegment, [1024, 0o640, 1], &mut []).0;
@@ -157,6 +157,14 @@ fn places() {
     assert_eq!(holder[process::DESIGNATORS..][..2], [segment, 384]);
     assert_eq!(holder[process::DESCRIPTORS + ENTRY_WORDS * again as usize..][..2], [file, 1]);
     assert_eq!(look.store[BLOCK_BYTES..2 * BLOCK_BYTES], [5; BLOCK_BYTES]);
+
+    // The map: the segment of 1,024 bytes takes one page; one byte more than a page would take two.
+    look.call(0, Code::Remap, [0, PAGES as u32 - 1, ENTRIES as u32], &mut []);
+    let map = |look: &Look| look.record(Kind::Process, 0)[process::MAP..].to_vec();
+    assert_eq!(map(&look), [[0; PAGES - 1].as_slice(), &[1]].concat());
+    let two = look.call(0, Code::BuildSegment, [PAGE_BYTES as u32 + 512, 0, 0], &mut []).1;
+    look.call(0, Code::Remap, [two, 0, 0], &mut []);
+    assert_eq!(map(&look), [[two + 1; 2].as_slice(), &[0; PAGES - 2]].concat());
 
     // As many entries as there are, and as many messages.
     for place in again + 1..ENTRIES as u32 {

@@ -1,4 +1,4 @@
-//! The names and numbers of calls, refusals, modes, accesses and identifiers are those of document 01.
+//! The names and numbers of calls, refusals, modes, accesses and identifiers are those of documents 01 and 02.
 
 use monitor::{Access, Code, Error, Kind, Modes, Seid};
 
@@ -11,10 +11,11 @@ const TABLE: &str = "
 | 20 XnotReadable | 21 XnotWritable | 22 XbadBlockNo | 23 XendOfFile |
 | 24 XbadLink | 25 XodSpace | 26 XnoSpace | 27 XnoProc |
 | 28 XpostEh | 29 XbNoMes | | |
+| 30 XoutSgAldUmp | 31 XinSgAldMap | 32 XvrtMmCfl | |
 ";
 
 #[test]
-fn errors_of_document_01() {
+fn errors_of_the_documents() {
     let mut listed = Vec::new();
     for entry in TABLE.split('|').map(str::trim).filter(|entry| !entry.is_empty()).skip(1) {
         let (number, name) = entry.split_once(' ').unwrap();

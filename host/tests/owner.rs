@@ -1,7 +1,7 @@
 //! The owner's methods: each does what the raw call does, on random tables; and none allocates.
 
-use monitor::layout::{MESSAGE_BYTES, STATUS_BYTES};
-use monitor::{Access, Bits, Caller, Code, Descriptor, Designator, Error, Message, Modes, Monitor, Seid, Status};
+use monitor::layout::{ENTRIES, MESSAGE_BYTES, STATUS_BYTES};
+use monitor::{Access, Bits, Caller, Code, Descriptor, Designator, Error, Message, Modes, Monitor, Page, Seid, Status};
 use std::alloc::{GlobalAlloc, Layout, System};
 use std::cell::Cell;
 use trial::{Call, Rng, calls, tables};
@@ -70,6 +70,11 @@ fn typed(monitor: &mut Monitor, call: &Call, buffer: &mut [u8]) -> Option<Number
         Code::Receive => monitor.receive(by).map(|message| show(buffer, &message_bytes(message))),
         Code::Status => monitor.status(by, seid).map(|status| show(buffer, &status_bytes(status))),
         Code::Access => monitor.access(by, designator).map(|access| (access.number(), 0)),
+        Code::Remap => {
+            let held = |number: u32| (number != ENTRIES as u32).then_some(Designator(number));
+            none(monitor.remap(by, held(a).map(|designator| (designator, Page(b))), held(c)))
+        }
+        Code::PageAccess => monitor.page_access(by, Page(a)).map(|access| (access.number(), 0)),
     })
 }
 

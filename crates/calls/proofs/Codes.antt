@@ -29,6 +29,8 @@ use Rattle.rules.specs.Call15.{post}
 use Rattle.rules.specs.Call16.{receive}
 use Rattle.rules.specs.Call17.{status}
 use Rattle.rules.specs.Call18.{accessOf}
+use Rattle.rules.specs.Call19.{remap}
+use Rattle.rules.specs.Call20.{pageAccess}
 use Rattle.rules.specs.Step.{ruleOf, badCaller, badCode, carriedOut, wholeRule, step}
 use Rattle.laws.proofs.Tests.{split}
 use Rattle.calls.specs.declared.Answer.{Answer}
@@ -122,6 +124,16 @@ module _ (t : List ℕ) (p code a b c : ℕ) {r : Answer} {t′ : List ℕ} wher
   unfolding ruleOf accessOf
   plain-18 e l s buffer =
       plain-by t p code a b c s buffer (λ h q. accessOf h q p a buffer) (coded t s p a b c buffer e) refl refl (l buffer)
+
+  pub plain-19 : code ≡ 19 → ((buffer : List ℕ) → Left t (λ h q. remap h q p a b c buffer) r t′) → (s buffer : List ℕ) → Plain t p code a b c r t′ s buffer
+  unfolding ruleOf remap
+  plain-19 e l s buffer =
+      plain-by t p code a b c s buffer (λ h q. remap h q p a b c buffer) (coded t s p a b c buffer e) refl refl (l buffer)
+
+  pub plain-20 : code ≡ 20 → ((buffer : List ℕ) → Left t (λ h q. pageAccess h q p a buffer) r t′) → (s buffer : List ℕ) → Plain t p code a b c r t′ s buffer
+  unfolding ruleOf accessOf pageAccess
+  plain-20 e l s buffer =
+      plain-by t p code a b c s buffer (λ h q. pageAccess h q p a buffer) (coded t s p a b c buffer e) refl refl (l buffer)
 
 -- ---- from a plain call to the whole
 

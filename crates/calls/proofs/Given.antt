@@ -11,8 +11,9 @@ use Rattle.rules.specs.Words.{tabFrom}
 use Rattle.rules.specs.Layout.{Kind, process, segment, file, recordWords, configuration, cellOf, Addr, at, offset, rd, heldAt, usedAt, holders}
 use Rattle.rules.specs.Seid.{indexOf}
 use Rattle.rules.specs.Rule.{_≔_, write}
-use Rattle.rules.specs.Find.{inOwnCell, zeros, freed, kept, oneLess, givenUp}
+use Rattle.rules.specs.Find.{inOwnCell, zeros, freed, kept, oneLess, pagesCleared, emptied, givenUp}
 use Rattle.laws.proofs.Tests.{both-ways}
+use Rattle.laws.proofs.Written.{write-append}
 use Rattle.layout.specs.declared.Header.{Header}
 use Rattle.layout.specs.Header.{recordOf}
 use Rattle.calls.specs.declared.Caller.{Caller}
@@ -74,30 +75,29 @@ less-is h t r k i = go (eqb (r (at k i (holders k))) 1 && not (kept r k i))
     go true = freed-is h t k i
     go false = ap (λ (x : ℕ). set t x (r (at k i (holders k)) - 1)) (along h k i (holders k))
 
--- the word that counts holders, as the code reads it
-count-at : (h t : List ℕ) (k : Kind) (i : ℕ) → rd h t (at k i (holders k)) ≡ getD t (offset h (at k i 0) + holders k) 0
-unfolding rd
-count-at h t k i = ap (λ (x : ℕ). getD t x 0) (along h k i (holders k))
+-- the object's side of an entry given up: r is what the table held at the start, u the table once the entry is cleared
+given-object : (h u : List ℕ) (r : Addr → ℕ) (k : Kind) (i : ℕ) (b : Bool) → write h u (cond b (oneLess r k i) [])
+    ≡ cond b (lessAt u k (offset h (at k i 0)) (r (at k i (holders k))) (kept r k i)) u
+given-object h u r k i true = less-is h u r k i
+given-object h u r k i false = refl
 
--- the object's side of an entry given up: t is the table before, u the table once the entry is cleared
-given-object : (h t u : List ℕ) (k : Kind) (i : ℕ) (b : Bool) → write h u (cond b (oneLess (rd h t) k i) [])
-    ≡ cond b (lessAt u k (offset h (at k i 0)) (getD t (offset h (at k i 0) + holders k) 0) (kept (rd h t) k i)) u
-given-object h t u k i true =
-    less-is h u (rd h t) k i ∙ ap (λ (x : ℕ). lessAt u k (offset h (at k i 0)) x (kept (rd h t) k i)) (count-at h t k i)
-given-object h t u k i false = refl
-
--- an entry given up
-given-is : (h t : List ℕ) (k : Kind) (p d s : ℕ) → holdable k ≡ true → write h t (givenUp h (rd h t) k p d s)
-    ≡ givenUpAt t k (offset h (at process p (heldAt k d))) (offset h (at k (indexOf s) 0)) (inOwnCell h p k s) (kept (rd h t) k (indexOf s))
-unfolding givenUp givenUpAt
-given-is h t k p d s th =
+-- an entry emptied, on the table u, once its pages are cleared
+emptied-is : (h u : List ℕ) (r : Addr → ℕ) (k : Kind) (p d s : ℕ) → holdable k ≡ true → write h u (emptied h r k p d s)
+    ≡ givenUpAt u k (offset h (at process p (heldAt k d))) (offset h (at k (indexOf s) 0)) (r (at k (indexOf s) (holders k)))
+    (inOwnCell h p k s) (kept r k (indexOf s))
+unfolding emptied givenUpAt
+emptied-is h u r k p d s th =
     rw (used-next k d th, ← beyond h process p (heldAt k d) 1)
-    (given-object h t _ k (indexOf s) (inOwnCell h p k s))
+    (given-object h _ r k (indexOf s) (inOwnCell h p k s))
 
--- what the code has found of the entry and its object: the slot i, its cell, whether a link keeps it, and the two places
+-- what the code has found of the entry and its object: the slot i, its cell, whether a link keeps it, the two places and how many hold it;
+-- u is the table once the entry's pages are cleared
 pub given-told : {t : List ℕ} {n : Header} → Known t n → (c : Caller) (k : Kind) (p d s : ℕ) → c .cell ≡ cellOf (configuration t) process p → holdable k ≡ true
-    → {i cell entry object : ℕ} {stays : Bool} → i ≡ indexOf s → cell ≡ cellOf (configuration t) k i → stays ≡ kept (wordsOf t) k i
-    → entry ≡ recordOf n process p + heldAt k d → object ≡ recordOf n k i
-    → givenUpAt t k entry object (eqb cell (c .cell)) stays ≡ write (configuration t) t (givenUp (configuration t) (wordsOf t) k p d s)
-given-told {t} {n} known c k p d s homed th {i} ie ce ke ee oe =
-    rw (ee, oe, ce, ke, spot known (at process p (heldAt k d)), begins known k i, ie, homed) (sym (given-is (configuration t) t k p d s th))
+    → {i cell entry object count : ℕ} {stays : Bool} {u : List ℕ} → i ≡ indexOf s → cell ≡ cellOf (configuration t) k i → stays ≡ kept (wordsOf t) k i
+    → entry ≡ recordOf n process p + heldAt k d → object ≡ recordOf n k i → count ≡ wordsOf t (at k i (holders k))
+    → u ≡ write (configuration t) t (pagesCleared (wordsOf t) k p d)
+    → givenUpAt u k entry object count (eqb cell (c .cell)) stays ≡ write (configuration t) t (givenUp (configuration t) (wordsOf t) k p d s)
+unfolding givenUp
+given-told {t} {n} known c k p d s homed th {i} {u = u} ie ce ke ee oe he ue =
+    rw (write-append, ← ue, ee, oe, ce, ke, he, spot known (at process p (heldAt k d)), begins known k i, ie, homed)
+    (sym (emptied-is (configuration t) u (wordsOf t) k p d s th))

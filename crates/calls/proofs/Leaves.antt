@@ -54,3 +54,9 @@ module _ (t : List ℕ) (f : List ℕ → (Addr → ℕ) → Rule) {e : ℕ} (fo
 -- two rules that are one on this table
 pub left-same : (t : List ℕ) (f g : List ℕ → (Addr → ℕ) → Rule) {r : Answer} {t′ : List ℕ} → ruleAt t f ≡ ruleAt t g → Left t f r t′ → Left t g r t′
 left-same t f g e l = record { answer = l .answer ∙ ap answerOf e; table = l .table ∙ ap (tableOf (configuration t) t) e }
+
+-- two rules that refuse alike on this table, and do the same
+pub left-alike : (t : List ℕ) (f g : List ℕ → (Addr → ℕ) → Rule) {r : Answer} {t′ : List ℕ}
+    → firstRefusal (ruleAt t f .refusals) ≡ firstRefusal (ruleAt t g .refusals) → ruleAt t f .effects ≡ ruleAt t g .effects → Left t f r t′ → Left t g r t′
+unfolding answerOf tableOf
+left-alike t f g e q l = record { answer = rw (← e, ← q) (l .answer); table = rw (← e, ← q) (l .table) }

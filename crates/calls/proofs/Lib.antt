@@ -9,6 +9,7 @@ pub mod Given
 pub mod Holders
 pub mod FilesLaws
 pub mod SegmentsLaws
+pub mod MapLaws
 pub mod ProcessesLaws
 pub mod Queues
 pub mod Posts

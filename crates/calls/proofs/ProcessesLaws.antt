@@ -8,14 +8,14 @@ use native.Mathlib.Numerals.{add-one}
 use lib.Dec.{eqb}
 use borrow.Author.Tests.{eqb-false, eq-eqb, ne-eqb}
 use Rattle.rules.specs.Words.{tabFrom}
-use Rattle.rules.specs.Layout.{Kind, process, segment, file, recordWords, configuration, slots, Addr, at, Valid, rd, live, entries, heldAt, usedAt, links, holders}
+use Rattle.rules.specs.Layout.{Kind, process, segment, file, recordWords, configuration, slots, Addr, at, Valid, rd, live, entries, heldAt, usedAt, pages, pagesAt, pageAt, links, holders}
 use Rattle.rules.specs.Seid.{class, isSeid, indexOf}
 use Rattle.rules.specs.Rule.{Word, _≔_, write, over}
-use Rattle.rules.specs.Find.{inOwnCell, zeros, freed, kept, oneLess, givenUp}
+use Rattle.rules.specs.Find.{inOwnCell, zeros, freed, kept, oneLess, pageLeft, pagesSet, pagesCleared, emptied, givenUp}
 use Rattle.rules.specs.Call02.{dropped, droppedTo, released}
 use Rattle.laws.proofs.Tests.{both-ways}
 use Rattle.laws.proofs.Seids.{is-formed}
-use Rattle.laws.proofs.Written.{AllOf, nil, also, all-append, all-if, all-map, Valids, over-append, write-append, over-same, over-miss, length-write, rd-write, conf-write}
+use Rattle.laws.proofs.Written.{AllOf, nil, also, all-append, all-if, all-map, all-tab, Valids, over-append, write-append, over-same, over-miss, length-write, rd-write, conf-write}
 use Rattle.layout.specs.declared.Header.{Header}
 use Rattle.layout.specs.Header.{recordOf}
 use Rattle.calls.specs.declared.Caller.{Caller}
@@ -24,6 +24,7 @@ use Rattle.calls.specs.World.{Known, wordsOf, holdable}
 use Rattle.calls.specs.Entries.{entryOf, freedAt}
 use Rattle.calls.specs.Holding.{HoldingAt, Holding}
 use Rattle.calls.proofs.Given.{begins, freed-is}
+use Rattle.calls.proofs.MapLaws.{pages-same}
 
 -- two readings that agree at each word of a record
 abbrev Agree : List ℕ → (Addr → ℕ) → (Addr → ℕ) → Type 0
@@ -35,12 +36,12 @@ EntryFormed h r k q d = (r (at process q (heldAt k d)) ≡ 0 → ⊥) → isSeid
 
 -- ---- where an entry lies, and where its object's words lie
 
-held-in : (k : Kind) → holdable k ≡ true → (d : ℕ) → d < entries → heldAt k d < recordWords process
+held-in : (k : Kind) → holdable k ≡ true → (d : ℕ) → d < entries → heldAt k d < pagesAt
 held-in process th d l = both-ways false th refl
 held-in segment th d l = omega arith
 held-in file th d l = omega arith
 
-used-in : (k : Kind) → holdable k ≡ true → (d : ℕ) → d < entries → usedAt k d < recordWords process
+used-in : (k : Kind) → holdable k ≡ true → (d : ℕ) → d < entries → usedAt k d < pagesAt
 used-in process th d l = both-ways false th refl
 used-in segment th d l = omega arith
 used-in file th d l = omega arith
@@ -68,15 +69,15 @@ apart file th d e l = (λ q. omega arith, λ q. omega arith)
 
 -- ---- one entry
 
--- a write to a word that the table has; of process q's words, to none but the two of entry d
+-- a write to a word that the table has; of process q's words before its pages, to none but the two of entry d
 record Fits (h : List ℕ) (k : Kind) (q d : ℕ) (x : Word) : Type 0 where
   valid : Valid h (x .at)
-  misses : (j : ℕ) → (j ≡ heldAt k d → ⊥) → (j ≡ usedAt k d → ⊥) → at process q j ≡ x .at → ⊥
+  misses : (j : ℕ) → j < pagesAt → (j ≡ heldAt k d → ⊥) → (j ≡ usedAt k d → ⊥) → at process q j ≡ x .at → ⊥
 
 module _ (h : List ℕ) (k : Kind) (th : holdable k ≡ true) (q d : ℕ) where
   -- a word of the object
   object-fits : (i j v : ℕ) → i < slots h k → j < recordWords k → Fits h k q d (at k i j ≔ v)
-  object-fits i j v l m = record { valid = (l, m); misses = λ _ _ _ e. no-process k th (ap (λ (a : Addr). class (a .kind)) e) }
+  object-fits i j v l m = record { valid = (l, m); misses = λ _ _ _ _ e. no-process k th (ap (λ (a : Addr). class (a .kind)) e) }
 
   zeros-fit : (i j n : ℕ) → i < slots h k → j + n ≤ recordWords k → AllOf (Fits h k q d) (zeros k i j n)
   unfolding zeros tabFrom
@@ -90,12 +91,20 @@ module _ (h : List ℕ) (k : Kind) (th : holdable k ≡ true) (q d : ℕ) where
       (λ _. also (object-fits i live 0 l (omega (arith, record-some k))) (zeros-fit i 2 (recordWords k - 2) l (omega (arith, record-some k))))
       (λ _. also (object-fits i (holders k) _ l (holders-in k th)) nil)
 
+  pages-fit : (r : Addr → ℕ) (k′ : Kind) → q < slots h process → AllOf (Fits h k q d) (pagesCleared r k′ q d)
+  unfolding pagesSet
+  pages-fit r process ql = nil
+  pages-fit r segment ql = all-tab _ 0 pages _ (λ g lo hi.
+      record { valid = (ql, omega arith); misses = λ j l a b e. absurd (let w : j ≡ pageAt g = ap (λ (x : Addr). x .word) e in omega arith) })
+  pages-fit r file ql = nil
+
   given-fits : (r : Addr → ℕ) (s : ℕ) → q < slots h process → d < entries → isSeid (class k) (slots h k) s ≡ true → AllOf (Fits h k q d) (givenUp h r k q d s)
-  unfolding givenUp
+  unfolding givenUp emptied
   given-fits r s ql dl f =
-      also (record { valid = (ql, held-in k th d dl); misses = λ j a b e. a (ap (λ (x : Addr). x .word) e) })
-      (also (record { valid = (ql, used-in k th d dl); misses = λ j a b e. b (ap (λ (x : Addr). x .word) e) })
-      (all-if _ (inOwnCell h q k s) (oneLess r k (indexOf s)) [] (λ _. less-fits r (indexOf s) (is-formed (class k) (slots h k) s f .index-in)) (λ _. nil)))
+      all-append _ (pages-fit r k ql)
+      (also (record { valid = (ql, omega (arith, held-in k th d dl)); misses = λ j l a b e. a (ap (λ (x : Addr). x .word) e) })
+      (also (record { valid = (ql, omega (arith, used-in k th d dl)); misses = λ j l a b e. b (ap (λ (x : Addr). x .word) e) })
+      (all-if _ (inOwnCell h q k s) (oneLess r k (indexOf s)) [] (λ _. less-fits r (indexOf s) (is-formed (class k) (slots h k) s f .index-in)) (λ _. nil))))
 
   dropped-fits : (r : Addr → ℕ) → q < slots h process → d < entries
       → EntryFormed h r k q d → AllOf (Fits h k q d) (dropped h r k q d)
@@ -110,17 +119,23 @@ kept-same h process r r′ a i l = refl
 kept-same h segment r r′ a i l = refl
 kept-same h file r r′ a i l = rw (a (at file i links) (l, omega arith))
 
-module _ (h : List ℕ) (k : Kind) (th : holdable k ≡ true) (q d : ℕ) (r r′ : Addr → ℕ) (agree : Agree h r r′) where
+module _ (h : List ℕ) (k : Kind) (th : holdable k ≡ true) (q d : ℕ) (ql : q < slots h process) (r r′ : Addr → ℕ) (agree : Agree h r r′) where
+  cleared-same : (k′ : Kind) → pagesCleared r k′ q d ≡ pagesCleared r′ k′ q d
+  unfolding pageLeft
+  cleared-same process = refl
+  cleared-same segment =
+      pages-same q (pageLeft r q d) (pageLeft r′ q d) (λ g l. ap (λ (x : ℕ). cond (eqb x (d + 1)) 0 x) (agree (at process q (pageAt g)) (ql, omega arith)))
+  cleared-same file = refl
+
   given-same : (s : ℕ) → isSeid (class k) (slots h k) s ≡ true → givenUp h r k q d s ≡ givenUp h r′ k q d s
-  unfolding givenUp oneLess
+  unfolding givenUp emptied oneLess
   given-same s f =
       let l : indexOf s < slots h k = is-formed (class k) (slots h k) s f .index-in in
-      rw (agree (at k (indexOf s) (holders k)) (l, holders-in k th), kept-same h k r r′ agree (indexOf s) l)
+      rw (cleared-same k, agree (at k (indexOf s) (holders k)) (l, holders-in k th), kept-same h k r r′ agree (indexOf s) l)
 
-  dropped-same : q < slots h process → d < entries → EntryFormed h r k q d
-      → dropped h r k q d ≡ dropped h r′ k q d
+  dropped-same : d < entries → EntryFormed h r k q d → dropped h r k q d ≡ dropped h r′ k q d
   unfolding dropped
-  dropped-same ql dl f = rw (← agree (at process q (heldAt k d)) (ql, held-in k th d dl)) (go (eqb (r (at process q (heldAt k d))) 0) refl)
+  dropped-same dl f = rw (← agree (at process q (heldAt k d)) (ql, omega (arith, held-in k th d dl))) (go (eqb (r (at process q (heldAt k d))) 0) refl)
     where
       go : (b : Bool) → eqb (r (at process q (heldAt k d))) 0 ≡ b
           → cond b [] (givenUp h r k q d (r (at process q (heldAt k d)))) ≡ cond b [] (givenUp h r′ k q d (r (at process q (heldAt k d))))
@@ -132,18 +147,18 @@ module _ (h : List ℕ) (k : Kind) (th : holdable k ≡ true) (q d : ℕ) (r r�
 module _ (h : List ℕ) (k : Kind) (th : holdable k ≡ true) (q : ℕ) (ql : q < slots h process) (r : Addr → ℕ) (holds : (d : ℕ) → d < entries → EntryFormed h r k q d) where
   pub record SoFar (n : ℕ) : Type 0 where
     pub valid : Valids h (droppedTo h r k q n)
-    pub beside : (j : ℕ) → ((d : ℕ) → d < n → (j ≡ heldAt k d → ⊥) × (j ≡ usedAt k d → ⊥)) → over r (droppedTo h r k q n) (at process q j) ≡ r (at process q j)
+    pub beside : (j : ℕ) → j < pagesAt → ((d : ℕ) → d < n → (j ≡ heldAt k d → ⊥) × (j ≡ usedAt k d → ⊥)) → over r (droppedTo h r k q n) (at process q j) ≡ r (at process q j)
 
   -- the next entry is what it was
-  next : (n : ℕ) → SoFar n → over r (droppedTo h r k q n) (at process q (heldAt k n)) ≡ r (at process q (heldAt k n))
-  next n s = s .beside (heldAt k n) (λ d l. apart k th n d l)
+  next : (n : ℕ) → n < entries → SoFar n → over r (droppedTo h r k q n) (at process q (heldAt k n)) ≡ r (at process q (heldAt k n))
+  next n m s = s .beside (heldAt k n) (held-in k th n m) (λ d l. apart k th n d l)
 
   next-formed : (n : ℕ) → n < entries → SoFar n → EntryFormed h (over r (droppedTo h r k q n)) k q n
-  next-formed n l s = rw (next n s) (holds n l)
+  next-formed n l s = rw (next n l s) (holds n l)
 
   so-far : (n : ℕ) → n ≤ entries → SoFar n
   unfolding droppedTo over
-  so-far zero l = record { valid = nil; beside = λ j f. refl }
+  so-far zero l = record { valid = nil; beside = λ j m f. refl }
   so-far (suc n) l =
       let s = so-far n (omega arith) in
       let ws : List Word = droppedTo h r k q n in
@@ -151,8 +166,8 @@ module _ (h : List ℕ) (k : Kind) (th : holdable k ≡ true) (q : ℕ) (ql : q 
       let fit = dropped-fits h k th q n (over r ws) ql l (next-formed n l s) in
       record {
         valid = all-append vs (s .valid) (all-map (λ x y. y .valid) fit);
-        beside = λ j f. rw (over-append r ws vs) (over-miss (at process q j) (all-map (λ x y. y .misses j (f n (omega arith) .0) (f n (omega arith) .1)) fit) (over r ws)
-            ∙ s .beside j (λ d dl. f d (omega arith)));
+        beside = λ j m f. rw (over-append r ws vs) (over-miss (at process q j) (all-map (λ x y. y .misses j m (f n (omega arith) .0) (f n (omega arith) .1)) fit) (over r ws)
+            ∙ s .beside j m (λ d dl. f d (omega arith)));
       }
 
   -- another reading that agrees with r gives up the same words
@@ -163,7 +178,7 @@ module _ (h : List ℕ) (k : Kind) (th : holdable k ≡ true) (q : ℕ) (ql : q 
       let s = so-far n (omega arith) in
       let ws : List Word = droppedTo h r k q n in
       let e : ws ≡ droppedTo h r′ k q n = all-same r′ agree n (omega arith) in
-      rw (← e) (ap (λ (vs : List Word). ws ++ vs) (dropped-same h k th q n (over r ws) (over r′ ws) (over-same h ws r r′ agree) ql l (next-formed n l s)))
+      rw (← e) (ap (λ (vs : List Word). ws ++ vs) (dropped-same h k th q n ql (over r ws) (over r′ ws) (over-same h ws r r′ agree) l (next-formed n l s)))
 
 -- ---- the table while the entries are given up: t is the table at the start, u once n of them are
 
@@ -209,7 +224,7 @@ module _ {t : List ℕ} {n : Header} {c : Caller} (k : Kind) (q : ℕ) (holding 
       let th = holding .at-all .held in
       let ws : List Word = droppedTo h r k q m in
       let same : configuration (write h t ws) ≡ h = conf-write h t ws refl in
-      let d = dropped-same h k th q m (over r ws) (rd h (write h t ws)) (reads m (omega arith)) (holding .here) l
+      let d = dropped-same h k th q m (holding .here) (over r ws) (rd h (write h t ws)) (reads m (omega arith)) l
       (next-formed h k th q (holding .here) r (holding .formed) m l (far m (omega arith))) in
       let g : u′ ≡ write h (write h t ws) (dropped h (over r ws) k q m) = f ∙ rw (e, same, d) in
       rw (add-one, write-append) g
@@ -229,8 +244,8 @@ module _ {t : List ℕ} {n : Header} {c : Caller} (q : ℕ) (files : Holding t n
       let ws : List Word = droppedTo h (wordsOf t) file q entries in
       let conf : configuration (write h t ws) ≡ h = conf-write h t ws refl in
       let same : (d : ℕ) → d < entries → rd h (write h t ws) (at process q (heldAt segment d)) ≡ wordsOf t (at process q (heldAt segment d)) =
-      λ d l. sym (reads file q files entries (omega arith) (at process q (heldAt segment d)) (files .here, held-in segment refl d l))
-      ∙ far file q files entries (omega arith) .beside (heldAt segment d) (λ e m. (λ x. omega arith, λ x. omega arith)) in
+      λ d l. sym (reads file q files entries (omega arith) (at process q (heldAt segment d)) (files .here, omega (arith, held-in segment refl d l)))
+      ∙ far file q files entries (omega arith) .beside (heldAt segment d) (held-in segment refl d l) (λ e m. (λ x. omega arith, λ x. omega arith)) in
       rw first (record {
         at-all = record { known = known-write (files .at-all .known) ws; held = refl; homed = rw conf (files .at-all .homed) };
         words = rw (conf, length-write h t ws) (files .words);

@@ -55,3 +55,19 @@ one-clear x xs n f false e z = (e, f (rw e at z))
 pub clear-of : (xs : List Refusal) → numbered xs ≡ true → firstRefusal xs ≡ 0 → Clear xs
 clear-of [] n z = tt
 clear-of (x ∷ xs) n z = one-clear x xs n (clear-of xs (and-right (not (eqb (x .number) 0)) _ n)) (x .test) refl z
+
+-- what follows a list of refusals counts only where none of the list holds
+pub first-stops : (xs ys : List Refusal) → (firstRefusal xs ≡ 0 → ⊥) → firstRefusal xs ≡ firstRefusal (xs ++ ys)
+first-stops [] ys n = absurd (n refl)
+first-stops (x ∷ xs) ys n = by-test (x .test) (firstRefusal xs) _ (first-stops xs ys) n
+  where
+    by-test : (b : Bool) (y z : ℕ) → ((y ≡ 0 → ⊥) → y ≡ z) → (cond b (x .number) y ≡ 0 → ⊥) → cond b (x .number) y ≡ cond b (x .number) z
+    by-test true y z f n = refl
+    by-test false y z f n = f n
+
+clear-passes : (xs ys : List Refusal) → Clear xs → firstRefusal (xs ++ ys) ≡ firstRefusal ys
+clear-passes [] ys c = refl
+clear-passes (x ∷ xs) ys c = rw (c .0) (clear-passes xs ys (c .1))
+
+pub first-passes : (xs ys : List Refusal) → numbered xs ≡ true → firstRefusal xs ≡ 0 → firstRefusal (xs ++ ys) ≡ firstRefusal ys
+first-passes xs ys n z = clear-passes xs ys (clear-of xs n z)

@@ -96,7 +96,7 @@ pub no-table : (t s : List ℕ) (p code a b c : ℕ) (buffer : List ℕ) {x : Bo
     → Did (step (stateOf t s) (callOf p code a b c buffer)) r t s buffer
 no-table t s p code a b c buffer xe f re = bad-table t s p code a b c buffer (sym xe ∙ f) re
 
--- a good code is 1 to 18
+-- a good code is 1 to 20
 pub good-code : (code : ℕ) {z : Bool} → z ≡ badCode code → z ≡ false → (1 ≤ code) × (code ≤ lastCode)
 unfolding badCode
 good-code code e f =

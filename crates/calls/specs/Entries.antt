@@ -20,10 +20,10 @@ freedAt t from n = sets (set t (from + live) 0) (from + owner) (replicate (n - o
 unfoldable pub lessAt : List ℕ → Kind → ℕ → ℕ → Bool → List ℕ
 lessAt t k from n kept = cond (eqb n 1 && not kept) (freedAt t from (recordWords k)) (set t (from + holders k) (n - 1))
 
--- the entry at a place is given up, which holds the object whose record begins at another
-unfoldable pub givenUpAt : List ℕ → Kind → ℕ → ℕ → Bool → Bool → List ℕ
-givenUpAt t k entry object own kept =
-    cond own (lessAt (set (set t entry 0) (entry + 1) 0) k object (getD t (object + holders k) 0) kept) (set (set t entry 0) (entry + 1) 0)
+-- the entry at a place is given up, which holds the object whose record begins at another and which has n holders
+unfoldable pub givenUpAt : List ℕ → Kind → ℕ → ℕ → ℕ → Bool → Bool → List ℕ
+givenUpAt t k entry object n own kept =
+    cond own (lessAt (set (set t entry 0) (entry + 1) 0) k object n kept) (set (set t entry 0) (entry + 1) 0)
 
 -- four words stored from a place on
 unfoldable pub fourAt : List ℕ → ℕ → ℕ → ℕ → ℕ → ℕ → List ℕ

@@ -4,6 +4,7 @@ pub mod Left
 pub mod Refusing
 pub mod Seen
 pub mod Entries
+pub mod Map
 pub mod Calls
 pub mod Holding
 pub mod Mail

@@ -19,6 +19,8 @@ use crate::files::set_bits;
 use crate::files::unlink;
 use crate::mail::post;
 use crate::mail::receive;
+use crate::map::page_access;
+use crate::map::remap;
 use crate::processes::release_process;
 use crate::processes::spawn;
 use crate::room::free_slot;
@@ -104,7 +106,7 @@ fn on_contents(
     c: u32,
     buffer: &mut [u8],
 ) -> Answer
-    requires { ⌜ Sound (now t) n me × (m ≡ flowMatrix (configuration (now t))) × (length (now store) ≡ storeBytes (configuration (now t))) × (13 ≤ code) × (code ≤ lastCode) ⌝ }
+    requires { ⌜ Sound (now t) n me × (m ≡ flowMatrix (configuration (now t))) × (length (now store) ≡ storeBytes (configuration (now t))) × (13 ≤ code) × (code ≤ 18) ⌝ }
     ensures { λ r. ⌜ Through (now (t .entry)) (now (store .entry)) (now (buffer .entry)) (ruleIn (now (t .entry)) (now (store .entry)) (me .slot) code a b c (now (buffer .entry))) r (now (t .exit)) (now (store .exit)) (now (buffer .exit)) ⌝ }
 {
     match code {
@@ -114,6 +116,26 @@ fn on_contents(
         16 => receive(t, n, me, buffer),
         17 => status(t, n, m, me, a, buffer),
         _ => access_of(t, n, m, me, a),
+    }
+}
+
+// The address map: calls 19 and 20.
+fn on_map(
+    t: &mut [u32],
+    n: Header,
+    m: [[bool; MAX_CELLS]; MAX_CELLS],
+    me: Caller,
+    code: u32,
+    a: u32,
+    b: u32,
+    c: u32,
+) -> Answer
+    requires { ⌜ Sound (now t) n me × (m ≡ flowMatrix (configuration (now t))) × (19 ≤ code) × (code ≤ lastCode) ⌝ }
+    ensures { λ r. ⌜ ((s buffer : List ℕ) → Plain (now (t .entry)) (me .slot) code a b c r (now (t .exit)) s buffer) ⌝ }
+{
+    match code {
+        19 => remap(t, n, m, me, a, b, c),
+        _ => page_access(t, n, m, me, a),
     }
 }
 
@@ -138,5 +160,8 @@ pub(crate) fn carry_out(
     if code <= 12 {
         return on_files(t, n, m, me, code, a, b, c);
     }
-    on_contents(t, store, n, m, me, code, a, b, c, buffer)
+    if code <= 18 {
+        return on_contents(t, store, n, m, me, code, a, b, c, buffer);
+    }
+    on_map(t, n, m, me, code, a, b, c)
 }

@@ -13,6 +13,7 @@ ghost use Rattle.calls.specs.Entries.{entryOf, freedAt, lessAt, givenUpA
 use crate::Caller;
 use crate::base::one_less;
 use crate::base::read;
+use crate::pages::clear_pages;
 use crate::room::cell_of;
 use layout::Header;
 use layout::Kind;
@@ -74,12 +75,11 @@ fn less(t: &mut [u32], kind: Kind, from: usize, n: u32, kept: bool)
     }
 }
 
-// The entry at a place is given up. Where the object that it holds is of the holder's cell, that has one holder less.
-fn give_up(t: &mut [u32], kind: Kind, entry: usize, object: usize, own: bool, kept: bool)
+// The entry at a place is given up. Where the object that it holds, with n holders, is of the holder's cell, that has one less.
+fn give_up(t: &mut [u32], kind: Kind, entry: usize, object: usize, n: u32, own: bool, kept: bool)
     requires { ⌜ (entry < 2 ^ 45) × (object < 2 ^ 44) ⌝ }
-    ensures { λ _. ⌜ now (t .exit) ≡ givenUpAt (now (t .entry)) (kindOf kind) entry object own kept ⌝ }
+    ensures { λ _. ⌜ now (t .exit) ≡ givenUpAt (now (t .entry)) (kindOf kind) entry object n own kept ⌝ }
 {
-    let n = word(t, object + kind.holders_word());
     put(t, entry, 0);
     put(t, entry + 1, 0);
     if own {
@@ -99,7 +99,7 @@ fn is_kept(t: &[u32], n: Header, kind: Kind, i: u32) -> bool
     }
 }
 
-// Entry d of process p, of the caller's cell, which holds s, is given up.
+// Entry d of process p, of the caller's cell, which holds s, is given up, and with it the pages that name it. What is known of the object is read first.
 pub(crate) fn give_up_entry(t: &mut [u32], n: Header, c: Caller, kind: Kind, p: u32, d: u32, s: u32)
     requires { ⌜ Known (now t) n × (c .cell ≡ cellOf (configuration (now t)) process p) × (holdable (kindOf kind) ≡ true) ⌝ }
     ensures { λ _. ⌜ now (t .exit) ≡ write (configuration (now (t .entry))) (now (t .entry)) (givenUp (configuration (now (t .entry))) (wordsOf (now (t .entry))) (kindOf kind) p d s) ⌝ }
@@ -109,7 +109,9 @@ pub(crate) fn give_up_entry(t: &mut [u32], n: Header, c: Caller, kind: Kind, p: 
     let kept = is_kept(t, n, kind, i);
     let entry = n.entry_at(kind, p, d);
     let object = n.record_at(kind, i);
-    give_up(t, kind, entry, object, own, kept);
+    let holders = read(t, n, kind, i, kind.holders_word());
+    clear_pages(t, n, kind, p, d);
+    give_up(t, kind, entry, object, holders, own, kept);
 }
 
 // Four words from a place on.

@@ -4,7 +4,7 @@ use mathlib.Core.List.{List}
 use Prim.Native.Nat.{ℕ, _+_, _≤_, _<_}
 use native.Mathlib.Omega.{arith}
 use Rattle.rules.specs.Claim.{Holds}
-use Rattle.rules.specs.Layout.{maxSerial, maxOwner, process, segment, recordWords, slots, cellOf, Addr, at, live, serial, owner, group, parent, queue, zero6, zero7, heldAt, usedAt, messageAt}
+use Rattle.rules.specs.Layout.{maxSerial, maxOwner, process, segment, recordWords, slots, cellOf, Addr, at, live, serial, owner, group, parent, queue, zero6, zero7, heldAt, usedAt, messageAt, pageAt}
 use Rattle.rules.specs.WellFormed.{parentOk}
 use Rattle.rules.specs.Rule.{Word, over}
 use Rattle.laws.proofs.Written.{AllOf}
@@ -39,6 +39,7 @@ module _ (h : List ℕ) (r : Addr → ℕ) (w : Fine h r) (q : ℕ) (ws : List W
       zero-seven = zero zero7 (omega arith) (omega arith);
       once = λ d e dl el n some same. some (zero (heldAt segment e) (omega arith) (omega arith));
       unused = λ m j ml jl full. zero (messageAt m j) (omega arith) (omega arith);
+      paged = λ g l n. absurd (n (zero (pageAt g) (omega arith) (omega arith)));
     });
     serial-grown = omega (arith, x .next-serial);
     same-held = λ k o d l. let y = placed k o d l in x .beyond (heldAt k d) (omega arith);

@@ -24,6 +24,8 @@ use Rattle.rules.specs.Call15.{post}
 use Rattle.rules.specs.Call16.{receive}
 use Rattle.rules.specs.Call17.{statusOf}
 use Rattle.rules.specs.Call18.{accessOf}
+use Rattle.rules.specs.Call19.{remap}
+use Rattle.rules.specs.Call20.{pageAccess}
 use Rattle.rules.specs.Step.{Call, ruleOf}
 use Rattle.laws.proofs.Object.{Object}
 use Rattle.laws.proofs.Refusals.{without}
@@ -43,11 +45,12 @@ use Rattle.kept.proofs.Keep12
 use Rattle.kept.proofs.Keep14
 use Rattle.kept.proofs.Keep15
 use Rattle.kept.proofs.Keep16
+use Rattle.kept.proofs.Keep19
 use Rattle.laws.proofs.Codes.{by-code, by-bits, by-status}
 
 module _ (h : List ℕ) (r : Addr → ℕ) (st : List ℕ) (k : Call) where
   pub keeps : Caller h r (k .caller) → KeptBy h r (ruleOf h r st k)
-  unfolding readBlock accessOf
+  unfolding readBlock accessOf pageAccess
   keeps me =
       let p = k .caller in
       by-code h k (λ f. KeptBy h r (f r st)) (record {
@@ -69,12 +72,14 @@ module _ (h : List ℕ) (r : Addr → ℕ) (st : List ℕ) (k : Call) where
         call-16 = λ e. Keep16.keeps h r p me (k .buffer);
         call-17 = λ e. by-status h r k (KeptBy h r) (λ s j x. keeps-none h r (me .fine));
         call-18 = λ e x. keeps-none h r (me .fine);
+        call-19 = λ e. Keep19.keeps h r p me (k .a) (k .b) (k .c) (k .buffer);
+        call-20 = λ e x. keeps-none h r (me .fine);
         other = λ x. keeps-none h r (me .fine);
       })
 
   -- no refusal of any call has that number
   pub numbers : without XbTab (ruleOf h r st k .refusals) ≡ true
-  unfolding spawn releaseProcess buildSegment rendezvous releaseSegment setAccess create openFile close link unlink readBlock writeBlock post receive accessOf
+  unfolding spawn releaseProcess buildSegment rendezvous releaseSegment setAccess create openFile close link unlink readBlock writeBlock post receive accessOf remap pageAccess
   numbers =
       let P : Rule → Type 0 = λ x. without XbTab (x .refusals) ≡ true in
       by-code h k (λ f. P (f r st)) (record {
@@ -96,6 +101,8 @@ module _ (h : List ℕ) (r : Addr → ℕ) (st : List ℕ) (k : Call) where
         call-16 = λ e. refl;
         call-17 = λ e. by-status h r k P status-numbers;
         call-18 = λ e. refl;
+        call-19 = λ e. refl;
+        call-20 = λ e. refl;
         other = refl;
       })
     where

@@ -20,7 +20,7 @@ use Rattle.kept.proofs.Fine.{Particular, Own, object-alive}
 use Rattle.kept.proofs.Records.{InRecord, word-in, same-record}
 use Rattle.kept.proofs.Counting.{named-is, empty-named}
 use Rattle.kept.proofs.Made.{object-words, live-record}
-use Rattle.kept.proofs.OneEntry.{Fresh}
+use Rattle.kept.proofs.OneEntry.{Fresh, still-filled}
 use Rattle.kept.proofs.Keeps.{Keeps, Caller}
 use Rattle.kept.proofs.Exchange.{object-first}
 use Rattle.laws.proofs.Slots.{FreeSlot}
@@ -108,6 +108,7 @@ module _ (h : List ℕ) (r : Addr → ℕ) (p : ℕ) (c : Caller h r p) (k : Kin
         grown-after = rw (word 1) (omega arith);
         steady-after = λ a l. absurd (omega (arith, f .is-free));
         fresh = fresh-for k unheld;
+        unmapped = still-filled r k p d new (seid-some (class k) i next (class-pos k));
         entry-after = new-entry h (over r words) k _ new u (made-formed (class k) (slots h k) i next (f .in-range) (omega (arith, c .shape .few k)) (omega arith) fits)
             (rw ix (word 0)) (rw ix (word 1 ∙ sym (serial-seid (class k) i next small fits)))
             (rw cell (flows-itself h (cellOf h process p) (in-run h (c .shape) process p (c .in-range) .0))) valid (λ z. cell);

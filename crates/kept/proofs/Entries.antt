@@ -1,5 +1,5 @@
 -- Entries filled and given up, for a file or a segment: the holders are counted, and an object without holders is freed.
-use mathlib.Core.Path.{_≡_, refl, ap, _∙_}
+use mathlib.Core.Path.{_≡_, refl, sym, ap, _∙_}
 use mathlib.Core.Bool.{Bool, true, false, cond, _&&_, not}
 use mathlib.Core.List.{List, [], _∷_, _++_}
 use Prim.Native.Nat.{ℕ, _+_, _-_, _≤_, _<_}
@@ -7,23 +7,24 @@ use native.Mathlib.Omega.{arith}
 use native.Mathlib.Decide.{ℕ-discrete}
 use lib.Dec.{ltb, leb, eqb}
 use borrow.Author.Tests.{eq-eqb, eqb-true, eqb-false, leb-false}
-use Rattle.rules.specs.Layout.{Kind, process, segment, file, slots, cellOf, flows, Addr, at, live, serial, entries, heldAt, usedAt, links, holders}
+use Rattle.rules.specs.Layout.{Kind, process, segment, file, slots, cellOf, flows, Addr, at, live, serial, entries, heldAt, usedAt, pages, pagesAt, pageAt, links, holders}
 use Rattle.rules.specs.Seid.{class, indexOf, serialOf, isSeid}
 use Rattle.rules.specs.WellFormed.{validUse, writeUse, ownEntry}
 use Rattle.rules.specs.Rule.{_⇒_, firstRefusal, Word, _≔_, over}
-use Rattle.rules.specs.Find.{inOwnCell, entered, oneMore, freed, oneLess, givenUp, kept}
+use Rattle.rules.specs.Find.{inOwnCell, entered, oneMore, freed, oneLess, pageLeft, pagesCleared, emptied, givenUp, kept}
 use Rattle.laws.proofs.Tests.{cond-both, and-left, both-ways}
 use Rattle.laws.proofs.Seids.{class-pos, class-some, is-formed}
 use Rattle.laws.proofs.Shape.{Held, Entry}
-use Rattle.laws.proofs.Written.{AllOf, nil, all-if}
+use Rattle.laws.proofs.Written.{AllOf, nil, all-if, over-append}
 use Rattle.laws.proofs.Object.{Object, no-process}
 use Rattle.kept.proofs.Fine.{linked, Own, Fine}
 use Rattle.laws.proofs.Refusals.{clear}
-use Rattle.kept.proofs.Records.{InRecord, in-first, word-in, word-at, word-past, freed-in, freed-serial, freed-word}
+use Rattle.kept.proofs.Records.{InRecord, elsewhere, in-first, word-in, word-at, word-past, freed-in, freed-serial, freed-word}
 use Rattle.kept.proofs.Counting.{one, named-is, named-counted, not-named, empty-named}
-use Rattle.kept.proofs.Made.{object-words, freed-record}
-use Rattle.kept.proofs.OneEntry.{Fresh}
-use Rattle.kept.proofs.Keeps.{Keeps, Caller}
+use Rattle.kept.proofs.Made.{placed, object-words, freed-record}
+use Rattle.kept.proofs.OneEntry.{Fresh, Unmapped, still-filled}
+use Rattle.kept.proofs.Keeps.{Keeps, Caller, keeps-none, keeps-then}
+use Rattle.kept.proofs.Pages.{pages-in, pages-past, pages-at, keeps-pages, left-page, left-gone}
 use Rattle.kept.proofs.Exchange.{entry-first, entered-in, entered-held, entered-beside}
 use Rattle.kept.proofs.Found.{Found}
 use Rattle.kept.proofs.Objects.{own-holders}
@@ -77,6 +78,7 @@ module _ (h : List ℕ) (r : Addr → ℕ) (p : ℕ) (c : Caller h r p) (k : Kin
     grown-after = omega arith;
     steady-after = λ x y. (e0 ∙ y, e1);
     fresh = fresh;
+    unmapped = still-filled r k p d s (class-some s (class k) (class-pos k) (f .parts .class-is));
     entry-after = new-entry h (over r B) k _ s u (f .form) (e0 ∙ f .here .is-live) (e1 ∙ f .here .same-serial) flow valid writes-own;
     old-index = λ n. absurd (n empty);
     new-index = λ n. refl;
@@ -107,7 +109,7 @@ less-in r k o i =
     all-if _ (eqb (r (at k i (holders k))) 1 && not (kept r k i)) _ _ (λ t. freed-in k i) (λ t. word-in k i (holders k) _ (omega arith) nil)
 
 module _ (h : List ℕ) (r : Addr → ℕ) (w : Fine h r) (p : ℕ) (pl : p < slots h process) (lives : r (at process p live) ≡ 1) (k : Kind) (o : Object k) (d : ℕ) (dl : d < entries)
-    (some : r (at process p (heldAt k d)) ≡ 0 → ⊥) where
+    (some : r (at process p (heldAt k d)) ≡ 0 → ⊥) (off : Unmapped r k p d 0) where
   abbrev given : ℕ
   given = r (at process p (heldAt k d))
 
@@ -130,6 +132,7 @@ module _ (h : List ℕ) (r : Addr → ℕ) (w : Fine h r) (p : ℕ) (pl : p < sl
     grown-after = omega arith;
     steady-after = λ x y. (e0 x ∙ y, e1);
     fresh = no-fresh r k p d;
+    unmapped = off;
     entry-after = empty-entry h (over r B) k _;
     old-index = λ n. refl;
     new-index = λ n. absurd (n refl);
@@ -167,25 +170,96 @@ module _ (h : List ℕ) (r : Addr → ℕ) (w : Fine h r) (p : ℕ) (pl : p < sl
         | no x ↦ omega arith
       ]
 
-  pub given-up : Keeps h r (givenUp h r k p d given)
-  unfolding givenUp over
-  given-up = cond-both (λ B. Keeps h r (entered k p d 0 0 ++ B)) (inOwnCell h p k given) (oneLess r k slot) []
+  entry-emptied : Keeps h r (emptied h r k p d given)
+  unfolding emptied over
+  entry-emptied = cond-both (λ B. Keeps h r (entered k p d 0 0 ++ B)) (inOwnCell h p k given) (oneLess r k slot) []
       (λ e. own-less (eqb-true _ _ e))
       (λ e. emptied-by [] nil (w .own k slot slot-in) refl (λ x. refl) (rw (not-named h r k p d slot (λ y. eqb-false _ _ e (y .same-cell))) (omega arith)))
 
-  given-in : AllOf (InRecord k slot) (cond (inOwnCell h p k given) (oneLess r k slot) [])
-  given-in = all-if _ (inOwnCell h p k given) _ _ (λ e. less-in r k o slot) (λ e. nil)
+-- what is written of the object hangs on the object alone
+less-same : (r q : Addr → ℕ) (k : Kind) (i : ℕ) → ((j : ℕ) → q (at k i j) ≡ r (at k i j)) → oneLess q k i ≡ oneLess r k i
+unfolding oneLess
+less-same r q process i same = rw (same (holders process))
+less-same r q segment i same = rw (same (holders segment))
+less-same r q file i same = rw (same (holders file), same links)
 
-  -- of the process, the entry alone is written
-  given-word : (j : ℕ) → over r (givenUp h r k p d given) (at process p j) ≡ over r (entered k p d 0 0) (at process p j)
+emptied-same : (h : List ℕ) (r q : Addr → ℕ) (k : Kind) → Object k → (p d s : ℕ) → ((i j : ℕ) → q (at k i j) ≡ r (at k i j)) → emptied h q k p d s ≡ emptied h r k p d s
+unfolding emptied
+emptied-same h r q k o p d s same = rw (less-same r q k (indexOf s) (same (indexOf s)))
+
+-- what page g holds then
+abbrev pub clearedPage : (Addr → ℕ) → Kind → ℕ → ℕ → ℕ → ℕ
+clearedPage r process p d g = r (at process p (pageAt g))
+clearedPage r segment p d g = pageLeft r p d g
+clearedPage r file p d g = r (at process p (pageAt g))
+
+-- the pages of an entry cleared: of the process, none but pages are written, and none holds the entry
+pub record Cleared (h : List ℕ) (r : Addr → ℕ) (k : Kind) (p d : ℕ) : Type 0 where
+  pub keeps : Keeps h r (pagesCleared r k p d)
+  pub in-process : AllOf (InRecord process p) (pagesCleared r k p d)
+  pub past : (j : ℕ) → j < pagesAt → over r (pagesCleared r k p d) (at process p j) ≡ r (at process p j)
+  pub page : (g : ℕ) → g < pages → over r (pagesCleared r k p d) (at process p (pageAt g)) ≡ clearedPage r k p d g
+  pub off : Unmapped (over r (pagesCleared r k p d)) k p d 0
+
+pub clears : (h : List ℕ) (r : Addr → ℕ) → Fine h r → (p : ℕ) → p < slots h process → r (at process p live) ≡ 1 → (k : Kind) → Object k → (d : ℕ) → Cleared h r k p d
+unfolding over
+clears h r w p pl lives process o d = absurd o
+clears h r w p pl lives file o d = record { keeps = keeps-none h r w; in-process = nil; past = λ j l. refl; page = λ g l. refl; off = tt }
+clears h r w p pl lives segment o d = record {
+  keeps = keeps-pages h r w p pl lives (pageLeft r p d) (λ g gl. left-page r p d g (w .own process p pl .alive lives .paged g gl));
+  in-process = pages-in p (pageLeft r p d);
+  past = pages-past p (pageLeft r p d) r;
+  page = pages-at p (pageLeft r p d) r;
+  off = λ z g gl e. left-gone r p d g (sym (pages-at p (pageLeft r p d) r g gl) ∙ e);
+}
+
+module _ (h : List ℕ) (r : Addr → ℕ) (w : Fine h r) (p : ℕ) (pl : p < slots h process) (lives : r (at process p live) ≡ 1) (k : Kind) (o : Object k) (d : ℕ) (dl : d < entries)
+    (some : r (at process p (heldAt k d)) ≡ 0 → ⊥) where
+  abbrev holds : ℕ
+  holds = r (at process p (heldAt k d))
+
+  abbrev without : Addr → ℕ
+  without = over r (pagesCleared r k p d)
+
+  cleared : Cleared h r k p d
+  cleared = clears h r w p pl lives k o d
+
+  same-held : without (at process p (heldAt k d)) ≡ holds
+  same-held = let y = placed k o d dl in cleared .past (heldAt k d) (omega arith)
+
+  same-object : (i j : ℕ) → without (at k i j) ≡ r (at k i j)
+  same-object i j = elsewhere process p (cleared .in-process) r k i j (λ e f. no-process k o e)
+
+  rest-is : emptied h without k p d (without (at process p (heldAt k d))) ≡ emptied h r k p d holds
+  rest-is = rw same-held (emptied-same h r without k o p d holds same-object)
+
+  rest : Keeps h without (emptied h r k p d holds)
+  rest = rw rest-is at (entry-emptied h without (cleared .keeps .fine) p pl (cleared .past live (omega arith) ∙ lives) k o d dl (λ z. some (sym same-held ∙ z)) (cleared .off))
+
+  pub given-up : Keeps h r (givenUp h r k p d holds)
   unfolding givenUp
-  given-word = in-first process k p slot (λ e f. no-process k o e) (entered-in r k o p d 0 0 dl) given-in r
+  given-up = keeps-then h r (pagesCleared r k p d) (emptied h r k p d holds) (cleared .keeps) rest
 
-  pub given-held : over r (givenUp h r k p d given) (at process p (heldAt k d)) ≡ 0
-  given-held = given-word (heldAt k d) ∙ entered-held r k o p d 0 0 dl
+  given-in : AllOf (InRecord k (indexOf holds)) (cond (inOwnCell h p k holds) (oneLess r k (indexOf holds)) [])
+  given-in = all-if _ (inOwnCell h p k holds) _ _ (λ e. less-in r k o (indexOf holds)) (λ e. nil)
 
-  pub given-beside : (j : ℕ) → (j ≡ heldAt k d → ⊥) → (j ≡ usedAt k d → ⊥) → over r (givenUp h r k p d given) (at process p j) ≡ r (at process p j)
-  given-beside j n m = given-word j ∙ entered-beside r k o p d 0 0 dl j n m
+  -- of the process, the entry and its pages alone are written
+  given-word : (j : ℕ) → over r (givenUp h r k p d holds) (at process p j) ≡ over without (entered k p d 0 0) (at process p j)
+  unfolding givenUp emptied
+  given-word j = rw (over-append r (pagesCleared r k p d) (emptied h r k p d holds))
+      (in-first process k p (indexOf holds) (λ e f. no-process k o e) (entered-in without k o p d 0 0 dl) given-in without j)
+
+  pub given-held : over r (givenUp h r k p d holds) (at process p (heldAt k d)) ≡ 0
+  given-held = given-word (heldAt k d) ∙ entered-held without k o p d 0 0 dl
+
+  pub given-beside : (j : ℕ) → j < pagesAt → (j ≡ heldAt k d → ⊥) → (j ≡ usedAt k d → ⊥) → over r (givenUp h r k p d holds) (at process p j) ≡ r (at process p j)
+  given-beside j l n m = given-word j ∙ entered-beside without k o p d 0 0 dl j n m ∙ cleared .past j l
+
+  -- and its pages
+  pub given-page : (g : ℕ) → g < pages → over r (givenUp h r k p d holds) (at process p (pageAt g)) ≡ clearedPage r k p d g
+  given-page g l =
+      let y = placed k o d dl in
+      given-word (pageAt g) ∙ entered-beside without k o p d 0 0 dl (pageAt g) (λ e. omega arith) (λ e. omega arith) ∙ cleared .page g l
 
 -- a call that gives an entry up: its number is past the last, or the entry is empty
 pub gives-up : (h : List ℕ) (r : Addr → ℕ) (p : ℕ) → Caller h r p → (k : Kind) → Object k → (a x y : ℕ) → ltb 0 x && (ltb 0 y && true) ≡ true

@@ -18,7 +18,7 @@ use Rattle.kept.proofs.Records.{InRecord, word-in, apart-word, all-vali
 use Rattle.kept.proofs.Counting.{one, not-named}
 use Rattle.kept.proofs.Made.{placed}
 use Rattle.kept.proofs.Readings.{Steady, own-same}
-use Rattle.kept.proofs.OneEntry.{Fresh, entry-changed, EntryChanged, entry-grown}
+use Rattle.kept.proofs.OneEntry.{Fresh, Unmapped, entry-changed, EntryChanged, entry-grown}
 use Rattle.kept.proofs.Keeps.{Keeps}
 
 -- ---- an entry's two words
@@ -53,6 +53,7 @@ pub record Exchange (h : List ℕ) (r : Addr → ℕ) (k : Kind) (p d i s u : �
   pub grown-after : r (at k i serial) ≤ over r B (at k i serial)
   pub steady-after : 1 ≤ over r B (at k i (holders k)) → Steady h r (over r B) k i
   pub fresh : Fresh r k p d s
+  pub unmapped : Unmapped r k p d s
   pub entry-after : Entry h (over r B) k (cellOf h process p) s u
   pub old-index : (r (at process p (heldAt k d)) ≡ 0 → ⊥) → indexOf (r (at process p (heldAt k d))) ≡ i
   pub new-index : (s ≡ 0 → ⊥) → indexOf s ≡ i
@@ -80,6 +81,7 @@ module _ (h : List ℕ) (r : Addr → ℕ) (w : Fine h r) (k : Kind) (o : Object
         others = b .others;
         beside = λ j n m. b .in-process j ∙ entered-beside r k o p d s u dl j n m;
         fresh = rw held (x .fresh);
+        unmapped = rw held (x .unmapped);
         entry-ok = rw (held, used) (moved q b);
         own-object = own-same h (over r B) q k i (λ j l. b .in-object j) (x .own-after);
         serial-grown = rw (b .in-object serial) (x .grown-after);

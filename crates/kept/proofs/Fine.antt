@@ -2,14 +2,14 @@
 use mathlib.Core.Path.{_≡_, refl, sym, _∙_}
 use mathlib.Core.Bool.{Bool, true, false, not}
 use mathlib.Core.List.{List}
-use Prim.Native.Nat.{ℕ, _+_, _≤_, _<_}
+use Prim.Native.Nat.{ℕ, _+_, _-_, _≤_, _<_}
 use native.Mathlib.Omega.{arith}
 use native.Mathlib.Decide.{ℕ-discrete, decLt}
 use lib.Dec.{eqb}
 use borrow.Author.Tests.{eq-eqb, ne-eqb, lt-ltb, le-leb, eqb-true, eqb-false, ltb-true, leb-true}
 use Rattle.rules.specs.Claim.{Claim, Holds}
-use Rattle.rules.specs.Layout.{maxBits, maxLinks, Kind, process, segment, file, recordWords, slots, blocks, cellOf, Addr, at, live, parent, queue, zero6, zero7, entries, heldAt, usedAt, messages, messageWords, messageAt, bits, size, links, opens, holders}
-use Rattle.rules.specs.WellFormed.{recordOk, currentOk, entryOk, parentOk, heldOnce, messageOk, processOk, ownEntries, segmentSize, segmentOk, fileOk, recordsOk}
+use Rattle.rules.specs.Layout.{maxBits, maxLinks, Kind, process, segment, file, recordWords, slots, blocks, cellOf, Addr, at, live, parent, queue, zero6, zero7, entries, heldAt, usedAt, messages, messageWords, messageAt, pages, pageAt, bits, size, links, opens, holders}
+use Rattle.rules.specs.WellFormed.{recordOk, currentOk, entryOk, parentOk, heldOnce, messageOk, pageOk, processOk, ownEntries, segmentSize, segmentOk, fileOk, recordsOk}
 use Rattle.laws.proofs.Tests.{not-of, failed, passed}
 use Rattle.laws.proofs.Object.{Object}
 use Rattle.laws.proofs.Shape.{Record, Held, held-of, held-holds, Entry, LiveProcess, process-record, segment-record, file-record, descriptor, designator, references-counted, opens-counted}
@@ -33,6 +33,10 @@ pub record AliveObject (h : List ℕ) (r : Addr → ℕ) (k : Kind) (i : ℕ) : 
   pub particular : Particular h k (r (at k i links)) (r (at k i size))
   pub needed : linked k (r (at k i links)) ≡ false → 1 ≤ r (at k i (holders k))
 
+-- what a page may hold: nothing, or designator + 1 of a filled entry
+abbrev pub Paged : (Addr → ℕ) → ℕ → ℕ → Type 0
+Paged r p v = (v ≡ 0 → ⊥) → (v ≤ entries) × (r (at process p (heldAt segment (v - 1))) ≡ 0 → ⊥)
+
 pub record AliveProcess (h : List ℕ) (r : Addr → ℕ) (p : ℕ) : Type 0 where
   pub parent-ok : Holds (parentOk h (cellOf h process p) (r (at process p parent)))
   pub queue-fits : r (at process p queue) ≤ messages
@@ -41,6 +45,7 @@ pub record AliveProcess (h : List ℕ) (r : Addr → ℕ) (p : ℕ) : Type 0 whe
   pub once : (d e : ℕ) → d < entries → e < entries → (d ≡ e → ⊥) → (r (at process p (heldAt segment e)) ≡ 0 → ⊥)
       → r (at process p (heldAt segment d)) ≡ r (at process p (heldAt segment e)) → ⊥
   pub unused : (m j : ℕ) → m < messages → j < messageWords → r (at process p queue) ≤ m → r (at process p (messageAt m j)) ≡ 0
+  pub paged : (g : ℕ) → g < pages → Paged r p (r (at process p (pageAt g)))
 
 abbrev pub Alive : List ℕ → (Addr → ℕ) → Kind → ℕ → Type 0
 Alive h r process i = AliveProcess h r i
@@ -86,7 +91,7 @@ alive-map r k i A B f x = record {
 
 module _ (h : List ℕ) (r : Addr → ℕ) (w : Holds (recordsOk h r)) where
   process-alive : (p : ℕ) → LiveProcess h r p → AliveProcess h r p
-  unfolding heldOnce messageOk
+  unfolding heldOnce messageOk pageOk
   process-alive p x = record {
     parent-ok = x .parent-ok;
     queue-fits = x .queue-fits;
@@ -97,6 +102,7 @@ module _ (h : List ℕ) (r : Addr → ℕ) (w : Holds (recordsOk h r)) where
       | no l ↦ eqb-false _ _ (failed _ (x .once d dl e (omega arith) (not-of _ (ne-eqb _ 0 (λ z. some (sym same ∙ z)))))) (sym same)
     ];
     unused = λ m j ml jl full. x .message m ml .1 (le-leb _ m full) j jl;
+    paged = λ g l n. let y = x .page g l (not-of _ (ne-eqb _ 0 n)) in (y .0, eqb-false _ 0 (failed _ (y .1)));
   }
 
   own-of : (k : Kind) (i : ℕ) → i < slots h k → Own h r k i
@@ -152,7 +158,7 @@ entry-holds h r k c s u x = (
 
 module _ (h : List ℕ) (r : Addr → ℕ) (w : Fine h r) where
   process-holds : (p : ℕ) → p < slots h process → Holds (processOk h r p)
-  unfolding processOk heldOnce messageOk
+  unfolding processOk heldOnce messageOk pageOk
   process-holds p l = record-holds r process p _ _ (omega arith) (λ a. (
     a .parent-ok,
     (
@@ -167,7 +173,10 @@ module _ (h : List ℕ) (r : Addr → ℕ) (w : Fine h r) where
               λ d m. entry-holds h r segment _ _ _ (w .entry segment tt p d l m),
               (
                 λ e el d dl some. not-of _ (ne-eqb _ _ (a .once d e (omega arith) el (omega arith) (eqb-false _ 0 (failed _ some)))),
-                λ m ml. (λ q. held-holds h r process _ _ (w .sender p m l (ltb-true m _ q)), λ q j jl. a .unused m j ml jl (leb-true _ m q)),
+                (
+                  λ m ml. (λ q. held-holds h r process _ _ (w .sender p m l (ltb-true m _ q)), λ q j jl. a .unused m j ml jl (leb-true _ m q)),
+                  λ g gl n. let y = a .paged g gl (eqb-false _ 0 (failed _ n)) in (y .0, not-of _ (ne-eqb _ 0 (y .1))),
+                ),
               ),
             ),
           ),

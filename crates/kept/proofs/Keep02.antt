@@ -7,7 +7,7 @@ use native.Mathlib.Omega.{arith}
 use native.Mathlib.Nat.{not-suc-le-zero}
 use lib.Dec.{eqb}
 use borrow.Author.Tests.{eqb-true, eqb-false}
-use Rattle.rules.specs.Layout.{Kind, process, segment, file, slots, Addr, at, live, queue, entries, heldAt, usedAt}
+use Rattle.rules.specs.Layout.{Kind, process, segment, file, slots, Addr, at, live, queue, entries, heldAt, usedAt, pagesAt}
 use Rattle.rules.specs.Seid.{indexOf, orSelf}
 use Rattle.rules.specs.Rule.{Word, over}
 use Rattle.rules.specs.Find.{givenUp, freed}
@@ -22,24 +22,24 @@ use Rattle.kept.proofs.Keeps.{Keeps, KeptBy, Caller, keeps-none, keeps-
 use Rattle.kept.proofs.Found.{found}
 use Rattle.kept.proofs.Entries.{empty-entry, given-up, given-held, given-beside}
 
--- what giving up entries of kind k leaves of process q: those of the set D are empty, and no other word is touched
+-- what giving up entries of kind k leaves of process q: those of the set D are empty, and no other word is touched but pages
 record Dropped (h : List ℕ) (r : Addr → ℕ) (k : Kind) (q : ℕ) (D : ℕ → Type 0) (ws : List Word) : Type 0 where
   keeps : Keeps h r ws
   gone : (d : ℕ) → D d → over r ws (at process q (heldAt k d)) ≡ 0
-  beside : (j : ℕ) → ((d : ℕ) → D d → (j ≡ heldAt k d → ⊥) × (j ≡ usedAt k d → ⊥)) → over r ws (at process q j) ≡ r (at process q j)
+  beside : (j : ℕ) → j < pagesAt → ((d : ℕ) → D d → (j ≡ heldAt k d → ⊥) × (j ≡ usedAt k d → ⊥)) → over r ws (at process q j) ≡ r (at process q j)
 
 -- one entry
 module _ (h : List ℕ) (r : Addr → ℕ) (w : Fine h r) (k : Kind) (o : Object k) (q : ℕ) (ql : q < slots h process) (lives : r (at process q live) ≡ 1) (d : ℕ) (dl : d < entries) where
   drop-if : (b : Bool) → eqb (r (at process q (heldAt k d))) 0 ≡ b
       → Dropped h r k q (λ e. e ≡ d) (cond b [] (givenUp h r k q d (r (at process q (heldAt k d)))))
   unfolding over
-  drop-if true e = record { keeps = keeps-none h r w; gone = λ g gd. rw gd (eqb-true _ 0 e); beside = λ j n. refl }
+  drop-if true e = record { keeps = keeps-none h r w; gone = λ g gd. rw gd (eqb-true _ 0 e); beside = λ j l n. refl }
   drop-if false e =
       let some = eqb-false (r (at process q (heldAt k d))) 0 e in
       record {
         keeps = given-up h r w q ql lives k o d dl some;
         gone = λ g gd. rw gd (given-held h r w q ql lives k o d dl some);
-        beside = λ j n. given-beside h r w q ql lives k o d dl some j (n d refl .0) (n d refl .1);
+        beside = λ j l n. given-beside h r w q ql lives k o d dl some j l (n d refl .0) (n d refl .1);
       }
 
   drop : Dropped h r k q (λ e. e ≡ d) (dropped h r k q d)
@@ -53,21 +53,21 @@ module _ (h : List ℕ) (r : Addr → ℕ) (w : Fine h r) (k : Kind) (o : Object
   drop-more n ws vs l a b = record {
     keeps = keeps-then h r ws vs (a .keeps) (b .keeps);
     gone = λ d dl. rw (over-append r ws vs) (by-slot (λ d. d < suc n → over (over r ws) vs (at process q (heldAt k d)) ≡ 0) n (λ x. b .gone n refl)
-        (λ d ne x. b .beside (heldAt k d) (λ e en. let y = placed k o d (omega arith) in let z = placed k o e (omega arith) in (
+        (λ d ne x. b .beside (heldAt k d) (let y = placed k o d (omega arith) in omega arith) (λ e en. let y = placed k o d (omega arith) in let z = placed k o e (omega arith) in (
           λ f. place-apart k k o o d e (omega arith) (omega arith) (λ h g. ne (g ∙ en)) (omega arith),
           λ f. omega arith,
         )) ∙ a .gone d (omega arith)) d dl);
-    beside = λ j f. rw (over-append r ws vs) (b .beside j (λ d e. f d (omega arith)) ∙ a .beside j (λ d e. f d (omega arith)));
+    beside = λ j l f. rw (over-append r ws vs) (b .beside j l (λ d e. f d (omega arith)) ∙ a .beside j l (λ d e. f d (omega arith)));
   }
 
   drop-to : (n : ℕ) → n ≤ entries → Dropped h r k q (λ d. d < n) (droppedTo h r k q n)
   unfolding droppedTo over
-  drop-to zero l = record { keeps = keeps-none h r w; gone = λ d x. absurd (not-suc-le-zero x); beside = λ j f. refl }
+  drop-to zero l = record { keeps = keeps-none h r w; gone = λ d x. absurd (not-suc-le-zero x); beside = λ j l f. refl }
   drop-to (suc n) l =
       let a = drop-to n (omega arith) in
       let ws : List Word = droppedTo h r k q n in
       let stays : over r ws (at process q live) ≡ r (at process q live) =
-      a .beside live (λ d dl. let x = placed k o d (omega arith) in (λ e. omega arith, λ e. omega arith)) in
+      a .beside live (omega arith) (λ d dl. let x = placed k o d (omega arith) in (λ e. omega arith, λ e. omega arith)) in
       drop-more n ws (dropped h (over r ws) k q n) l a (drop h (over r ws) (a .keeps .fine) k o q ql (stays ∙ lives) n l)
 
 -- a process that holds nothing is cleared
@@ -92,7 +92,7 @@ none : (h : List ℕ) (r : Addr → ℕ) (q : ℕ) {files : List Word} (segments
     → Dropped h (over r files) segment q (λ d. d < entries) segments → (k : Kind) → Object k → (d : ℕ) → d < entries → over (over r files) segments (at process q (heldAt k d)) ≡ 0
 none h r q segments a b process o d l = absurd o
 none h r q segments a b segment o d l = b .gone d l
-none h r q segments a b file o d l = b .beside (heldAt file d) (λ e el. (λ f. omega arith, λ f. omega arith)) ∙ a .gone d l
+none h r q segments a b file o d l = b .beside (heldAt file d) (omega arith) (λ e el. (λ f. omega arith, λ f. omega arith)) ∙ a .gone d l
 
 release : (h : List ℕ) (r : Addr → ℕ) → Fine h r → (q : ℕ) → q < slots h process → r (at process q live) ≡ 1 → Keeps h r (released h r q)
 unfolding released
@@ -100,7 +100,7 @@ release h r w q ql lives =
     let files : List Word = droppedTo h r file q entries in
     let a = drop-to h r w file tt q ql lives entries (omega arith) in
     let r′ : Addr → ℕ = over r files in
-    let stays : r′ (at process q live) ≡ r (at process q live) = a .beside live (λ d dl. (λ e. omega arith, λ e. omega arith)) in
+    let stays : r′ (at process q live) ≡ r (at process q live) = a .beside live (omega arith) (λ d dl. (λ e. omega arith, λ e. omega arith)) in
     let b = drop-to h r′ (a .keeps .fine) segment tt q ql (stays ∙ lives) entries (omega arith) in
     let segments : List Word = droppedTo h r′ segment q entries in
     keeps-then h r files (segments ++ freed process q) (a .keeps) (keeps-then h r′ segments (freed process q) (b .keeps)

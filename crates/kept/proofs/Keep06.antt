@@ -5,7 +5,7 @@ use mathlib.Core.List.{List, [], _∷_}
 use Prim.Native.Nat.{ℕ, _<_}
 use native.Mathlib.Omega.{arith}
 use borrow.Author.Tests.{leb-false, eqb-false}
-use Rattle.rules.specs.Layout.{Kind, process, segment, file, cellOf, Addr, at, serial, queue, entries, heldAt, usedAt, messageAt}
+use Rattle.rules.specs.Layout.{Kind, process, segment, file, cellOf, Addr, at, serial, queue, entries, heldAt, usedAt, messageAt, pageAt}
 use Rattle.rules.specs.Rights.{asksWrite}
 use Rattle.rules.specs.Rule.{over, _≔_}
 use Rattle.rules.specs.WellFormed.{validUse, writeUse}
@@ -18,7 +18,7 @@ use Rattle.laws.proofs.Object.{Object}
 use Rattle.laws.proofs.Refusals.{clear}
 use Rattle.kept.proofs.Records.{word-in, word-at, word-past, elsewhere, by-slot}
 use Rattle.kept.proofs.Made.{placed}
-use Rattle.kept.proofs.Readings.{live-process}
+use Rattle.kept.proofs.Readings.{paged-same, live-process}
 use Rattle.kept.proofs.Keeps.{Keeps, KeptBy, Caller, keeps-process}
 use Rattle.kept.proofs.Found.{in-own}
 
@@ -57,7 +57,8 @@ module _ (h : List ℕ) (r : Addr → ℕ) (p : ℕ) (me : Caller h r p) (a b : 
         others = elsewhere process p in-it r;
         own-process = live-process h r _ p (me .alive) mine (λ j l n. past j (λ e. omega arith)) (rw e5 (x .queue-fits))
             (λ d e dl el. rw (held segment tt d dl, held segment tt e el) (x .once d e dl el))
-            (λ m j ml jl full. past (messageAt m j) (λ e. omega arith) ∙ x .unused m j ml jl (rw e5 at full));
+            (λ m j ml jl full. past (messageAt m j) (λ e. omega arith) ∙ x .unused m j ml jl (rw e5 at full))
+            (λ g l. rw (past (pageAt g) (λ e. omega arith)) (paged-same h r (over r ((at process p (usedAt segment a) ≔ b) ∷ [])) p _ (held segment tt) (x .paged g l)));
         serial-grown = rw (past serial (λ e. omega arith)) (omega arith);
         same-held = held;
         entry-ok = entry;

@@ -77,7 +77,7 @@ module _ (h : List ℕ) (r : Addr → ℕ) (p : ℕ) (me : Caller h r p) (q n : 
   mine = seidAt r process p
 
   queues : Keeps h r (queued (seidAt r process p) q buffer n)
-  queues = keeps-mail h r (me .fine) q ql lives (queued-in mine q n buffer nl) (λ j l x. queued-past mine q n buffer r j x (λ a b. omega arith))
+  queues = keeps-mail h r (me .fine) q ql lives (queued-in mine q n buffer nl) (λ j l x. queued-past mine q n buffer r j x (λ a b. l (omega arith) (omega arith)))
       (rw (queued-length mine q n buffer r) (omega arith))
       (λ m j ml jl full. let full′ : n + 1 ≤ m = rw (queued-length mine q n buffer r) at full in
       queued-past mine q n buffer r (messageAt m j) (λ e. omega arith) (λ a b. omega arith) ∙ me .fine .own process q ql .alive lives .unused m j ml jl (omega arith))

@@ -7,7 +7,7 @@ use native.Mathlib.Omega.{arith}
 use native.Mathlib.Decide.{ℕ-discrete}
 use borrow.Author.Tests.{eqb-false}
 use Rattle.rules.specs.Words.{tabFrom}
-use Rattle.rules.specs.Layout.{process, recordWords, Addr, at, queue, messages, messageWords, messagesAt, messageAt}
+use Rattle.rules.specs.Layout.{process, recordWords, Addr, at, queue, messages, messageWords, messagesAt, messageAt, pagesAt}
 use Rattle.rules.specs.Rule.{Word, over, _≔_, sameAddr}
 use Rattle.rules.specs.Find.{zeros}
 use Rattle.rules.specs.Call16.{receive, movedUp}
@@ -43,7 +43,7 @@ module _ (r : Addr → ℕ) (p : ℕ) where
   word j = ap (λ (f : Addr → ℕ). f (at process p j)) (over-append shortened moved (zeros process p (messageAt (messages - 1) 0) messageWords))
 
   -- the last message
-  cleared : (j : ℕ) → messageAt (messages - 1) 0 ≤ j → j < recordWords process → over r taken (at process p j) ≡ 0
+  cleared : (j : ℕ) → messageAt (messages - 1) 0 ≤ j → j < messageAt messages 0 → over r taken (at process p j) ≡ 0
   unfolding zeros
   cleared j a b = word j ∙ tab-at process p (λ w. 0) (messageAt (messages - 1) 0) messageWords (over shortened moved) j a (omega arith)
 
@@ -56,17 +56,20 @@ module _ (r : Addr → ℕ) (p : ℕ) where
   unfolding moved
   moves j a b = before j b ∙ tab-at process p (λ k. r (at process p (k + messageWords))) messagesAt (messageWords * (messages - 1)) shortened j a (omega arith)
 
-  low : (j : ℕ) → j < messagesAt → over r taken (at process p j) ≡ shortened (at process p j)
-  unfolding moved
-  low j a = before j (omega arith) ∙ tab-past process p (λ k. r (at process p (k + messageWords))) messagesAt (messageWords * (messages - 1)) shortened j (λ x y. omega arith)
+  -- a word that is no message's
+  apart : (j : ℕ) → (messagesAt ≤ j → j < pagesAt → ⊥) → over r taken (at process p j) ≡ shortened (at process p j)
+  unfolding zeros moved
+  apart j n =
+      word j ∙ tab-past process p (λ w. 0) (messageAt (messages - 1) 0) messageWords (over shortened moved) j (λ x y. n (omega arith) (omega arith))
+      ∙ tab-past process p (λ k. r (at process p (k + messageWords))) messagesAt (messageWords * (messages - 1)) shortened j (λ x y. n (omega arith) (omega arith))
 
   pub taken-length : over r taken (at process p queue) ≡ n - 1
   unfolding shortened
-  taken-length = low queue (omega arith) ∙ hit (at process p queue) (at process p queue) (n - 1) n refl
+  taken-length = apart queue (λ x y. omega arith) ∙ hit (at process p queue) (at process p queue) (n - 1) n refl
 
-  pub taken-past : (j : ℕ) → j < messagesAt → (j ≡ queue → ⊥) → over r taken (at process p j) ≡ r (at process p j)
+  pub taken-past : (j : ℕ) → (messagesAt ≤ j → j < pagesAt → ⊥) → (j ≡ queue → ⊥) → over r taken (at process p j) ≡ r (at process p j)
   unfolding shortened
-  taken-past j l x = low j l ∙ miss (at process p j) (at process p queue) (n - 1) (r (at process p j)) (apart-word process p j queue x)
+  taken-past j l x = apart j l ∙ miss (at process p j) (at process p queue) (n - 1) (r (at process p j)) (apart-word process p j queue x)
 
   -- message m is the one that stood after it
   pub taken-later : (m j : ℕ) → m + 1 < messages → j < messageWords → over r taken (at process p (messageAt m j)) ≡ r (at process p (messageAt (m + 1) j))

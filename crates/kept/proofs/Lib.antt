@@ -11,6 +11,7 @@ pub mod Keeps
 pub mod Exchange
 pub mod Found
 pub mod Objects
+pub mod Pages
 pub mod Entries
 pub mod Created
 pub mod Begun
@@ -30,6 +31,7 @@ pub mod Keep12
 pub mod Keep14
 pub mod Keep15
 pub mod Keep16
+pub mod Keep19
 pub mod Calls
 pub mod Stepped
 pub mod Kept

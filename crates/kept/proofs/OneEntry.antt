@@ -2,19 +2,19 @@
 use mathlib.Core.Path.{_≡_, refl, sym, ap, _∙_}
 use mathlib.Core.Bool.{false}
 use mathlib.Core.List.{List}
-use Prim.Native.Nat.{ℕ, _+_, _≤_, _<_}
+use Prim.Native.Nat.{ℕ, _+_, _-_, _≤_, _<_}
 use native.Mathlib.Omega.{arith}
 use native.Mathlib.Decide.{ℕ-discrete}
-use Rattle.rules.specs.Layout.{Kind, process, segment, file, slots, Addr, at, live, serial, queue, entries, heldAt, usedAt, messagesAt, messageAt, holders}
+use Rattle.rules.specs.Layout.{Kind, process, segment, file, slots, Addr, at, live, serial, queue, entries, heldAt, usedAt, messagesAt, messageAt, pages, pageAt, holders}
 use Rattle.rules.specs.Seid.{class, indexOf}
 use Rattle.rules.specs.WellFormed.{ownEntry, ownEntries}
 use Rattle.laws.proofs.Seids.{is-formed}
 use Rattle.laws.proofs.Object.{Object, no-process}
-use Rattle.kept.proofs.Fine.{AliveProcess, Own, EntryAt, Fine}
+use Rattle.kept.proofs.Fine.{Paged, AliveProcess, Own, EntryAt, Fine}
 use Rattle.kept.proofs.Records.{by-kind, by-slot, by-record}
 use Rattle.kept.proofs.Counting.{one, named-is, named-counted, count-all, count-entry}
 use Rattle.kept.proofs.Made.{place, placed, place-apart}
-use Rattle.kept.proofs.Readings.{own-same, live-process, Grown, Steady, held-kept, entry-kept, same-steady}
+use Rattle.kept.proofs.Readings.{paged-same, own-same, live-process, Grown, Steady, held-kept, entry-kept, same-steady}
 
 -- a segment s entered at d anew is held by no other entry of process p
 abbrev pub Fresh : (Addr → ℕ) → Kind → ℕ → ℕ → ℕ → Type 0
@@ -22,11 +22,23 @@ Fresh r process p d s = Unit {0}
 Fresh r file p d s = Unit {0}
 Fresh r segment p d s = (e : ℕ) → e < entries → (e ≡ d → ⊥) → (s ≡ 0 → ⊥) → r (at process p (heldAt segment e)) ≡ s → ⊥
 
+-- a designator whose entry is emptied is on no page
+abbrev pub Unmapped : (Addr → ℕ) → Kind → ℕ → ℕ → ℕ → Type 0
+Unmapped r process p d s = Unit {0}
+Unmapped r file p d s = Unit {0}
+Unmapped r segment p d s = s ≡ 0 → (g : ℕ) → g < pages → r (at process p (pageAt g)) ≡ d + 1 → ⊥
+
+pub still-filled : (r : Addr → ℕ) (k : Kind) (p d s : ℕ) → (s ≡ 0 → ⊥) → Unmapped r k p d s
+still-filled r process p d s n = tt
+still-filled r file p d s n = tt
+still-filled r segment p d s n = λ z. absurd (n z)
+
 module _ (h : List ℕ) (r q : Addr → ℕ) where
   pub record EntryChanged (k : Kind) (p d i : ℕ) : Type 0 where
     pub others : (l : Kind) (m j : ℕ) → (l ≡ process → m ≡ p → ⊥) → (l ≡ k → m ≡ i → ⊥) → q (at l m j) ≡ r (at l m j)
     pub beside : (j : ℕ) → (j ≡ heldAt k d → ⊥) → (j ≡ usedAt k d → ⊥) → q (at process p j) ≡ r (at process p j)
     pub fresh : Fresh r k p d (q (at process p (heldAt k d)))
+    pub unmapped : Unmapped r k p d (q (at process p (heldAt k d)))
     pub entry-ok : EntryAt h q k p d
     pub own-object : Own h q k i
     pub serial-grown : r (at k i serial) ≤ q (at k i serial)
@@ -119,6 +131,21 @@ module _ (h : List ℕ) (r q : Addr → ℕ) where
       ]
     ]
 
+    paged-now : (k : Kind) → Object k → Unmapped r k p d (q (at process p (heldAt k d)))
+        → ((l : Kind) → Object l → (e : ℕ) → e < entries → (l ≡ k → e ≡ d → ⊥) → q (at process p (heldAt l e)) ≡ r (at process p (heldAt l e)))
+        → (g : ℕ) → g < pages → Paged r p (r (at process p (pageAt g))) → Paged q p (r (at process p (pageAt g)))
+    paged-now process s off same g gl y = absurd s
+    paged-now file s off same g gl y = paged-same h r q p _ (λ e el. same segment tt e el (λ z. absurd (omega (arith, ap class z)))) y
+    paged-now segment s off same g gl y = λ n.
+        let v = y n in
+        let e : ℕ = r (at process p (pageAt g)) - 1 in (
+          v .0,
+          λ z. elim (ℕ-discrete e d) [
+            | yes ed ↦ off (rw ed at z) g gl (omega arith)
+            | no nd ↦ v .1 (sym (same segment tt e (omega (arith, v .0)) (λ a. nd)) ∙ z)
+          ],
+        )
+
     process-now : Own h q process p
     process-now =
         let own = w .own process p pl in
@@ -127,6 +154,7 @@ module _ (h : List ℕ) (r q : Addr → ℕ) where
         live-process h r q p alive own (λ j l n. outside p j (λ a b. omega arith)) (rw e5 (a .queue-fits))
         (once-now k o (x .fresh) (λ l s e el n. entry-words l s p e el (λ lk gp ed. n lk ed) .0) a)
         (λ m j ml jl full. outside p (messageAt m j) (λ a b. omega arith) ∙ a .unused m j ml jl (rw e5 at full))
+        (λ g gl. rw (outside p (pageAt g) (λ a b. omega arith)) (paged-now k o (x .unmapped) (λ l s e el n. entry-words l s p e el (λ lk gp ed. n lk ed) .0) g gl (a .paged g gl)))
 
     pub entry-changed : Fine h q
     entry-changed = record {

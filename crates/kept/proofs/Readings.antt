@@ -1,15 +1,15 @@
 -- Two readings r and q, r a fine one: what stays, where what it speaks of does not change.
 use mathlib.Core.Path.{_≡_, sym, _∙_}
 use mathlib.Core.List.{List}
-use Prim.Native.Nat.{ℕ, _≤_, _<_}
+use Prim.Native.Nat.{ℕ, _-_, _≤_, _<_}
 use native.Mathlib.Omega.{arith}
 use native.Mathlib.Decide.{ℕ-discrete}
-use Rattle.rules.specs.Layout.{Kind, process, segment, file, recordWords, slots, cellOf, Addr, at, Valid, live, serial, owner, group, parent, queue, zero6, zero7, entries, heldAt, usedAt, messages, messageWords, messageAt, bits, size, links, holders}
+use Rattle.rules.specs.Layout.{Kind, process, segment, file, recordWords, slots, cellOf, Addr, at, Valid, live, serial, owner, group, parent, queue, zero6, zero7, entries, heldAt, usedAt, messages, messageWords, messageAt, pages, pageAt, bits, size, links, holders}
 use Rattle.rules.specs.Seid.{indexOf}
 use Rattle.laws.proofs.Seids.{is-formed}
 use Rattle.laws.proofs.Shape.{Held, Entry}
 use Rattle.laws.proofs.Object.{Object}
-use Rattle.kept.proofs.Fine.{AliveObject, AliveProcess, Alive, Own, Fine}
+use Rattle.kept.proofs.Fine.{AliveObject, Paged, AliveProcess, Alive, Own, Fine}
 use Rattle.kept.proofs.Records.{words-some}
 use Rattle.kept.proofs.Counting.{count-all}
 use Rattle.kept.proofs.Made.{placed, object-words, live-record}
@@ -26,6 +26,13 @@ module _ (h : List ℕ) (r q : Addr → ℕ) where
       let e7 = same (holders k) (omega arith) in
       record { bits-fit = rw e4 (x .bits-fit); particular = rw (e5, e6) (x .particular); needed = rw (e5, e7) (x .needed) }
 
+  -- what a page holds, while the entries that are filled stay so
+  pub paged-kept : (p v : ℕ) → ((d : ℕ) → d < entries → (r (at process p (heldAt segment d)) ≡ 0 → ⊥) → q (at process p (heldAt segment d)) ≡ 0 → ⊥) → Paged r p v → Paged q p v
+  paged-kept p v filled x n = let y = x n in (y .0, filled (v - 1) (omega (arith, y .0)) (y .1))
+
+  pub paged-same : (p v : ℕ) → ((d : ℕ) → d < entries → q (at process p (heldAt segment d)) ≡ r (at process p (heldAt segment d))) → Paged r p v → Paged q p v
+  paged-same p v same = paged-kept p v (λ d l some z. some (sym (same d l) ∙ z))
+
   process-same : (p : ℕ) → ((j : ℕ) → j < recordWords process → q (at process p j) ≡ r (at process p j)) → AliveProcess h r p → AliveProcess h q p
   process-same p same x = record {
     parent-ok = rw (same parent (omega arith)) (x .parent-ok);
@@ -34,6 +41,7 @@ module _ (h : List ℕ) (r q : Addr → ℕ) where
     zero-seven = same zero7 (omega arith) ∙ x .zero-seven;
     once = λ d e dl el. rw (same (heldAt segment d) (omega arith), same (heldAt segment e) (omega arith)) (x .once d e dl el);
     unused = λ m j ml jl f. same (messageAt m j) (omega arith) ∙ x .unused m j ml jl (rw (same queue (omega arith)) at f);
+    paged = λ g l. rw (same (pageAt g) (omega arith)) (paged-same p _ (λ d dl. same (heldAt segment d) (omega arith)) (x .paged g l));
   }
 
   alive-same : (k : Kind) (i : ℕ) → ((j : ℕ) → j < recordWords k → q (at k i j) ≡ r (at k i j)) → Alive h r k i → Alive h q k i
@@ -61,8 +69,9 @@ module _ (h : List ℕ) (r q : Addr → ℕ) where
       → ((j : ℕ) → j < 8 → (j ≡ queue → ⊥) → q (at process p j) ≡ r (at process p j)) → q (at process p queue) ≤ messages
       → ((d e : ℕ) → d < entries → e < entries → (d ≡ e → ⊥) → (q (at process p (heldAt segment e)) ≡ 0 → ⊥)
       → q (at process p (heldAt segment d)) ≡ q (at process p (heldAt segment e)) → ⊥)
-      → ((m j : ℕ) → m < messages → j < messageWords → q (at process p queue) ≤ m → q (at process p (messageAt m j)) ≡ 0) → Own h q process p
-  live-process p lives own head queue-fits once unused =
+      → ((m j : ℕ) → m < messages → j < messageWords → q (at process p queue) ≤ m → q (at process p (messageAt m j)) ≡ 0)
+      → ((g : ℕ) → g < pages → Paged q p (q (at process p (pageAt g)))) → Own h q process p
+  live-process p lives own head queue-fits once unused paged =
       let a = own .alive lives in
       let e1 = head serial (omega arith) (λ e. omega arith) in
       live-record q process p _ (head live (omega arith) (λ e. omega arith) ∙ lives) (rw e1 (own .serial-some lives)) (rw e1 (own .serial-fits))
@@ -74,6 +83,7 @@ module _ (h : List ℕ) (r q : Addr → ℕ) where
         zero-seven = head zero7 (omega arith) (λ e. omega arith) ∙ a .zero-seven;
         once = once;
         unused = unused;
+        paged = paged;
       })
 
   -- ---- identifiers held

@@ -27,6 +27,8 @@ use Rattle.rules.specs.Call15.{post}
 use Rattle.rules.specs.Call16.{receive}
 use Rattle.rules.specs.Call17.{status, statusOf}
 use Rattle.rules.specs.Call18.{accessOf}
+use Rattle.rules.specs.Call19.{remap}
+use Rattle.rules.specs.Call20.{pageAccess}
 use Rattle.rules.specs.Step.{Call, ruleOf}
 use Rattle.laws.proofs.Tests.{split, cond-both}
 use Rattle.laws.proofs.Object.{Object}
@@ -50,6 +52,8 @@ pub record Each (h : List ℕ) (k : Call) (P : ((Addr → ℕ) → List ℕ → 
   pub call-16 : k .code ≡ 16 → P (λ r st. receive h r (k .caller) (k .buffer))
   pub call-17 : k .code ≡ 17 → P (λ r st. status h r (k .caller) (k .a) (k .buffer))
   pub call-18 : k .code ≡ 18 → P (λ r st. accessOf h r (k .caller) (k .a) (k .buffer))
+  pub call-19 : k .code ≡ 19 → P (λ r st. remap h r (k .caller) (k .a) (k .b) (k .c) (k .buffer))
+  pub call-20 : k .code ≡ 20 → P (λ r st. pageAccess h r (k .caller) (k .a) (k .buffer))
   -- a code that is no call's
   pub other : P (λ r st. rule [] (effect 0 0 (k .buffer) [] []))
 
@@ -59,7 +63,7 @@ module _ (h : List ℕ) (k : Call) (P : ((Addr → ℕ) → List ℕ → Rule) �
   by-code x =
       or 1 (x .call-1) (or 2 (x .call-2) (or 3 (x .call-3) (or 4 (x .call-4) (or 5 (x .call-5) (or 6 (x .call-6) (or 7 (x .call-7) (or 8 (x .call-8)
       (or 9 (x .call-9) (or 10 (x .call-10) (or 11 (x .call-11) (or 12 (x .call-12) (or 13 (x .call-13) (or 14 (x .call-14) (or 15 (x .call-15) (or 16 (x .call-16)
-      (or 17 (x .call-17) (or 18 (x .call-18) (x .other))))))))))))))))))
+      (or 17 (x .call-17) (or 18 (x .call-18) (or 19 (x .call-19) (or 20 (x .call-20) (x .other))))))))))))))))))))
     where
       or : {f g : (Addr → ℕ) → List ℕ → Rule} (n : ℕ) → (k .code ≡ n → P f) → P g → P (λ r st. cond (eqb (k .code) n) (f r st) (g r st))
       or {f} {g} n p q = split _ (eqb (k .code) n) (λ e. rw e (p (eqb-true (k .code) n e))) (λ e. rw e q)

@@ -13,7 +13,7 @@ use Rattle.rules.specs.Layout.{maxSerial, Kind, process, file, cells, slots, bl
 use Rattle.rules.specs.Seid.{class, seid, classOf, indexOf, serialOf, isSeid, formed, seidAt, orSelf, present}
 use Rattle.rules.specs.Modes.{validModes, reads, writes}
 use Rattle.rules.specs.Rights.{rights, mayRead, mayWrite, access}
-use Rattle.rules.specs.WellFormed.{headerOk, cellOk, levelsDistinct, sumsMatch, configured, lengthsExact, recordOk, heldOk, currentOk, entryOk, parentOk, heldOnce, messageOk, processOk, ownEntry, ownEntries, segmentSize, segmentOk, fileOk, recordsOk, wellFormed}
+use Rattle.rules.specs.WellFormed.{headerOk, cellOk, levelsDistinct, sumsMatch, configured, lengthsExact, recordOk, heldOk, currentOk, entryOk, parentOk, heldOnce, messageOk, pageOk, processOk, ownEntry, ownEntries, segmentSize, segmentOk, fileOk, recordsOk, wellFormed}
 use Rattle.rules.specs.Errors.{XOK}
 use Rattle.rules.specs.Rule.{_≔_, write, store}
 use Rattle.rules.specs.Find.{inOwnCell, freeSlot, freeEntry}
@@ -61,7 +61,7 @@ two-slots = (1 ∷ 1 ∷ 0 ∷ 2 ∷ 1 ∷ 0 ∷ 0 ∷ 0 ∷ []) ++ (0 ∷ 0 ∷
 
 abbrev pub first-worn : State
 first-worn = record {
-  table = write two-slots (setUpTable (two-slots ++ replicate 120 0) 1024) ((at file 0 serial ≔ maxSerial) ∷ []);
+  table = write two-slots (setUpTable (two-slots ++ replicate 128 0) 1024) ((at file 0 serial ≔ maxSerial) ∷ []);
   store = replicate 1024 0;
 }
 
@@ -72,7 +72,7 @@ creation = record { caller = 0; code = 7; a = 420; b = 3; c = 0; buffer = [] }
 -- the second slot is taken, and the first stays as it is
 second-taken : (step first-worn creation .answered ≡ answer XOK (seid (class file) 1 1) 0)
     × (rd two-slots (next first-worn creation .table) (at file 0 live) ≡ 0) × (rd two-slots (next first-worn creation .table) (at file 0 serial) ≡ maxSerial)
-unfolding allBelow someBelow sumBelow countBelow lowest orRather least tabFrom part word4 within equals flowsTo cells slots blocks cellWord levelOf configuration firstSlot cellOf flows rd seid classOf indexOf serialOf isSeid seidAt orSelf present validModes reads writes headerOk cellOk levelsDistinct sumsMatch configured lengthsExact recordOk heldOk currentOk entryOk parentOk heldOnce messageOk processOk ownEntry ownEntries segmentSize segmentOk fileOk recordsOk wellFormed freeSlot freeEntry create canSetUp firstProcesses freshTable setUpTable ruleOf badCaller badCode carriedOut wholeRule step
+unfolding allBelow someBelow sumBelow countBelow lowest orRather least tabFrom part word4 within equals flowsTo cells slots blocks cellWord levelOf configuration firstSlot cellOf flows rd seid classOf indexOf serialOf isSeid seidAt orSelf present validModes reads writes headerOk cellOk levelsDistinct sumsMatch configured lengthsExact recordOk heldOk currentOk entryOk parentOk heldOnce messageOk pageOk processOk ownEntry ownEntries segmentSize segmentOk fileOk recordsOk wellFormed freeSlot freeEntry create canSetUp firstProcesses freshTable setUpTable ruleOf badCaller badCode carriedOut wholeRule step
 second-taken = (refl, refl, refl)
 
 -- ---- a post up

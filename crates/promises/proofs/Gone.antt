@@ -26,8 +26,9 @@ use Rattle.kept.proofs.Keeps.{Caller}
 use Rattle.kept.proofs.Kept.{Well, kept, conf-kept, serials-kept, run-kept, run-conf-kept, run-serials-kept}
 use Rattle.promises.proofs.Refusals.{Untouched, own, own-clear, refused}
 use Rattle.promises.proofs.After.{its-caller, read-after}
-use Rattle.promises.proofs.Stale.{takesSeid, for-itself, given, usesEntry, entryHolds, givesUpEntry, stale-seid, stale-post, stale-entry, stale-given-up, GivenUp}
-use Rattle.promises.proofs.Writes.{EntryWord, MailWord, Makes, Wrote, made, filled, emptied, counted, freed-word, cleared, linked, sized, set-bits, posted, received, writes}
+use Rattle.promises.proofs.Stale.{takesSeid, for-itself, given, usesEntry, entryHolds, pageHolds, givesUpEntry, stale-seid, stale-post, stale-entry, stale-page, stale-given-up, GivenUp}
+use Rattle.promises.proofs.Map.{PagesAlone, pages-alone}
+use Rattle.promises.proofs.Writes.{EntryWord, MailWord, Makes, Wrote, made, filled, emptied, paged, counted, freed-word, cleared, linked, sized, set-bits, posted, received, writes}
 use Rattle.promises.proofs.Single.{creates, by-rule}
 
 -- ---- writes that bring nothing to life
@@ -72,6 +73,7 @@ module _ (h : List ℕ) (r : Addr → ℕ) (st : List ℕ) (k : Call) where
   lifeless f x (made {j} m l room s) e = both-ways (creates (k .code)) (makes-creates j (k .code) m) f
   lifeless f x (filled j {n} y w) e = absurd (entry-past j n w e)
   lifeless f x (emptied j y w) e = refl
+  lifeless f x (paged {n = n} y l) e = let z : n ≡ live = e in absurd (omega arith)
   lifeless f x (counted {j} o) e = absurd (holders-past j e)
   lifeless f x (freed-word o y) e = refl
   lifeless f x (cleared c y) e = refl
@@ -171,8 +173,12 @@ pub record NeverReached (s : State) (j : Kind) (v : ℕ) : Type 0 where
   -- a call that takes a seid and is given this one is refused, and so changes nothing; a post to it changes nothing
   pub by-seid : (k : Call) → k .a ≡ v → takesSeid (k .code) ≡ true → (step s k .answered .error ≡ XOK → ⊥) × Untouched s k (step s k)
   pub by-post : (k : Call) → k .a ≡ v → k .code ≡ 15 → Untouched s k (step s k)
-  -- the use of an entry that holds it is refused
-  pub by-entry : (k : Call) → entryHolds s k j ≡ v → usesEntry j (k .code) ≡ true → (step s k .answered .error ≡ XOK → ⊥) × Untouched s k (step s k)
+  -- the use of an entry that holds it is refused (of an incoming designator 16 is none); so is the use of a page whose designator holds it
+  pub by-entry : (k : Call) → entryHolds s k j ≡ v → usesEntry j (k .code) ≡ true → (k .code ≡ 19 → k .a < entries)
+      → (step s k .answered .error ≡ XOK → ⊥) × Untouched s k (step s k)
+  pub by-page : (k : Call) → j ≡ segment → pageHolds s k ≡ v → k .code ≡ 20 → (step s k .answered .error ≡ XOK → ⊥) × Untouched s k (step s k)
+  -- going out, a designator that holds it changes nothing but its caller's pages
+  pub goes-out : (k : Call) → k .code ≡ 19 → PagesAlone s k
   -- that entry can be given up, and no other word of the table changes (by a release of its process: `Released`)
   pub given-up : (k : Call) → Object j → k .caller < slots (configuration (s .table)) process
       → rd (configuration (s .table)) (s .table) (at process (k .caller) live) ≡ 1 → k .a < entries → entryHolds s k j ≡ v → k .code ≡ givesUpEntry j → GivenUp s k j
@@ -199,7 +205,9 @@ unreached s j v g =
       by-post = λ k e c. split _ (formed h process v)
           (λ y. stale-post s k c (rw (itself k e) (as-any process y)) .1)
           (λ n. refused s k (λ ok. both-ways (formed h process v) (rw (itself k e) at (to-form s k c ok)) n));
-      by-entry = λ k e u. refuses k (stale-entry s k j u (rw e (g .absent)));
+      by-entry = λ k e u known. refuses k (stale-entry s k j u known (rw e (g .absent)));
+      by-page = λ k is e c. refuses k (stale-page s k c (rw (e, ← is) (g .absent)));
+      goes-out = λ k c. pages-alone s k (g .well) c;
       given-up = λ k o l alive known e c. stale-given-up s k j o (g .well) l alive c known (λ z. some (sym e ∙ z)) (rw e (g .absent));
     }
 

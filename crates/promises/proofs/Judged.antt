@@ -7,11 +7,11 @@ use lib.ListN.{set, replicate}
 use Rattle.rules.specs.Words.{allBelow, sumBelow, countBelow, lowest}
 use Rattle.rules.specs.Claim.{test}
 use Rattle.rules.specs.Level.{within, equals, flowsTo}
-use Rattle.rules.specs.Layout.{headerWords, cellWords, process, segment, file, cells, slots, blocks, cellWord, levelOf, configuration, firstSlot, cellOf, flows, Addr, at, rd, live, serial, owner, group, parent, queue, heldAt, usedAt, messageAt, bits, sharable, size, references, opens}
+use Rattle.rules.specs.Layout.{headerWords, cellWords, process, segment, file, recordWords, cells, slots, blocks, cellWord, levelOf, configuration, firstSlot, cellOf, flows, Addr, at, rd, live, serial, owner, group, parent, queue, heldAt, usedAt, messageAt, pageAt, bits, sharable, size, references, opens}
 use Rattle.rules.specs.Seid.{class, seid, classOf, indexOf, serialOf, isSeid}
 use Rattle.rules.specs.Modes.{validModes, writes}
 use Rattle.rules.specs.Rights.{asksWrite, validAccess}
-use Rattle.rules.specs.WellFormed.{headerOk, cellOk, levelsDistinct, sumsMatch, configured, lengthsExact, recordOk, heldOk, currentOk, entryOk, parentOk, heldOnce, messageOk, processOk, ownEntry, ownEntries, segmentSize, segmentOk, fileOk, recordsOk, wellFormed}
+use Rattle.rules.specs.WellFormed.{headerOk, cellOk, levelsDistinct, sumsMatch, configured, lengthsExact, recordOk, heldOk, currentOk, entryOk, parentOk, heldOnce, messageOk, pageOk, processOk, ownEntry, ownEntries, segmentSize, segmentOk, fileOk, recordsOk, wellFormed}
 use Rattle.rules.specs.Rule.{Word, _≔_, write}
 use Rattle.rules.specs.SetUp.{canSetUp, firstProcesses, freshTable, setUpTable}
 
@@ -27,7 +27,7 @@ abbrev bytes : ℕ
 bytes = 1024
 
 abbrev filled : List ℕ
-filled = conf ++ replicate 232 5
+filled = conf ++ replicate (recordWords process * 2 + recordWords segment + recordWords file * 2) 5
 
 -- the first process, the first segment and the first file; the file is the second in its slot
 abbrev sender : ℕ
@@ -82,6 +82,10 @@ pub record Judged : Type 0 where
   pub free-serial : right (but (at file 1 serial) 4) ≡ true
   pub free-not-zero : right (but (at file 1 owner) 1) ≡ false
   pub unused-message : right (but (at process 1 (messageAt 7 3)) 1) ≡ false
+  -- a page holds a filled entry, wherever the entry's other pages lie
+  pub mapped : right (but (at process 0 (pageAt 7)) 4) ≡ true
+  pub mapped-empty : right (but (at process 0 (pageAt 7)) 3) ≡ false
+  pub mapped-past : right (but (at process 0 (pageAt 7)) 17) ≡ false
   -- the second cell at another level, at the first one's, and at one to which the first does not flow
   pub level-moved : right (butSecurity 2) ≡ true
   pub levels-equal : right (butSecurity 1) ≡ false
@@ -90,7 +94,7 @@ pub record Judged : Type 0 where
   pub byte-too-many : test (wellFormed used (bytes + 1)) ≡ false
 
 pub judged : Judged
-unfolding allBelow sumBelow countBelow lowest within equals flowsTo cells slots blocks cellWord levelOf configuration firstSlot cellOf flows rd seid classOf indexOf serialOf isSeid validModes writes asksWrite validAccess headerOk cellOk levelsDistinct sumsMatch configured lengthsExact recordOk heldOk currentOk entryOk parentOk heldOnce messageOk processOk ownEntry ownEntries segmentSize segmentOk fileOk recordsOk wellFormed canSetUp firstProcesses freshTable setUpTable
+unfolding allBelow sumBelow countBelow lowest within equals flowsTo cells slots blocks cellWord levelOf configuration firstSlot cellOf flows rd seid classOf indexOf serialOf isSeid validModes writes asksWrite validAccess headerOk cellOk levelsDistinct sumsMatch configured lengthsExact recordOk heldOk currentOk entryOk parentOk heldOnce messageOk pageOk processOk ownEntry ownEntries segmentSize segmentOk fileOk recordsOk wellFormed canSetUp firstProcesses freshTable setUpTable
 judged =
     record {
       not-set-up = refl;
@@ -106,6 +110,9 @@ judged =
       free-serial = refl;
       free-not-zero = refl;
       unused-message = refl;
+      mapped = refl;
+      mapped-empty = refl;
+      mapped-past = refl;
       level-moved = refl;
       levels-equal = refl;
       no-flow = refl;

@@ -11,6 +11,7 @@ pub mod Fresh
 pub mod Judged
 pub mod Released
 pub mod Wear
+pub mod Map
 pub mod Single
 pub mod Gone
 pub mod Edges

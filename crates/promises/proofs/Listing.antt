@@ -10,10 +10,10 @@ use Rattle.rules.specs.Layout.{cells, slots, blocks, cellWord, levelOf, configu
 use Rattle.rules.specs.Seid.{seid, classOf, indexOf, serialOf, isSeid, seidAt, orSelf, present}
 use Rattle.rules.specs.Modes.{validModes, reads, writes, excludesReaders, excludesWriters, clash}
 use Rattle.rules.specs.Rights.{rights, mayRead, mayWrite, lacks, asksRead, asksWrite, validAccess, access}
-use Rattle.rules.specs.WellFormed.{headerOk, cellOk, levelsDistinct, sumsMatch, configured, lengthsExact, recordOk, heldOk, currentOk, entryOk, parentOk, heldOnce, messageOk, processOk, ownEntry, ownEntries, segmentSize, segmentOk, fileOk, recordsOk, wellFormed}
+use Rattle.rules.specs.WellFormed.{headerOk, cellOk, levelsDistinct, sumsMatch, configured, lengthsExact, recordOk, heldOk, currentOk, entryOk, parentOk, heldOnce, messageOk, pageOk, processOk, ownEntry, ownEntries, segmentSize, segmentOk, fileOk, recordsOk, wellFormed}
 use Rattle.rules.specs.Errors.{ascii, errorNames, errorName}
 use Rattle.rules.specs.Rule.{sameAddr, over}
-use Rattle.rules.specs.Find.{rightsAt, freeSlot, freeEntry, zeros, oneLess, givenUp}
+use Rattle.rules.specs.Find.{rightsAt, freeSlot, freeEntry, zeros, oneLess, pageLeft, pagesSet, emptied, givenUp}
 use Rattle.rules.specs.Call07.{create}
 use Rattle.rules.specs.Call08.{clashesAt, clashes, openFile}
 use Rattle.rules.specs.Call09.{close}
@@ -68,5 +68,5 @@ pub the-listing : listing (configuration-bytes ++ calls-bytes)
     ∷ "7 XOK 2164260866 0"
     ∷ "8 XnoObj 0 0"
     ∷ [])
-unfolding allBelow someBelow sumBelow countBelow lowest orRather least tabFrom part word4 within equals flowsTo cells slots blocks cellWord levelOf configuration firstSlot cellOf flows rd seid classOf indexOf serialOf isSeid seidAt orSelf present validModes reads writes excludesReaders excludesWriters clash rights mayRead mayWrite lacks asksRead asksWrite validAccess access headerOk cellOk levelsDistinct sumsMatch configured lengthsExact recordOk heldOk currentOk entryOk parentOk heldOnce messageOk processOk ownEntry ownEntries segmentSize segmentOk fileOk recordsOk wellFormed ascii errorNames errorName sameAddr over rightsAt freeSlot freeEntry zeros oneLess givenUp create clashesAt clashes openFile close block readBlock firstProcesses freshTable ruleOf badCaller badCode carriedOut wholeRule step groups numberFrom numbersFrom configurationIn replayable callIn scriptIn decimalIn hex showsBuffer line linesFrom heading startOf scriptListing listing
+unfolding allBelow someBelow sumBelow countBelow lowest orRather least tabFrom part word4 within equals flowsTo cells slots blocks cellWord levelOf configuration firstSlot cellOf flows rd seid classOf indexOf serialOf isSeid seidAt orSelf present validModes reads writes excludesReaders excludesWriters clash rights mayRead mayWrite lacks asksRead asksWrite validAccess access headerOk cellOk levelsDistinct sumsMatch configured lengthsExact recordOk heldOk currentOk entryOk parentOk heldOnce messageOk pageOk processOk ownEntry ownEntries segmentSize segmentOk fileOk recordsOk wellFormed ascii errorNames errorName sameAddr over rightsAt freeSlot freeEntry zeros oneLess pageLeft pagesSet emptied givenUp create clashesAt clashes openFile close block readBlock firstProcesses freshTable ruleOf badCaller badCode carriedOut wholeRule step groups numberFrom numbersFrom configurationIn replayable callIn scriptIn decimalIn hex showsBuffer line linesFrom heading startOf scriptListing listing
 the-listing = refl

@@ -6,7 +6,7 @@ use Prim.Native.Nat.{ℕ, _≤_, _<_}
 use native.Mathlib.Omega.{arith}
 use native.Mathlib.Decide.{ℕ-discrete}
 use lib.Dec.{ltb}
-use Rattle.rules.specs.Layout.{Kind, process, segment, file, Addr, at, live, queue, messages, messageWords, messagesAt, messageAt}
+use Rattle.rules.specs.Layout.{Kind, process, segment, file, Addr, at, live, queue, messages, messageWords, messagesAt, messageAt, pagesAt}
 use Rattle.rules.specs.Seid.{indexOf, orSelf, present, seidAt}
 use Rattle.rules.specs.Rule.{Word, over}
 use Rattle.rules.specs.Call15.{queued, post}
@@ -18,22 +18,26 @@ use Rattle.laws.proofs.Refusals.{Clear}
 use Rattle.laws.proofs.Slots.{slot-untaken}
 use Rattle.kept.proofs.Keeps.{Caller}
 use Rattle.kept.proofs.Keep15.{queued-past, queued-length}
-use Rattle.promises.proofs.Writes.{EntryWord, Wrote, made, filled, emptied, counted, freed-word, cleared, linked, sized, set-bits, posted, received, writes}
+use Rattle.promises.proofs.Writes.{EntryWord, Wrote, made, filled, emptied, paged, counted, freed-word, cleared, linked, sized, set-bits, posted, received, writes}
 
--- a word that is not process p's, or is one of its entries'
+-- a word of a process that is neither of its first eight nor of its messages: an entry's or a page
+abbrev Apart : ℕ → Type 0
+Apart n = (8 ≤ n) × (messagesAt ≤ n → pagesAt ≤ n)
+
+-- a word that is not process p's, or is such a one
 abbrev Spares : ℕ → Word → Type 0
-Spares p x = x .at .kind ≡ process → x .at .slot ≡ p → (8 ≤ x .at .word) × (x .at .word < messagesAt)
+Spares p x = x .at .kind ≡ process → x .at .slot ≡ p → Apart (x .at .word)
 
-spared : (p : ℕ) {ws : List Word} → AllOf (Spares p) ws → (j : ℕ) → (8 ≤ j → j < messagesAt → ⊥) → (r : Addr → ℕ) → over r ws (at process p j) ≡ r (at process p j)
+spared : (p : ℕ) {ws : List Word} → AllOf (Spares p) ws → (j : ℕ) → (Apart j → ⊥) → (r : Addr → ℕ) → over r ws (at process p j) ≡ r (at process p j)
 spared p a j out = over-miss (at process p j) (all-map (λ x f e.
     let w = f (sym (ap (λ (b : Addr). b .kind) e)) (sym (ap (λ (b : Addr). b .slot) e)) in
     let same : j ≡ x .at .word = ap (λ (b : Addr). b .word) e in
-    out (omega arith) (omega arith)) a)
+    out (rw same w)) a)
 
-entry-fits : (j : Kind) (n : ℕ) → EntryWord j n → (8 ≤ n) × (n < messagesAt)
+entry-fits : (j : Kind) (n : ℕ) → EntryWord j n → Apart n
 entry-fits process n w = absurd w
-entry-fits segment n w = (omega arith, w .1)
-entry-fits file n w = (w .0, omega arith)
+entry-fits segment n w = (omega arith, λ m. omega arith)
+entry-fits file n w = (w .0, λ m. omega arith)
 
 -- ---- the queue that a call leaves
 
@@ -41,15 +45,15 @@ entry-fits file n w = (w .0, omega arith)
 pub record Later (r q : Addr → ℕ) (p : ℕ) : Type 0 where
   pub same-live : q (at process p live) ≡ r (at process p live)
   pub no-fewer : r (at process p queue) ≤ q (at process p queue)
-  pub same-message : (m j : ℕ) → m < r (at process p queue) → j < messageWords → q (at process p (messageAt m j)) ≡ r (at process p (messageAt m j))
+  pub same-message : (m j : ℕ) → m < messages → m < r (at process p queue) → j < messageWords → q (at process p (messageAt m j)) ≡ r (at process p (messageAt m j))
 
 later-spared : (r : Addr → ℕ) (p : ℕ) {ws : List Word} → AllOf (Spares p) ws → Later r (over r ws) p
 later-spared r p a =
-    let e = spared p a queue (λ x y. omega arith) r in
+    let e = spared p a queue (λ x. omega arith) r in
     record {
-      same-live = spared p a live (λ x y. omega arith) r;
+      same-live = spared p a live (λ x. omega arith) r;
       no-fewer = omega arith;
-      same-message = λ m j ml jl. spared p a (messageAt m j) (λ x y. omega arith) r;
+      same-message = λ m j few ml jl. spared p a (messageAt m j) (λ x. omega (arith, x .1 (omega arith))) r;
     }
 
 -- a message added behind n others
@@ -61,7 +65,7 @@ module _ (r : Addr → ℕ) (p me : ℕ) (buffer : List ℕ) where
   later-posted = record {
     same-live = queued-past me p n buffer r live (λ e. omega arith) (λ x y. omega arith);
     no-fewer = omega (arith, queued-length me p n buffer r);
-    same-message = λ m j ml jl. queued-past me p n buffer r (messageAt m j) (λ e. omega arith) (λ x y. omega arith);
+    same-message = λ m j few ml jl. queued-past me p n buffer r (messageAt m j) (λ e. omega arith) (λ x y. omega arith);
   }
 
 -- ---- every call but a release of p and a receive by p
@@ -82,6 +86,7 @@ module _ (h : List ℕ) (r : Addr → ℕ) (st : List ℕ) (k : Call) (p : ℕ) 
         lived j i e f = rw (e, f) lives
     sparing unposted x (filled j {n} y w) e f = entry-fits j n w
     sparing unposted x (emptied j {q} {n} y w) e f = entry-fits j n w
+    sparing unposted x (paged {q} {n} y l) e f = (omega arith, λ m. l)
     sparing unposted x (counted {j} o) e f = absurd (no-process j o e)
     sparing unposted x (freed-word {j} o y) e f = absurd (no-process j o e)
     sparing unposted x (cleared c y) e f = absurd (unreleased c f)

@@ -1,7 +1,7 @@
 -- "A refusal gives two zeros and changes no word, byte or buffer. Only a successful 13, 16 or 17 changes the buffer." A call succeeds exactly when none of its
 -- refusals holds, and is answered with the number of the first that does. All this of every state, well formed or not, and of every call.
 use mathlib.Core.Path.{_≡_, refl, sym, ap, _∙_}
-use mathlib.Core.Bool.{true, false, _||_, not}
+use mathlib.Core.Bool.{true, false, cond, _||_, not}
 use mathlib.Core.List.{List, [], _∷_}
 use Prim.Native.Nat.{ℕ, _<_}
 use native.Mathlib.Decide.{ℕ-discrete}
@@ -13,7 +13,7 @@ use Rattle.rules.specs.Layout.{Kind, process, segment, file, slots, configurati
 use Rattle.rules.specs.WellFormed.{wellFormed}
 use Rattle.rules.specs.Errors.{XOK}
 use Rattle.rules.specs.Rule.{Refusal, Rule, Effect, effect, firstRefusal, write, store}
-use Rattle.rules.specs.Step.{State, Call, Outcome, badCaller, badCode, ruleOf, wholeRule, carriedOut, step}
+use Rattle.rules.specs.Step.{State, Call, Answer, answer, Outcome, badCaller, badCode, ruleOf, wholeRule, carriedOut, step}
 use Rattle.rules.specs.Call01.{spawn}
 use Rattle.rules.specs.Call02.{releaseProcess}
 use Rattle.rules.specs.Call03.{buildSegment}
@@ -31,6 +31,8 @@ use Rattle.rules.specs.Call15.{post}
 use Rattle.rules.specs.Call16.{receive}
 use Rattle.rules.specs.Call17.{statusOf}
 use Rattle.rules.specs.Call18.{accessOf}
+use Rattle.rules.specs.Call19.{remap}
+use Rattle.rules.specs.Call20.{pageAccess}
 use Rattle.laws.proofs.Tests.{cond-true, cond-false, cond-both, split}
 use Rattle.laws.proofs.Claims.{tested}
 use Rattle.laws.proofs.Refusals.{Clear, numbered, clear}
@@ -43,6 +45,11 @@ refusals s k = wholeRule (configuration (s .table)) s k .refusals
 
 abbrev pub effects : State → Call → Effect
 effects s k = wholeRule (configuration (s .table)) s k .effects
+
+-- the whole answer: success with the rule's two results, or the first refusal's number and two zeros
+abbrev pub ruled : State → Call → Answer
+ruled s k =
+    cond (eqb (firstRefusal (refusals s k)) 0) (answer XOK (effects s k .first) (effects s k .second)) (answer (firstRefusal (refusals s k)) 0 0)
 
 -- two zeros, and everything as it was
 pub record Untouched (s : State) (k : Call) (o : Outcome) : Type 0 where
@@ -77,6 +84,10 @@ module _ (s : State) (k : Call) where
   answered = cond-both (λ (o : Outcome). o .answered .error ≡ firstRefusal (refusals s k)) (eqb (firstRefusal (refusals s k)) 0) _ _
       (λ e. sym (eqb-true _ 0 e)) (λ e. refl)
 
+  pub answered-whole : step s k .answered ≡ ruled s k
+  unfolding step carriedOut
+  answered-whole = split _ (eqb (firstRefusal (refusals s k)) 0) (λ e. rw e) (λ e. rw e)
+
   -- "A refusal gives two zeros and changes no word, byte or buffer."
   pub refused : (step s k .answered .error ≡ XOK → ⊥) → Untouched s k (step s k)
   unfolding step carriedOut
@@ -109,7 +120,7 @@ module _ (s : State) (k : Call) where
 
   -- every refusal has a number
   all-numbered : numbered (refusals s k) ≡ true
-  unfolding wholeRule spawn releaseProcess buildSegment rendezvous releaseSegment setAccess create openFile close link unlink readBlock writeBlock post receive accessOf
+  unfolding wholeRule spawn releaseProcess buildSegment rendezvous releaseSegment setAccess create openFile close link unlink readBlock writeBlock post receive accessOf remap pageAccess
   all-numbered =
       let P : Rule → Type 0 = λ x. numbered (x .refusals) ≡ true in
       by-code conf k (λ f. P (f reading (s .store))) (record {
@@ -131,6 +142,8 @@ module _ (s : State) (k : Call) where
         call-16 = λ e. refl;
         call-17 = λ e. by-status conf reading k P for-status;
         call-18 = λ e. refl;
+        call-19 = λ e. refl;
+        call-20 = λ e. refl;
         other = refl;
       })
     where
@@ -149,7 +162,7 @@ module _ (s : State) (k : Call) where
   -- ---- the buffer
 
   own-buffer : (k .code ≡ 13 → ⊥) → (k .code ≡ 16 → ⊥) → (k .code ≡ 17 → ⊥) → effects s k .buffer ≡ k .buffer
-  unfolding wholeRule spawn releaseProcess buildSegment rendezvous releaseSegment setAccess create openFile close link unlink writeBlock post accessOf
+  unfolding wholeRule spawn releaseProcess buildSegment rendezvous releaseSegment setAccess create openFile close link unlink writeBlock post accessOf remap pageAccess
   own-buffer a b c =
       let P : Rule → Type 0 = λ x. x .effects .buffer ≡ k .buffer in
       by-code conf k (λ f. P (f reading (s .store))) (record {
@@ -171,6 +184,8 @@ module _ (s : State) (k : Call) where
         call-16 = λ e. absurd (b e);
         call-17 = λ e. absurd (c e);
         call-18 = λ e. refl;
+        call-19 = λ e. refl;
+        call-20 = λ e. refl;
         other = refl;
       })
 
@@ -181,7 +196,7 @@ module _ (s : State) (k : Call) where
     | no n ↦ refused n .buffer
   ]
 
-  -- ---- the call's own list, behind "1 table or length bad; 2 caller out of range or not live; 3 code not 1..18"
+  -- ---- the call's own list, behind "1 table or length bad; 2 caller out of range or not live; 3 code not 1..20"
 
   abbrev pub own : Rule
   own = ruleOf (configuration (s .table)) (rd (configuration (s .table)) (s .table)) (s .store) k

@@ -8,16 +8,16 @@ use native.Mathlib.Omega.{arith}
 use lib.Dec.{eqb}
 use lib.ListN.{length}
 use borrow.Author.Tests.{eq-eqb, eqb-true, eqb-false}
-use Rattle.rules.specs.Layout.{Kind, process, segment, file, recordWords, slots, configuration, Addr, at, Valid, rd, live, serial, owner, entries, heldAt, usedAt}
+use Rattle.rules.specs.Layout.{Kind, process, segment, file, recordWords, slots, configuration, Addr, at, Valid, rd, live, serial, owner, entries, heldAt, usedAt, pages, pagesAt}
 use Rattle.rules.specs.Seid.{indexOf, formed, present}
 use Rattle.rules.specs.Errors.{XOK}
 use Rattle.rules.specs.Rule.{Word, Rule, over, store}
-use Rattle.rules.specs.Find.{inOwnCell, givenUp, freed}
+use Rattle.rules.specs.Find.{inOwnCell, pageLeft, pagesSet, pagesCleared, emptied, givenUp, freed}
 use Rattle.rules.specs.Call02.{dropped, droppedTo, released, releaseProcess}
 use Rattle.rules.specs.Step.{State, Call, step, next, badCode, ruleOf, wholeRule}
 use Rattle.laws.proofs.Seids.{index-small, is-formed, present-is}
 use Rattle.laws.proofs.Shape.{good-of}
-use Rattle.laws.proofs.Written.{AllOf, nil, also, all-append, all-if, all-map, over-append, over-miss}
+use Rattle.laws.proofs.Written.{AllOf, nil, also, all-append, all-if, all-map, all-tab, over-append, over-miss}
 use Rattle.laws.proofs.Object.{Object, no-process}
 use Rattle.kept.proofs.Fine.{fine-of}
 use Rattle.kept.proofs.Records.{by-kind, elsewhere, freed-in, freed-serial, freed-word}
@@ -37,10 +37,10 @@ pub record HoldsBy (h : List ℕ) (r : Addr → ℕ) (q : ℕ) (j : Kind) (i d :
 -- ---- what is written
 
 -- the words of an entry stand before those of the next
-entry-below : (k : Kind) → Object k → (d : ℕ) → (serial < heldAt k d) × (heldAt k d < usedAt k d) × (usedAt k d < heldAt k (suc d))
+entry-below : (k : Kind) → Object k → (d : ℕ) → (serial < heldAt k d) × (heldAt k d < usedAt k d) × (usedAt k d < heldAt k (suc d)) × (d < entries → heldAt k d < pagesAt)
 entry-below process o d = absurd o
-entry-below segment o d = (omega arith, omega arith, omega arith)
-entry-below file o d = (omega arith, omega arith, omega arith)
+entry-below segment o d = (omega arith, omega arith, omega arith, λ l. omega arith)
+entry-below file o d = (omega arith, omega arith, omega arith, λ l. omega arith)
 
 module _ (h : List ℕ) (q : ℕ) where
   abbrev descriptors : (Addr → ℕ) → List Word
@@ -55,33 +55,43 @@ Other h q j i r k d =
     (r (at process q (heldAt k d)) ≡ 0 → ⊥) → inOwnCell h q k (r (at process q (heldAt k d))) ≡ true → k ≡ j → indexOf (r (at process q (heldAt k d))) ≡ i → ⊥
 
 module _ (h : List ℕ) (q : ℕ) (j : Kind) (o : Object j) (i : ℕ) where
-  -- of the processes, words of q below b and past its serial alone; of the objects, not object i
+  -- of the processes, words of q past its serial alone, and below b or pages; of the objects, not object i
   abbrev Spares : ℕ → Word → Type 0
-  Spares b x = (x .at .kind ≡ process → (x .at .slot ≡ q) × (serial < x .at .word) × (x .at .word < b)) × (x .at .kind ≡ j → x .at .slot ≡ i → ⊥)
+  Spares b x = (x .at .kind ≡ process → (x .at .slot ≡ q) × (serial < x .at .word) × (x .at .word < pagesAt → x .at .word < b)) × (x .at .kind ≡ j → x .at .slot ≡ i → ⊥)
 
   wider : (b c : ℕ) → b ≤ c → {ws : List Word} → AllOf (Spares b) ws → AllOf (Spares c) ws
-  wider b c l a = all-map (λ x w. (λ e. let v = w .0 e in (v .0, v .1, omega (arith, v .2)), w .1)) a
+  wider b c l a = all-map (λ x w. (λ e. let v = w .0 e in (v .0, v .1, λ m. omega (arith, v .2 m)), w .1)) a
 
-  unwritten : (b : ℕ) {ws : List Word} → AllOf (Spares b) ws → (w : ℕ) → b ≤ w → (r : Addr → ℕ) → over r ws (at process q w) ≡ r (at process q w)
-  unwritten b a w l = over-miss (at process q w) (all-map (λ x y e.
+  unwritten : (b : ℕ) {ws : List Word} → AllOf (Spares b) ws → (w : ℕ) → b ≤ w → w < pagesAt → (r : Addr → ℕ) → over r ws (at process q w) ≡ r (at process q w)
+  unwritten b a w l m = over-miss (at process q w) (all-map (λ x y e.
       let z = y .0 (sym (ap (λ (c : Addr). c .kind) e)) in
       let same : w ≡ x .at .word = ap (λ (c : Addr). c .word) e in
-      omega (arith, z .2)) a)
+      omega (arith, z .2 (omega arith))) a)
+
+  -- pages are past every entry
+  of-pages : (b : ℕ) (f : ℕ → ℕ) → AllOf (Spares b) (pagesSet q f)
+  unfolding pagesSet
+  of-pages b f = all-tab (Spares b) 0 pages _ (λ g lo hi. (λ x. (refl, omega arith, λ m. absurd (omega arith)), λ x y. no-process j o (sym x)))
+
+  of-cleared : (b : ℕ) (r : Addr → ℕ) (k : Kind) (d : ℕ) → AllOf (Spares b) (pagesCleared r k q d)
+  of-cleared b r process d = nil
+  of-cleared b r segment d = of-pages b (pageLeft r q d)
+  of-cleared b r file d = nil
 
   module _ (k : Kind) (ok : Object k) where
     of-one : (r : Addr → ℕ) (d : ℕ) → Other h q j i r k d → AllOf (Spares (heldAt k (suc d))) (dropped h r k q d)
-    unfolding dropped givenUp
+    unfolding dropped givenUp emptied
     of-one r d other =
         let v : ℕ = r (at process q (heldAt k d)) in
         let l = entry-below k ok d in
-        all-if _ (eqb v 0) _ _ (λ e. nil) (λ e. all-append _
-        (also (λ x. (refl, l .0, omega (arith, l .1, l .2)), λ x y. no-process j o (sym x))
-        (also (λ x. (refl, omega (arith, l .0, l .1), l .2), λ x y. no-process j o (sym x)) nil))
+        all-if _ (eqb v 0) _ _ (λ e. nil) (λ e. all-append _ (of-cleared _ r k d) (all-append _
+        (also (λ x. (refl, l .0, λ m. omega (arith, l .1, l .2)), λ x y. no-process j o (sym x))
+        (also (λ x. (refl, omega (arith, l .0, l .1), λ m. l .2), λ x y. no-process j o (sym x)) nil))
         (all-if _ (inOwnCell h q k v) _ _
         (λ mine. all-map
         (λ x w. (λ f. absurd (no-process k ok (sym (w .0) ∙ f)), λ f g. other (eqb-false v 0 e) mine (sym (w .0) ∙ f) (sym (w .1) ∙ g)))
         (less-in r k ok (indexOf v)))
-        (λ theirs. nil)))
+        (λ theirs. nil))))
 
     of-dropped : (r : Addr → ℕ) → ((d : ℕ) → d < entries → Other h q j i r k d) → (n : ℕ) → n ≤ entries → AllOf (Spares (heldAt k n)) (droppedTo h r k q n)
     unfolding droppedTo
@@ -90,7 +100,7 @@ module _ (h : List ℕ) (q : ℕ) (j : Kind) (o : Object j) (i : ℕ) where
         let a = of-dropped r other n (omega arith) in
         let below = entry-below k ok n in
         let same : over r (droppedTo h r k q n) (at process q (heldAt k n)) ≡ r (at process q (heldAt k n)) =
-        unwritten (heldAt k n) a (heldAt k n) (omega arith) r in
+        unwritten (heldAt k n) a (heldAt k n) (omega arith) (below .3 (omega arith)) r in
         all-append _ (wider (heldAt k n) (heldAt k (suc n)) (omega arith) a) (of-one (over r (droppedTo h r k q n)) n (rw same (other n l)))
 
   -- its descriptors, then its designators: what is read beside what they write
@@ -99,7 +109,7 @@ module _ (h : List ℕ) (q : ℕ) (j : Kind) (o : Object j) (i : ℕ) where
   beside-entries r other c miss =
       let a = of-dropped file tt r (other file) entries (omega arith) in
       let later : (d : ℕ) → d < entries → Other h q j i (over r (descriptors h q r)) segment d =
-      λ d l. rw (unwritten (heldAt file entries) a (heldAt segment d) (omega arith) r) (other segment d l) in
+      λ d l. rw (unwritten (heldAt file entries) a (heldAt segment d) (omega arith) (omega arith) r) (other segment d l) in
       let b = of-dropped segment tt (over r (descriptors h q r)) later entries (omega arith) in
       over-miss c (all-map miss (wider (heldAt segment entries) (recordWords process) (omega arith) b)) (over r (descriptors h q r))
       ∙ over-miss c (all-map miss (wider (heldAt file entries) (recordWords process) (omega arith) a)) r

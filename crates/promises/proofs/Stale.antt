@@ -1,21 +1,22 @@
 -- Stale identifiers. A seid that names no object is refused by every call that takes a seid, save a post to another cell, which is dropped; a held entry that is stale
--- is refused by every use of it, save giving it up, which succeeds and touches no object. (All but the last are so in every state, well formed or not.)
+-- is refused by every use of it, save giving it up, which succeeds and touches no object, and taking it off the map (02, CR 1: "An outgoing entry may be stale": Map).
+-- (All but giving up are so in every state, well formed or not.)
 use mathlib.Core.Path.{_≡_, refl, sym, ap, _∙_}
 use mathlib.Core.Bool.{Bool, true, false, cond, _&&_, _||_, not}
-use mathlib.Core.List.{List, [], _∷_}
-use Prim.Native.Nat.{ℕ, _<_}
+use mathlib.Core.List.{List, [], _∷_, _++_}
+use Prim.Native.Nat.{ℕ, _-_, _<_}
 use native.Mathlib.Omega.{arith}
 use native.Mathlib.Decide.{ℕ-discrete}
-use lib.Dec.{leb, eqb}
+use lib.Dec.{ltb, leb, eqb}
 use lib.ListN.{length}
-use borrow.Author.Tests.{eqb-true, ne-eqb, lt-leb}
+use borrow.Author.Tests.{eqb-true, eqb-false, ne-eqb, lt-leb, lt-ltb}
 use Rattle.rules.specs.Claim.{Holds}
-use Rattle.rules.specs.Layout.{Kind, process, segment, file, slots, configuration, Addr, at, Valid, rd, live, entries, heldAt, usedAt}
+use Rattle.rules.specs.Layout.{Kind, process, segment, file, slots, configuration, Addr, at, Valid, rd, live, entries, heldAt, usedAt, pages, pagesAt, pageAt}
 use Rattle.rules.specs.Seid.{class, classOf, formed, seidAt, orSelf, present}
 use Rattle.rules.specs.WellFormed.{wellFormed}
 use Rattle.rules.specs.Errors.{XOK, XnSgDes, XbSgDes, XbadOd}
-use Rattle.rules.specs.Rule.{_⇒_, Effect, effect, Rule, rule, write, store, over}
-use Rattle.rules.specs.Find.{inOwnCell, entered, givenUp}
+use Rattle.rules.specs.Rule.{_⇒_, Word, Effect, effect, Rule, rule, write, store, over}
+use Rattle.rules.specs.Find.{inOwnCell, entered, pagesCleared, emptied, givenUp}
 use Rattle.rules.specs.Call02.{releaseProcess}
 use Rattle.rules.specs.Call04.{rendezvous}
 use Rattle.rules.specs.Call05.{releaseSegment}
@@ -30,18 +31,21 @@ use Rattle.rules.specs.Call14.{writeBlock}
 use Rattle.rules.specs.Call15.{post}
 use Rattle.rules.specs.Call17.{status, statusOf}
 use Rattle.rules.specs.Call18.{accessOf}
+use Rattle.rules.specs.Call19.{remap}
+use Rattle.rules.specs.Call20.{pageAccess}
 use Rattle.rules.specs.Step.{State, Call, step, ruleOf, badCode, wholeRule}
 use Rattle.laws.proofs.Tests.{and-both, passed, not-of, refuted, both-ways, or-rest, split, cond-both, cond-false}
-use Rattle.laws.proofs.Seids.{class-pos, class-some, is-formed, present-is}
+use Rattle.laws.proofs.Seids.{class-pos, class-some, class-inj, is-formed, present-is}
 use Rattle.laws.proofs.Shape.{good-of}
-use Rattle.laws.proofs.Written.{nil, also, rd-write, conf-write, over-miss}
+use Rattle.laws.proofs.Written.{AllOf, nil, also, all-map, all-append, rd-write, conf-write, over-append, over-miss}
 use Rattle.laws.proofs.Object.{Object}
 use Rattle.kept.proofs.Fine.{fine-of}
 use Rattle.laws.proofs.Refusals.{Clear}
-use Rattle.kept.proofs.Records.{all-valid}
+use Rattle.kept.proofs.Records.{InRecord, all-valid}
 use Rattle.kept.proofs.Made.{placed}
 use Rattle.kept.proofs.Found.{own-found}
-use Rattle.kept.proofs.Exchange.{entered-in, entered-held, entered-used}
+use Rattle.kept.proofs.Exchange.{entered-in, entered-held, entered-used, entered-beside}
+use Rattle.kept.proofs.Entries.{clearedPage, Cleared, clears}
 use Rattle.promises.proofs.Refusals.{Untouched, own, own-clear, goes-on, done, refused, nothing-done, effects}
 
 -- the calls that take a seid, but for post: 2, 4, 8, 10, 11, 12, 17; and of which kinds
@@ -57,10 +61,10 @@ takes file n = eqb n 8 || (eqb n 10 || (eqb n 11 || (eqb n 12 || eqb n 17)))
 abbrev pub Names : List ℕ → (Addr → ℕ) → ℕ → ℕ → Type 0
 Names h r code v = (j : Kind) × (takes j code ≡ true) × (formed h j v ≡ true) × (present r j v ≡ true)
 
--- the calls that use an entry for objects of a kind: 13 and 14 a descriptor, 6 and 18 a designator
+-- the calls that use an entry for objects of a kind: 13 and 14 a descriptor, 6, 18 and 19 a designator
 abbrev pub usesEntry : Kind → ℕ → Bool
 usesEntry process n = false
-usesEntry segment n = eqb n 6 || eqb n 18
+usesEntry segment n = eqb n 6 || (eqb n 18 || eqb n 19)
 usesEntry file n = eqb n 13 || eqb n 14
 
 -- the call that gives up an entry
@@ -91,6 +95,12 @@ module _ (s : State) (k : Call) where
   -- what the entry that a call is given holds
   abbrev pub entryHolds : Kind → ℕ
   entryHolds j = rd (configuration (s .table)) (s .table) (at process (k .caller) (heldAt j (k .a)))
+
+  -- what the designator of the page that a call is given holds
+  abbrev pub pageHolds : ℕ
+  pageHolds =
+      rd (configuration (s .table)) (s .table) (at process (k .caller)
+      (heldAt segment (rd (configuration (s .table)) (s .table) (at process (k .caller) (pageAt (k .a))) - 1)))
 
   -- ---- seids
 
@@ -150,24 +160,34 @@ module _ (s : State) (k : Call) where
 
   -- ---- entries
 
-  pub stale-entry : (j : Kind) → usesEntry j (k .code) ≡ true → present (rd (configuration (s .table)) (s .table)) j (entryHolds j) ≡ false
+  -- (an incoming designator is an entry: 16 is none)
+  pub stale-entry : (j : Kind) → usesEntry j (k .code) ≡ true → (k .code ≡ 19 → k .a < entries) → present (rd (configuration (s .table)) (s .table)) j (entryHolds j) ≡ false
       → step s k .answered .error ≡ XOK → ⊥
-  unfolding ruleOf setAccess accessOf readBlock writeBlock
-  stale-entry process u gone e = both-ways true refl (sym u)
-  stale-entry segment u gone e =
+  unfolding ruleOf setAccess accessOf remap readBlock writeBlock
+  stale-entry process u in-entries gone e = both-ways true refl (sym u)
+  stale-entry segment u in-entries gone e =
       let c = own-clear s k e in
-      both-ways (present r segment (entryHolds segment)) (either (eqb (k .code) 6) (eqb (k .code) 18) u
+      both-ways (present r segment (entryHolds segment)) (either (eqb (k .code) 6) _ u
       (λ e. let q = rw (eqb-true (k .code) 6 e) at c in passed _ (q .1 .1 .1 .0))
-      (λ e. let q = rw (eqb-true (k .code) 18 e) at c in passed _ (q .1 .1 .0))) gone
-  stale-entry file u gone e =
+      (λ u. either (eqb (k .code) 18) (eqb (k .code) 19) u
+      (λ e. let q = rw (eqb-true (k .code) 18 e) at c in passed _ (q .1 .1 .0))
+      (λ e. let q = rw (eqb-true (k .code) 19 e) at c in
+      let t : ltb (k .a) entries ≡ true = lt-ltb (k .a) entries (in-entries (eqb-true (k .code) 19 e)) in
+      passed _ (rw t at (q .1 .1 .0))))) gone
+  stale-entry file u in-entries gone e =
       let c = own-clear s k e in
       both-ways (present r file (entryHolds file)) (either (eqb (k .code) 13) (eqb (k .code) 14) u
       (λ e. let q = rw (eqb-true (k .code) 13 e) at c in passed _ (q .1 .1 .1 .1 .0))
       (λ e. let q = rw (eqb-true (k .code) 14 e) at c in passed _ (q .1 .1 .1 .1 .0))) gone
 
+  -- a page whose designator is stale is refused by call 20
+  pub stale-page : k .code ≡ 20 → present (rd (configuration (s .table)) (s .table)) segment pageHolds ≡ false → step s k .answered .error ≡ XOK → ⊥
+  unfolding ruleOf pageAccess accessOf
+  stale-page c gone e = let q = rw c at (own-clear s k e) in both-ways (present r segment _) (passed _ (q .1 .1 .1 .1 .0)) gone
+
   -- ---- giving up
 
-  -- XOK and two zeros; the entry's two words become 0, and no other word of the table, no byte of the store or of the buffer changes
+  -- XOK and two zeros; the entry's two words become 0, and so do the pages of a designator; no other word of the table, no byte of the store or of the buffer changes
   pub record GivenUp (j : Kind) : Type 0 where
     pub error : step s k .answered .error ≡ XOK
     pub first : step s k .answered .first ≡ 0
@@ -175,8 +195,10 @@ module _ (s : State) (k : Call) where
     pub held : rd (configuration (s .table)) (step s k .state .table) (at process (k .caller) (heldAt j (k .a))) ≡ 0
     pub used : rd (configuration (s .table)) (step s k .state .table) (at process (k .caller) (usedAt j (k .a))) ≡ 0
     pub others : (b : Addr) → Valid (configuration (s .table)) b → (b ≡ at process (k .caller) (heldAt j (k .a)) → ⊥)
-        → (b ≡ at process (k .caller) (usedAt j (k .a)) → ⊥)
+        → (b ≡ at process (k .caller) (usedAt j (k .a)) → ⊥) → (b .kind ≡ process → b .slot ≡ k .caller → b .word < pagesAt)
         → rd (configuration (s .table)) (step s k .state .table) b ≡ rd (configuration (s .table)) (s .table) b
+    pub page : (g : ℕ) → g < pages → rd (configuration (s .table)) (step s k .state .table) (at process (k .caller) (pageAt g))
+        ≡ clearedPage (rd (configuration (s .table)) (s .table)) j (k .caller) (k .a) g
     pub same-configuration : configuration (step s k .state .table) ≡ configuration (s .table)
     pub store : step s k .state .store ≡ s .store
     pub buffer : step s k .buffer ≡ k .buffer
@@ -190,9 +212,36 @@ module _ (s : State) (k : Call) where
         let c = eqb-true _ _ e in
         both-ways (present r j (entryHolds j)) (present-is r j (entryHolds j) (record { is-live = x .current-live some c; same-serial = x .current-serial some c })) gone)
 
-    written : givenUp h r j (k .caller) (k .a) (entryHolds j) ≡ entered j (k .caller) (k .a) 0 0
-    unfolding givenUp
+    abbrev words : List Word
+    words = pagesCleared r j (k .caller) (k .a) ++ entered j (k .caller) (k .a) 0 0
+
+    written : givenUp h r j (k .caller) (k .a) (entryHolds j) ≡ words
+    unfolding givenUp emptied
     written = rw elsewhere
+
+    cleared : Cleared h r j (k .caller) (k .a)
+    cleared = clears h r (fine-of h r (good-of (s .table) (length (s .store)) w .records)) (k .caller) in-range alive j o (k .a)
+
+    in-process : AllOf (InRecord process (k .caller)) words
+    in-process = all-append _ (cleared .in-process) (entered-in r j o (k .caller) (k .a) 0 0 known)
+
+    -- what is read over them
+    abbrev without : Addr → ℕ
+    without = over r (pagesCleared r j (k .caller) (k .a))
+
+    reading-is : (b : Addr) → over r words b ≡ over without (entered j (k .caller) (k .a) 0 0) b
+    reading-is b = ap (λ (f : Addr → ℕ). f b) (over-append r (pagesCleared r j (k .caller) (k .a)) (entered j (k .caller) (k .a) 0 0))
+
+    -- a word that is neither the entry's nor a page
+    untouched : (b : Addr) → (b .kind ≡ process → b .slot ≡ k .caller → b .word < pagesAt) → without b ≡ r b
+    untouched b low = elim (ℕ-discrete (b .slot) (k .caller)) [
+      | no n ↦ over-miss b (all-map (λ x i e. n (ap (λ (c : Addr). c .slot) e ∙ i .1)) (cleared .in-process)) r
+      | yes e ↦ split _ (eqb (class (b .kind)) (class process))
+          (λ t. let kind = class-inj (b .kind) process (eqb-true _ _ t) in
+          let is : at process (k .caller) (b .word) ≡ b = λ i. record { kind = sym kind i; slot = sym e i; word = b .word } in
+          rw (← is) (cleared .past (b .word) (low kind e)))
+          (λ t. over-miss b (all-map (λ x i z. eqb-false _ _ t (ap class (ap (λ (c : Addr). c .kind) z ∙ i .0))) (cleared .in-process)) r)
+    ]
 
     by-rule : (x y : ℕ) → badCode (k .code) ≡ false
         → own s k ≡ rule ((leb entries (k .a) ⇒ x) ∷ (eqb (entryHolds j) 0 ⇒ y) ∷ []) (effect 0 0 (k .buffer) (givenUp h r j (k .caller) (k .a) (entryHolds j)) [])
@@ -201,23 +250,23 @@ module _ (s : State) (k : Call) where
     by-rule x y code is =
         let ok = goes-on s k w in-range alive code (rw is (lt-leb entries (k .a) known, (ne-eqb (entryHolds j) 0 some, tt))) in
         let d = done s k ok in
-        let e : effects s k ≡ effect 0 0 (k .buffer) (entered j (k .caller) (k .a) 0 0) [] =
+        let e : effects s k ≡ effect 0 0 (k .buffer) words [] =
         ap (λ (x : Rule). x .effects) is ∙ ap (λ ws. effect 0 0 (k .buffer) ws []) written in
-        let t : step s k .state .table ≡ write h (s .table) (entered j (k .caller) (k .a) 0 0) =
+        let t : step s k .state .table ≡ write h (s .table) words =
         d .table ∙ ap (λ (x : Effect). write h (s .table) (x .words)) e in
         let y = placed j o (k .a) known in
-        let in-it = entered-in r j o (k .caller) (k .a) 0 0 known in
-        let valid = all-valid h process (k .caller) in-range in-it in
-        let reads : (b : Addr) → Valid h b → rd h (step s k .state .table) b ≡ over r (entered j (k .caller) (k .a) 0 0) b =
-        λ b v. ap (λ (l : List ℕ). rd h l b) t ∙ rd-write h (s .table) valid (good-of (s .table) (length (s .store)) w .words) b v in
+        let valid = all-valid h process (k .caller) in-range in-process in
+        let reads : (b : Addr) → Valid h b → rd h (step s k .state .table) b ≡ over without (entered j (k .caller) (k .a) 0 0) b =
+        λ b v. ap (λ (l : List ℕ). rd h l b) t ∙ rd-write h (s .table) valid (good-of (s .table) (length (s .store)) w .words) b v ∙ reading-is b in
         record {
           error = ok;
           first = d .first ∙ ap (λ (x : Effect). x .first) e;
           second = d .second ∙ ap (λ (x : Effect). x .second) e;
-          held = reads _ (in-range, omega arith) ∙ entered-held r j o (k .caller) (k .a) 0 0 known;
-          used = reads _ (in-range, omega arith) ∙ entered-used r j o (k .caller) (k .a) 0 0 known;
-          others = λ b v x y. reads b v ∙ over-miss b (also x (also y nil)) r;
-          same-configuration = ap configuration t ∙ conf-write h (s .table) (entered j (k .caller) (k .a) 0 0) refl;
+          held = reads _ (in-range, omega arith) ∙ entered-held without j o (k .caller) (k .a) 0 0 known;
+          used = reads _ (in-range, omega arith) ∙ entered-used without j o (k .caller) (k .a) 0 0 known;
+          others = λ b v x y low. reads b v ∙ over-miss b (also x (also y nil)) without ∙ untouched b low;
+          page = λ g gl. reads _ (in-range, omega arith) ∙ entered-beside without j o (k .caller) (k .a) 0 0 known (pageAt g) (λ z. omega arith) (λ z. omega arith) ∙ cleared .page g gl;
+          same-configuration = ap configuration t ∙ conf-write h (s .table) words refl;
           store = d .store ∙ ap (λ (x : Effect). store h (s .store) (x .bytes)) e;
           buffer = d .buffer ∙ ap (λ (x : Effect). x .buffer) e;
         }

@@ -26,7 +26,7 @@ use Rattle.kept.proofs.Made.{object-words}
 use Rattle.kept.proofs.Kept.{Well, kept, conf-kept, serials-kept}
 use Rattle.promises.proofs.Refusals.{own, own-clear, refused}
 use Rattle.promises.proofs.After.{its-caller, read-after}
-use Rattle.promises.proofs.Writes.{EntryWord, Wrote, made, filled, emptied, counted, freed-word, cleared, linked, sized, set-bits, posted, received, writes}
+use Rattle.promises.proofs.Writes.{EntryWord, Wrote, made, filled, emptied, paged, counted, freed-word, cleared, linked, sized, set-bits, posted, received, writes}
 use Rattle.promises.proofs.Fresh.{blank, set-up-formed, set-up-configuration, set-up-reads}
 
 -- ---- what the search finds
@@ -91,6 +91,7 @@ module _ (h : List ℕ) (r : Addr → ℕ) (k : Call) (j : Kind) (i : ℕ) where
       at-same a b = rw (a, b) refl
   counts x (filled l {n} f w) e = absurd (entry-past l n w (word-of x e))
   counts x (emptied l {q} {n} a w) e = absurd (entry-past l n w (word-of x e))
+  counts x (paged a l) e = absurd (omega (arith, word-of x e))
   counts x (counted {j = l} o) e = absurd (omega (arith, word-of x e, object-words l o .holders-at))
   counts x (freed-word o n) e = absurd (n (sym (word-of x e)))
   counts x (cleared c n) e = absurd (n (sym (word-of x e)))

@@ -6,10 +6,10 @@ use Prim.Native.Nat.{ℕ, zero, suc, _+_, _*_, _-_, _≤_, _<_}
 use native.Mathlib.Omega.{arith}
 use lib.Dec.{ltb, eqb}
 use borrow.Author.Tests.{ltb-true, leb-false}
-use Rattle.rules.specs.Layout.{Kind, process, segment, file, recordWords, cells, cellOf, Addr, at, live, serial, owner, group, queue, entries, heldAt, usedAt, messages, messageWords, messagesAt, messageAt, bits, size, holders, links, opens}
+use Rattle.rules.specs.Layout.{Kind, process, segment, file, recordWords, cells, cellOf, Addr, at, live, serial, owner, group, queue, entries, heldAt, usedAt, messages, messageWords, messagesAt, messageAt, pages, pagesAt, pageAt, bits, size, holders, links, opens}
 use Rattle.rules.specs.Seid.{indexOf, orSelf, present, seidAt}
 use Rattle.rules.specs.Rule.{Word, _≔_, Rule, over}
-use Rattle.rules.specs.Find.{inOwnCell, entered, oneMore, zeros, freed, kept, oneLess, givenUp, freeSlot, noSlot, freeEntry}
+use Rattle.rules.specs.Find.{inOwnCell, entered, oneMore, zeros, freed, kept, oneLess, pageLeft, pagesSet, pagesCleared, emptied as emptiedEntry, givenUp, freeSlot, noSlot, freeEntry}
 use Rattle.rules.specs.Call01.{spawn}
 use Rattle.rules.specs.Call02.{dropped, droppedTo, released, releaseProcess}
 use Rattle.rules.specs.Call03.{buildSegment}
@@ -26,6 +26,8 @@ use Rattle.rules.specs.Call14.{writeBlock}
 use Rattle.rules.specs.Call15.{queued, post}
 use Rattle.rules.specs.Call16.{movedUp, receive}
 use Rattle.rules.specs.Call18.{accessOf}
+use Rattle.rules.specs.Call19.{remap}
+use Rattle.rules.specs.Call20.{pageAccess}
 use Rattle.rules.specs.Step.{Call, ruleOf}
 use Rattle.laws.proofs.Tests.{and-right}
 use Rattle.laws.proofs.Written.{AllOf, nil, also, all-append, all-if, all-tab}
@@ -44,7 +46,7 @@ EntryWord segment n = (40 ≤ n) × (n < messagesAt)
 
 -- a queue's length, or a word of its messages
 abbrev pub MailWord : ℕ → Type 0
-MailWord n = (n ≡ queue → ⊥) → (messagesAt ≤ n) × (n < messageAt messages 0)
+MailWord n = (n ≡ queue → ⊥) → (messagesAt ≤ n) × (n < pagesAt)
 
 -- the process that a call acts on: its caller, or the one that call 2 releases
 pub data Acting (r : Addr → ℕ) (k : Call) : ℕ → Type 0 where
@@ -70,6 +72,8 @@ pub data Wrote (h : List ℕ) (r : Addr → ℕ) (k : Call) : Word → Type 0 wh
   -- an entry of the caller's filled, or used otherwise; an entry given up
   filled : (j : Kind) {n v : ℕ} → Fills j (k .code) → EntryWord j n → Wrote h r k (at process (k .caller) n ≔ v)
   emptied : (j : Kind) {q n : ℕ} → Acting r k q → EntryWord j n → Wrote h r k (at process q n ≔ 0)
+  -- a page set, by call 19 or where its designator is given up
+  paged : {q n v : ℕ} → Acting r k q → pagesAt ≤ n → Wrote h r k (at process q n ≔ v)
   -- an object's holders counted, or the object freed; the process that call 2 releases cleared
   counted : {j : Kind} {i v : ℕ} → Object j → Wrote h r k (at j i (holders j) ≔ v)
   freed-word : {j : Kind} {i n : ℕ} → Object j → (n ≡ serial → ⊥) → Wrote h r k (at j i n ≔ 0)
@@ -118,10 +122,19 @@ module _ (h : List ℕ) (r : Addr → ℕ) (k : Call) where
   of-more : (q : Addr → ℕ) (p : ℕ) (j : Kind) → Object j → (s : ℕ) → Writes (oneMore h q p j s)
   of-more q p j o s = all-if (Wrote h r k) (inOwnCell h p j s) _ [] (λ e. also (counted o) nil) (λ e. nil)
 
+  of-pages : (p : ℕ) → Acting r k p → (f : ℕ → ℕ) → Writes (pagesSet p f)
+  unfolding pagesSet
+  of-pages p a f = all-tab (Wrote h r k) 0 pages _ (λ g lo hi. paged {n = pageAt g} a (omega arith))
+
+  of-cleared-pages : (q : Addr → ℕ) (j : Kind) (p : ℕ) → Acting r k p → (d : ℕ) → Writes (pagesCleared q j p d)
+  of-cleared-pages q process p a d = nil
+  of-cleared-pages q segment p a d = of-pages p a (pageLeft q p d)
+  of-cleared-pages q file p a d = nil
+
   of-given-up : (q : Addr → ℕ) (j : Kind) → Object j → (p : ℕ) → Acting r k p → (d s : ℕ) → d < entries → Writes (givenUp h q j p d s)
-  unfolding givenUp
-  of-given-up q j o p a d s l =
-      all-append _ (of-emptied j o p a d l) (all-if (Wrote h r k) (inOwnCell h p j s) (oneLess q j (indexOf s)) [] (λ e. of-less q j o (indexOf s)) (λ e. nil))
+  unfolding givenUp emptiedEntry
+  of-given-up q j o p a d s l = all-append _ (of-cleared-pages q j p a d)
+      (all-append _ (of-emptied j o p a d l) (all-if (Wrote h r k) (inOwnCell h p j s) (oneLess q j (indexOf s)) [] (λ e. of-less q j o (indexOf s)) (λ e. nil)))
 
   of-dropped : (q : Addr → ℕ) (j : Kind) → Object j → (p : ℕ) → Acting r k p → (d : ℕ) → d < entries → Writes (dropped h q j p d)
   unfolding dropped
@@ -194,7 +207,7 @@ module _ (h : List ℕ) (r : Addr → ℕ) (k : Call) where
 -- ---- every call
 
 pub writes : (h : List ℕ) (r : Addr → ℕ) (st : List ℕ) (k : Call) → Caller h r (k .caller) → Clear (ruleOf h r st k .refusals) → AllOf (Wrote h r k) (ruleOf h r st k .effects .words)
-unfolding releaseProcess buildSegment rendezvous releaseSegment setAccess create openFile close link unlink readBlock writeBlock accessOf
+unfolding releaseProcess buildSegment rendezvous releaseSegment setAccess create openFile close link unlink readBlock writeBlock accessOf remap pageAccess
 writes h r st k me =
     let p = k .caller in
     let P : Rule → Type 0 = λ x. Clear (x .refusals) → AllOf (Wrote h r k) (x .effects .words) in
@@ -217,5 +230,7 @@ writes h r st k me =
       call-16 = λ e ok. of-received h r k me e;
       call-17 = λ e. by-status h r k P (λ s j ok. nil);
       call-18 = λ e ok. nil;
+      call-19 = λ e ok. of-pages h r k p itself _;
+      call-20 = λ e ok. nil;
       other = λ ok. nil;
     })

@@ -1,16 +1,16 @@
 -- Call 2 writes in its own cell and reads in its own cell.
 use mathlib.Core.Path.{_≡_, refl, sym, ap, _∙_}
 use mathlib.Core.Bool.{Bool, true, false, cond}
-use mathlib.Core.List.{List}
+use mathlib.Core.List.{List, []}
 use Prim.Native.Nat.{ℕ, zero, suc, _≤_, _<_}
 use native.Mathlib.Omega.{arith}
 use lib.Dec.{leb, eqb}
 use borrow.Author.Tests.{lt-leb, eqb-false}
-use Rattle.rules.specs.Layout.{Kind, process, segment, file, slots, cellOf, Addr, at, entries, heldAt}
+use Rattle.rules.specs.Layout.{Kind, process, segment, file, slots, cellOf, Addr, at, entries, heldAt, pagesAt}
 use Rattle.rules.specs.Rule.{Word, over, sameAddr}
-use Rattle.rules.specs.Find.{freed, zeros, oneLess, givenUp}
+use Rattle.rules.specs.Find.{freed, zeros, oneLess, pagesSet, pagesCleared, emptied, givenUp}
 use Rattle.rules.specs.Call02.{dropped, droppedTo, released, releaseProcess}
-use Rattle.laws.proofs.Tests.{split, cond-true, cond-false}
+use Rattle.laws.proofs.Tests.{tests, split, cond-true, cond-false}
 use Rattle.laws.proofs.Object.{Object, no-process}
 use Rattle.laws.proofs.Places.{same-addr}
 use Rattle.laws.proofs.Written.{AllOf, nil, also, all-if, all-append, all-tab, over-at}
@@ -18,42 +18,58 @@ use Rattle.secrecy.proofs.Shown.{up-rules, alike-rules, Ups, WritesUp, 
 use Rattle.secrecy.proofs.View
 use Rattle.secrecy.proofs.Give.{up-freed, up-given, same-given}
 
--- ---- entries are given up one after the other, each on what those before it leave: no word of a process becomes anything but 0
+-- ---- entries are given up one after the other, each on what those before it leave: no word of a process but a page becomes anything but 0
 
 abbrev Clears : Word → Type 0
-Clears x = x .at .kind ≡ process → x .value ≡ 0
+Clears x = x .at .kind ≡ process → x .at .word < pagesAt → x .value ≡ 0
 
 clears-freed : (k : Kind) (i : ℕ) → AllOf Clears (freed k i)
 unfolding zeros
-clears-freed k i = also (λ e. refl) (all-tab _ _ _ _ (λ j lo hi e. refl))
+clears-freed k i = also (λ e l. refl) (all-tab _ _ _ _ (λ j lo hi e l. refl))
+
+clears-cleared : (r : Addr → ℕ) (k : Kind) (p d : ℕ) → AllOf Clears (pagesCleared r k p d)
+unfolding pagesSet
+clears-cleared r process p d = nil
+clears-cleared r segment p d = all-tab _ _ _ _ (λ g lo hi e l. absurd (omega arith))
+clears-cleared r file p d = nil
+
+clears-emptied : (h : List ℕ) (r : Addr → ℕ) (k : Kind) (q d s : ℕ) → Object k → AllOf Clears (emptied h r k q d s)
+unfolding emptied oneLess
+clears-emptied h r k q d s e =
+    let other : (x n : ℕ) → k ≡ process → n < pagesAt → x ≡ 0 = λ x n e′. absurd (no-process k e e′) in
+    search (all-if, also, nil, clears-freed, other) depth 8
 
 clears-dropped : (h : List ℕ) (r : Addr → ℕ) (k : Kind) (q d : ℕ) → Object k → AllOf Clears (dropped h r k q d)
-unfolding dropped givenUp oneLess
+unfolding dropped givenUp
 clears-dropped h r k q d e =
-    let other : (x : ℕ) → k ≡ process → x ≡ 0 = λ x n. absurd (no-process k e n) in
-    search (all-if, also, nil, clears-freed, other) depth 8
+    all-if _ (eqb (r (at process q (heldAt k d))) 0) [] _ (λ z. nil) (λ z. all-append _ (clears-cleared r k q d) (clears-emptied h r k q d _ e))
 
 clears-to : (h : List ℕ) (r : Addr → ℕ) (k : Kind) (q n : ℕ) → Object k → AllOf Clears (droppedTo h r k q n)
 unfolding droppedTo
 clears-to h r k q zero e = nil
 clears-to h r k q (suc n) e = all-append _ (clears-to h r k q n e) (clears-dropped h (over r (droppedTo h r k q n)) k q n e)
 
-over-some : {ws : List Word} (a : Addr) → a .kind ≡ process → AllOf Clears ws → (r : Addr → ℕ) → eqb (over r ws a) 0 ≡ false → over r ws a ≡ r a
+over-some : {ws : List Word} (a : Addr) → a .kind ≡ process → a .word < pagesAt → AllOf Clears ws → (r : Addr → ℕ) → eqb (over r ws a) 0 ≡ false → over r ws a ≡ r a
 unfolding over
-over-some a e nil r n = refl
-over-some a e (also {x = x} {xs = xs} c cs) r n =
+over-some a e l nil r n = refl
+over-some a e l (also {x = x} {xs = xs} c cs) r n =
     let r′ : Addr → ℕ = λ b. cond (sameAddr b (x .at)) (x .value) (r b) in
-    let here : over r′ xs a ≡ r′ a = over-some a e cs r′ n in
+    let here : over r′ xs a ≡ r′ a = over-some a e l cs r′ n in
     split (over r′ xs a ≡ r a) (sameAddr a (x .at))
-    (λ s. absurd (eqb-false (over r′ xs a) 0 n (here ∙ cond-true (sameAddr a (x .at)) (x .value) (r a) s ∙ c (sym (ap (λ (b : Addr). b .kind) (same-addr a (x .at) s)) ∙ e))))
+    (λ s. absurd (eqb-false (over r′ xs a) 0 n (here ∙ cond-true (sameAddr a (x .at)) (x .value) (r a) s ∙ c (sym (ap (λ (b : Addr). b .kind) (same-addr a (x .at) s)) ∙ e) (rw (same-addr a (x .at) s) at l))))
     (λ s. here ∙ cond-false (sameAddr a (x .at)) (x .value) (r a) s)
+
+held-low : (k : Kind) (d : ℕ) → Object k → leb entries d ≡ false → heldAt k d < pagesAt
+held-low process d o l = absurd o
+held-low segment d o l = omega (arith, tests)
+held-low file d o l = omega (arith, tests)
 
 here-over : {h : List ℕ} {p : ℕ} {r : Addr → ℕ} {ws : List Word} → AllOf Clears ws → View.Here h p r → View.Here h p (over r ws)
 here-over {h} {p} {r} {ws} c v = record {
   shape = v .shape;
   there = v .there;
   reaching = λ p k d pp e l n.
-      let same : over r ws (at process p (heldAt k d)) ≡ r (at process p (heldAt k d)) = over-some (at process p (heldAt k d)) refl c r n in
+      let same : over r ws (at process p (heldAt k d)) ≡ r (at process p (heldAt k d)) = over-some (at process p (heldAt k d)) refl (held-low k d e l) c r n in
       rw same (v .reaching p k d pp e l (rw same at n));
 }
 

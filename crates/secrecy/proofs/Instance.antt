@@ -2,7 +2,7 @@
 use mathlib.Core.Path.{_≡_, refl}
 use mathlib.Core.Bool.{true, false}
 use mathlib.Core.List.{List, [], _∷_, _++_}
-use Prim.Native.Nat.{ℕ}
+use Prim.Native.Nat.{ℕ, _+_, _*_}
 use native.Mathlib.Omega.{arith}
 use lib.Dec.{ltb}
 use lib.ListN.{length, replicate}
@@ -14,9 +14,9 @@ use Rattle.rules.specs.Layout.{Kind, process, file, recordWords, live, serial, 
 use Rattle.rules.specs.Seid.{seid, classOf, indexOf, serialOf, isSeid, seidAt, orSelf, present}
 use Rattle.rules.specs.Modes.{validModes, reads, writes, excludesReaders, excludesWriters, clash}
 use Rattle.rules.specs.Rights.{rights, mayRead, mayWrite, lacks, asksRead, asksWrite, validAccess, access}
-use Rattle.rules.specs.WellFormed.{headerOk, cellOk, levelsDistinct, sumsMatch, configured, lengthsExact, recordOk, heldOk, currentOk, entryOk, parentOk, heldOnce, messageOk, processOk, ownEntry, ownEntries, segmentSize, segmentOk, fileOk, recordsOk, wellFormed}
+use Rattle.rules.specs.WellFormed.{headerOk, cellOk, levelsDistinct, sumsMatch, configured, lengthsExact, recordOk, heldOk, currentOk, entryOk, parentOk, heldOnce, messageOk, pageOk, processOk, ownEntry, ownEntries, segmentSize, segmentOk, fileOk, recordsOk, wellFormed}
 use Rattle.rules.specs.SetUp.{canSetUp, firstProcesses, freshTable, setUpTable}
-use Rattle.rules.specs.Find.{rightsAt, freeSlot, freeEntry, zeros, oneLess, givenUp}
+use Rattle.rules.specs.Find.{rightsAt, freeSlot, freeEntry, zeros, oneLess, pageLeft, pagesSet, emptied, givenUp}
 use Rattle.rules.specs.Call07.{create}
 use Rattle.rules.specs.Call08.{clashesAt, clashes, openFile}
 use Rattle.rules.specs.Call09.{close}
@@ -35,7 +35,7 @@ use Rattle.secrecy.proofs.Demand3.{one-observer}
 
 -- the rules' definitions that the examples compute with: to open this is to open them
 open-rules : Unit {0}
-unfolding freshTable firstProcesses allBelow someBelow sumBelow countBelow lowest orRather least tabFrom part within equals flowsTo cells slots blocks cellWord levelOf configuration firstSlot cellOf flows rd seid classOf indexOf serialOf isSeid seidAt orSelf present validModes reads writes excludesReaders excludesWriters clash rights mayRead mayWrite lacks asksRead asksWrite validAccess access headerOk cellOk levelsDistinct sumsMatch configured lengthsExact recordOk heldOk currentOk entryOk parentOk heldOnce messageOk processOk ownEntry ownEntries segmentSize segmentOk fileOk recordsOk wellFormed rightsAt freeSlot freeEntry zeros oneLess givenUp create clashesAt clashes openFile close block readBlock ruleOf badCaller badCode carriedOut wholeRule step reply stays remaining replies
+unfolding freshTable firstProcesses allBelow someBelow sumBelow countBelow lowest orRather least tabFrom part within equals flowsTo cells slots blocks cellWord levelOf configuration firstSlot cellOf flows rd seid classOf indexOf serialOf isSeid seidAt orSelf present validModes reads writes excludesReaders excludesWriters clash rights mayRead mayWrite lacks asksRead asksWrite validAccess access headerOk cellOk levelsDistinct sumsMatch configured lengthsExact recordOk heldOk currentOk entryOk parentOk heldOnce messageOk pageOk processOk ownEntry ownEntries segmentSize segmentOk fileOk recordsOk wellFormed rightsAt freeSlot freeEntry zeros oneLess pageLeft pagesSet emptied givenUp create clashesAt clashes openFile close block readBlock ruleOf badCaller badCode carriedOut wholeRule step reply stays remaining replies
 open-rules = tt
 
 -- "Two cells, security 1 and 3, integrity, compartments, owner and group 0, two process and two file slots each, no segment slots, B 1."
@@ -47,7 +47,7 @@ unfoldable pub fresh : State
 fresh = record { table = freshTable hall; store = replicate 2048 0 }
 
 -- as set-up leaves it, whatever stood there
-pub set-up-gives : setUpTable (hall ++ replicate 448 9) 2048 ≡ fresh .table
+pub set-up-gives : setUpTable (hall ++ replicate (recordWords process * 4 + recordWords file * 4) 9) 2048 ≡ fresh .table
 unfolding hall fresh canSetUp setUpTable open-rules
 set-up-gives = refl
 

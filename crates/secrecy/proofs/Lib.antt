@@ -23,6 +23,8 @@ pub mod Flow15
 pub mod Flow16
 pub mod Flow17
 pub mod Flow18
+pub mod Flow19
+pub mod Flow20
 pub mod Apply
 pub mod Steps
 pub mod Runs

@@ -38,6 +38,8 @@ use Rattle.secrecy.proofs.Flow15.{up15, alike15}
 use Rattle.secrecy.proofs.Flow16.{up16, alike16}
 use Rattle.secrecy.proofs.Flow17.{up17, alike17}
 use Rattle.secrecy.proofs.Flow18.{up18, alike18}
+use Rattle.secrecy.proofs.Flow19.{up19, alike19}
+use Rattle.secrecy.proofs.Flow20.{up20, alike20}
 
 -- ---- the rule of every code
 
@@ -61,6 +63,8 @@ up-code {h} {r} k v w st = by-code h k (λ f. WritesUp h (cellOf h process (k .c
   call-16 = λ e. up16 v (k .buffer);
   call-17 = λ e. up17 v (k .a) (k .buffer);
   call-18 = λ e. up18 v (k .a) (k .buffer);
+  call-19 = λ e. up19 v (k .a) (k .b) (k .c) (k .buffer);
+  call-20 = λ e. up20 v (k .a) (k .buffer);
   other = up-effect nil nil;
 })
 
@@ -85,6 +89,8 @@ alike-code {h} {C} {r} {q} k v s t same seen = by-code h k (λ f. Alike h C (f r
   call-16 = λ e. alike16 v (k .buffer);
   call-17 = λ e. alike17 v (k .a) (k .buffer);
   call-18 = λ e. alike18 v (k .a) (k .buffer);
+  call-19 = λ e. alike19 v (k .a) (k .b) (k .c) (k .buffer);
+  call-20 = λ e. alike20 v (k .a) (k .buffer);
   other = alike-effect (same-effect refl);
 })
 

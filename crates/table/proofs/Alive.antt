@@ -1,23 +1,23 @@
--- A live process: its parent, its designators, its messages.
+-- A live process: its parent, its designators, its messages, its pages.
 use mathlib.Core.Path.{_≡_, refl, sym, _∙_}
 use mathlib.Core.Bool.{Bool, true, false, _&&_, _||_, not}
 use mathlib.Core.List.{List}
-use Prim.Native.Nat.{ℕ, _≤_, _<_}
+use Prim.Native.Nat.{ℕ, _-_, _≤_, _<_}
 use native.Mathlib.Omega.{arith}
 use borrow.Author.Tests.{eq-eqb, ne-eqb, lt-ltb, le-ltb, lt-leb, le-leb}
 use lib.Dec.{leb, ltb, eqb}
 use Rattle.rules.specs.Words.{allBelow}
 use Rattle.rules.specs.Claim.{Claim, test, is, each}
-use Rattle.rules.specs.Layout.{Kind, process, segment, file, slots, cellOf, configuration, Addr, at, rd, live, parent, queue, zero6, zero7, entries, heldAt, usedAt, messages, messageAt, messageWords}
+use Rattle.rules.specs.Layout.{Kind, process, segment, file, slots, cellOf, configuration, Addr, at, rd, live, parent, queue, zero6, zero7, entries, heldAt, usedAt, messages, messageAt, messageWords, pages, pageAt}
 use Rattle.rules.specs.Seid.{class, serialOf}
-use Rattle.rules.specs.WellFormed.{recordOk, heldOk, entryOk, parentOk, heldOnce, messageOk, processOk}
+use Rattle.rules.specs.WellFormed.{recordOk, heldOk, entryOk, parentOk, heldOnce, messageOk, pageOk, processOk}
 use Rattle.laws.proofs.Below.{all-of}
 use Rattle.laws.proofs.Claims.{holds, tested}
 use Rattle.laws.proofs.Shape.{record-of}
 use Rattle.layout.specs.declared.Header.{Header}
 use Rattle.table.specs.Shape.{RecordAt, Shaped}
 use Rattle.table.specs.Entries.{recordAt, Indexed, fresh}
-use Rattle.table.proofs.Config.{and-true}
+use Rattle.table.proofs.Config.{and-true, base-read}
 use Rattle.table.proofs.Holders.{index-out, index-in}
 use Rattle.table.proofs.Record.{record-claim, dead-record}
 
@@ -57,6 +57,23 @@ module _ (h : List ℕ) (r : Addr → ℕ) (p m : ℕ) where
   unfolding messageOk
   message-unused l = rw (le-ltb m (r (at process p queue)) l, le-leb (r (at process p queue)) m l)
 
+-- ---- its pages
+
+module _ (r : Addr → ℕ) (p g : ℕ) where
+  pub page-free : r (at process p (pageAt g)) ≡ 0 → test (pageOk r p g) ≡ true
+  unfolding pageOk
+  page-free e = rw (eq-eqb (r (at process p (pageAt g))) 0 e)
+
+  module _ (some : r (at process p (pageAt g)) ≡ 0 → ⊥) where
+    pub page-beyond : entries < r (at process p (pageAt g)) → test (pageOk r p g) ≡ false
+    unfolding pageOk
+    page-beyond l = rw (ne-eqb (r (at process p (pageAt g))) 0 some, lt-leb (r (at process p (pageAt g))) entries l)
+
+    pub page-held : r (at process p (pageAt g)) ≤ entries
+        → not (eqb (r (at process p (heldAt segment (r (at process p (pageAt g)) - 1)))) 0) ≡ test (pageOk r p g)
+    unfolding pageOk
+    page-held l = rw (ne-eqb (r (at process p (pageAt g))) 0 some, le-leb (r (at process p (pageAt g))) entries l)
+
 -- ---- the whole
 
 -- the entries of process p for objects of kind k
@@ -68,8 +85,12 @@ and-assoc true b c = refl
 and-assoc false b c = refl
 
 module _ (t : List ℕ) (n : Header) (shaped : Shaped t n) (p place : ℕ) (lies : RecordAt n process p place) where
+  pages-read : test (each pages (pageOk (recordAt t place) 0)) ≡ test (each pages (pageOk (rd (configuration t) t) p))
+  unfolding pageOk rd
+  pages-read = rw (lies .at-is, base-read t n (shaped .framed .header) process)
+
   -- of a live process, from what each of its tests says
-  pub live-process : (b₀ b₁ b₂ b₃ b₄ b₅ b₆ : Bool)
+  pub live-process : (b₀ b₁ b₂ b₃ b₄ b₅ b₆ b₇ : Bool)
       → b₀ ≡ test (parentOk (configuration t) (cellOf (configuration t) process p) (rd (configuration t) t (at process p parent)))
       → b₁ ≡ leb (rd (configuration t) t (at process p queue)) messages
       → b₂ ≡ eqb (rd (configuration t) t (at process p zero6)) 0
@@ -77,11 +98,12 @@ module _ (t : List ℕ) (n : Header) (shaped : Shaped t n) (p place : ℕ) (lies
       → b₄ ≡ test (entriesOk (configuration t) (rd (configuration t) t) file p)
       → b₅ ≡ test (entriesOk (configuration t) (rd (configuration t) t) segment p) && test (heldOnce (rd (configuration t) t) p)
       → b₆ ≡ test (each messages (messageOk (configuration t) (rd (configuration t) t) p))
-      → test (recordOk (recordAt t place) process 0 (is (b₀ && (b₁ && (b₂ && (b₃ && (b₄ && (b₅ && b₆))))))))
+      → b₇ ≡ test (each pages (pageOk (recordAt t place) 0))
+      → test (recordOk (recordAt t place) process 0 (is (b₀ && (b₁ && (b₂ && (b₃ && (b₄ && (b₅ && (b₆ && b₇)))))))))
       ≡ test (processOk (configuration t) (rd (configuration t) t) p)
   unfolding processOk
-  live-process b₀ b₁ b₂ b₃ b₄ b₅ b₆ e₀ e₁ e₂ e₃ e₄ e₅ e₆ =
-      rw (e₀, e₁, e₂, e₃, e₄, e₅, e₆, and-assoc) (record-claim t n shaped process p place _ lies)
+  live-process b₀ b₁ b₂ b₃ b₄ b₅ b₆ b₇ e₀ e₁ e₂ e₃ e₄ e₅ e₆ e₇ =
+      rw (e₀, e₁, e₂, e₃, e₄, e₅, e₆, e₇ ∙ pages-read, and-assoc) (record-claim t n shaped process p place _ lies)
 
   -- of any other, whatever is said of a live one
   pub dead-process : (rd (configuration t) t (at process p live) ≡ 1 → ⊥) → (b : Bool)

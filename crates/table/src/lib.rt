@@ -2,6 +2,7 @@
 mod held;
 mod objects;
 mod once;
+mod pages;
 mod places;
 mod process;
 mod records;

@@ -1,4 +1,4 @@
-// Processes: their parents, their entries and their messages.
+// Processes: their parents, their entries, their messages and their pages.
 ghost use mathlib.Core.Path.{_≡_};
 ghost use mathlib.Core.Bool.{true, _&&_};
 ghost use Prim.Native.Nat.{_+_, _*_, _≤_, _<_};
@@ -12,6 +12,7 @@ ghost use Rattle.table.specs.Shape.{Shaped, CellsOf};
 ghost use Rattle.table.specs.Entries.{heldWord, usedWord, names, fresh, Countable, Counts, Counted, Tally};
 use crate::held;
 use crate::once;
+use crate::pages;
 use crate::places;
 use crate::records;
 use crate::runs;
@@ -189,7 +190,7 @@ fn process_ok(
                                 designators,
                                 references,
                             )
-                                & messages_ok(t, n, cells, flow, p))))));
+                                & (messages_ok(t, n, cells, flow, p) & pages::pages_ok(t, at)))))));
         return records::record_ok(t, Kind::Process, at, alive);
     }
     records::record_ok(t, Kind::Process, at, true)

@@ -12,7 +12,7 @@ ghost use Rattle.text.specs.Names.{errors, padded};
 use rules::XOK;
 
 // The names of the errors, by number, each filled up with spaces.
-const NAMES: [[u8; 16]; 30] = [
+const NAMES: [[u8; 16]; 33] = [
     *b"XOK             ",
     *b"XbTab           ",
     *b"XbPrSd          ",
@@ -43,10 +43,13 @@ const NAMES: [[u8; 16]; 30] = [
     *b"XnoProc         ",
     *b"XpostEh         ",
     *b"XbNoMes         ",
+    *b"XoutSgAldUmp    ",
+    *b"XinSgAldMap     ",
+    *b"XvrtMmCfl       ",
 ];
 
 // How long each name is.
-const LENGTHS: [usize; 30] = [
+const LENGTHS: [usize; 33] = [
     3,
     5,
     6,
@@ -77,6 +80,9 @@ const LENGTHS: [usize; 30] = [
     7,
     7,
     7,
+    12,
+    11,
+    9,
 ];
 
 fn name_row(n: u32) -> [u8; 16]
@@ -97,7 +103,7 @@ fn name_length(n: u32) -> usize
 pub fn put_error_name(out: &mut [u8], at: usize, n: u32) -> usize
     ensures { λ r. ⌜ Wrote (now (out .entry)) at (errorName n) r (now (out .exit)) ⌝ }
 {
-    if 30 <= n {
+    if 33 <= n {
         return at;
     }
     let row = name_row(n);

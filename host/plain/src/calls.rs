@@ -1,4 +1,4 @@
-//! The eighteen calls. Each looks for its refusals first, in document 01's order, and writes only after the last of them.
+//! The calls. Each looks for its refusals first, in the documents' order, and writes only after the last of them.
 
 use crate::errors::Error::{self, *};
 use crate::seid::{Kind, Seid};
@@ -72,6 +72,8 @@ fn outcome(table: &mut [u32], store: &mut [u8], request: &Request, buffer: &mut 
         16 => caller.receive(buffer),
         17 => caller.status(a, buffer),
         18 => caller.access(a),
+        19 => caller.remap(a, b, c),
+        20 => caller.page_access(a),
         _ => Err(XbdKcl),
     }
 }
@@ -99,6 +101,13 @@ struct Object {
 
 fn refuse_if(test: bool, error: Error) -> Result<(), Error> {
     if test { Err(error) } else { Ok(()) }
+}
+
+/// Empties the pages of a designator.
+fn unmap(map: &mut [u32], designator: u32) {
+    for page in map.iter_mut().filter(|page| **page == designator + 1) {
+        *page = 0;
+    }
 }
 
 /// Only five mode numbers are valid.
@@ -319,6 +328,7 @@ impl Caller<'_> {
     fn release_segment(&mut self, designator: u32) -> Outcome {
         self.designator(designator)?;
         self.give_up(Kind::Segment, self.entry_at(DESIGNATORS, designator as usize));
+        unmap(self.map(), designator);
         DONE
     }
 
@@ -336,6 +346,46 @@ impl Caller<'_> {
         let (seid, access) = self.designator(designator)?;
         let object = self.object(Kind::Segment, seid).ok_or(XbSgSd)?;
         Ok((access & self.granted(object), 0))
+    }
+
+    // The address map.
+
+    /// The caller's pages.
+    fn map(&mut self) -> &mut [u32; PAGES] {
+        self.table[self.at + MAP..].first_chunk_mut().expect("a record ends with its map")
+    }
+
+    /// Takes one segment out of the map, if any, then brings one in, if any. The map is written when nothing is refused any more.
+    fn remap(&mut self, incoming: u32, first: u32, outgoing: u32) -> Outcome {
+        const NONE: u32 = ENTRIES as u32;
+        refuse_if(incoming > NONE || outgoing > NONE, XnSgDes)?;
+        let coming = if incoming == NONE { None } else { Some(self.designator(incoming)?.0) };
+        let going = if outgoing == NONE { None } else { Some(self.designator(outgoing)?.0) };
+        let coming = match coming {
+            Some(seid) => Some(self.object(Kind::Segment, seid).ok_or(XbSgSd)?),
+            None => None,
+        };
+        let mut map = *self.map();
+        if going.is_some() {
+            refuse_if(!map.contains(&(outgoing + 1)), XoutSgAldUmp)?;
+            unmap(&mut map, outgoing);
+        }
+        if let Some(segment) = coming {
+            refuse_if(map.contains(&(incoming + 1)), XinSgAldMap)?;
+            let pages = self.word(segment, SIZE).div_ceil(PAGE_BYTES) as usize;
+            let run = (first as usize).checked_add(pages).and_then(|end| map.get_mut(first as usize..end));
+            let run = run.filter(|run| run.iter().all(|&page| page == 0)).ok_or(XvrtMmCfl)?;
+            run.fill(incoming + 1);
+        }
+        *self.map() = map;
+        DONE
+    }
+
+    fn page_access(&mut self, page: u32) -> Outcome {
+        refuse_if(page as usize >= PAGES, XbParam)?;
+        let mapped = self.map()[page as usize];
+        refuse_if(mapped == 0, XbSgDes)?;
+        self.access(mapped - 1)
     }
 
     // Files.
@@ -475,7 +525,7 @@ impl Caller<'_> {
         refuse_if(buffer.len() != 16, XbSz)?;
         refuse_if(self.table[self.at + QUEUED] == 0, XbNoMes)?;
         self.table[self.at + QUEUED] -= 1;
-        let messages = &mut self.table[self.at + MESSAGES..self.at + PROCESS_WORDS];
+        let messages = &mut self.table[self.at + MESSAGES..self.at + MAP];
         for (bytes, word) in buffer.chunks_exact_mut(4).zip(&*messages) {
             bytes.copy_from_slice(&word.to_be_bytes());
         }

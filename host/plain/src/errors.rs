@@ -1,4 +1,4 @@
-//! The error numbers. The variants are spelled as in document 01's table, so that `{:?}` writes an error's name.
+//! The error numbers. The variants are spelled as in the documents, so that `{:?}` writes an error's name.
 
 #[derive(Clone, Copy, Debug, PartialEq, Eq)]
 #[repr(u32)]
@@ -33,4 +33,7 @@ pub enum Error {
     XnoProc = 27,
     XpostEh = 28,
     XbNoMes = 29,
+    XoutSgAldUmp = 30,
+    XinSgAldMap = 31,
+    XvrtMmCfl = 32,
 }

@@ -14,7 +14,7 @@ pub const MAX_LINKS: u32 = 255;
 
 pub const HEADER_WORDS: usize = 8;
 pub const CELL_WORDS: usize = 8;
-pub const PROCESS_WORDS: usize = 104;
+pub const PROCESS_WORDS: usize = 112;
 pub const SEGMENT_WORDS: usize = 8;
 pub const FILE_WORDS: usize = 8;
 pub const BLOCK_BYTES: usize = 512;
@@ -24,6 +24,9 @@ pub const ENTRIES: usize = 16;
 pub const QUEUE: usize = 8;
 pub const ENTRY_WORDS: usize = 2;
 pub const MESSAGE_WORDS: usize = 4;
+/// The pages of a process's map.
+pub const PAGES: usize = 8;
+pub const PAGE_BYTES: u32 = 8192;
 
 // Words that stand at one place in all three kinds of record.
 pub const LIVE: usize = 0;
@@ -36,6 +39,8 @@ pub const QUEUED: usize = 5;
 pub const DESCRIPTORS: usize = 8;
 pub const DESIGNATORS: usize = DESCRIPTORS + ENTRIES * ENTRY_WORDS;
 pub const MESSAGES: usize = DESIGNATORS + ENTRIES * ENTRY_WORDS;
+/// The map: a word for each page, 0 or designator + 1.
+pub const MAP: usize = MESSAGES + QUEUE * MESSAGE_WORDS;
 // Segments and files.
 pub const BITS: usize = 4;
 pub const SHARABLE: usize = 5;
@@ -254,7 +259,8 @@ impl Pass<'_> {
             && record[QUEUED + 1..DESCRIPTORS] == [0; 2]
             && self.descriptors(&record[DESCRIPTORS..DESIGNATORS], cell)
             && self.designators(&record[DESIGNATORS..MESSAGES], cell)
-            && self.messages(&record[MESSAGES..], queued, cell)
+            && self.messages(&record[MESSAGES..MAP], queued, cell)
+            && record[MAP..].iter().all(|&page| page == 0 || filled(record, page as usize - 1))
     }
 
     fn parent(&self, parent: u32, cell: usize) -> bool {
@@ -344,6 +350,11 @@ impl Pass<'_> {
             && record[HOLDS] == self.holds[Kind::File as usize][f]
             && record[LINKS] + record[HOLDS] >= 1
     }
+}
+
+/// Whether a process holds something at a designator.
+fn filled(process: &[u32], designator: usize) -> bool {
+    designator < ENTRIES && process[DESIGNATORS + ENTRY_WORDS * designator] != 0
 }
 
 /// Serial, owner and group of a live record.

@@ -57,7 +57,7 @@ fn the_listing() {
 fn error_names() {
     let names = "XOK XbTab XbPrSd XbdKcl XbParam XbSz XbSgSz XbadModes XnSgDes XbSgDes XbadOd XbSgSd XnoObj XnoAcc XnoOwner \
                  XnoPriv XdapViol XsgNoAcc XdupSg Xbusy XnotReadable XnotWritable XbadBlockNo XendOfFile XbadLink XodSpace \
-                 XnoSpace XnoProc XpostEh XbNoMes";
+                 XnoSpace XnoProc XpostEh XbNoMes XoutSgAldUmp XinSgAldMap XvrtMmCfl";
     let errors = [
         XOK,
         XbTab,
@@ -89,6 +89,9 @@ fn error_names() {
         XnoProc,
         XpostEh,
         XbNoMes,
+        XoutSgAldUmp,
+        XinSgAldMap,
+        XvrtMmCfl,
     ];
     assert_eq!(names.split_whitespace().count(), errors.len());
     for (at, (name, error)) in names.split_whitespace().zip(errors).enumerate() {
@@ -272,12 +275,12 @@ fn tempting_all_bits_do_not_help_an_owner() {
 #[test]
 fn order_for_all_calls() {
     let mut hall = Hall::two_levels();
-    for code in [0, 19, 20, u32::MAX] {
+    for code in [0, 21, 22, u32::MAX] {
         assert_eq!(hall.error(0, code, [0; 3]), XbdKcl);
         assert_eq!(hall.error(1, code, [0; 3]), XbPrSd, "not live");
         assert_eq!(hall.error(6, code, [0; 3]), XbPrSd, "out of range");
     }
-    for code in 0..20 {
+    for code in 0..22 {
         let mut short = hall.clone();
         short.table.pop();
         assert_eq!(short.error(9, code, [0; 3]), XbTab);

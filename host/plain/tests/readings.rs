@@ -89,7 +89,7 @@ fn r05_spawn() {
     hall.done(0, CREATE, [420, 1, 0]);
     assert_eq!(hall.done(0, SPAWN, [7, 7, 9]), (process(1, 1), 0));
     let mut expected = vec![1, 1, 7, 7, process(0, 1)];
-    expected.resize(104, 0);
+    expected.resize(112, 0);
     assert_eq!(hall.process(1), expected);
     // Owner 0 may give any; the order is 4, 15, 27.
     let mut hall = Hall::new(&[[0, 0, 0, 2, 0, 0, 0, 3]], 1);
@@ -393,7 +393,7 @@ fn r19_r20_r24_setup() {
     assert_eq!(setup(&mut hall.table, 2 * 64 * 512), XOK);
     assert_eq!(hall.process(0)[..6], [1, 1, 3, 4, 0, 0]);
     assert_eq!(hall.process(1)[..6], [1, 1, 65535, 65535, 0, 0]);
-    let rest: Vec<u32> = [&hall.table[records + 6..records + 104], &hall.table[records + 104 + 6..]].concat();
+    let rest: Vec<u32> = [&hall.table[records + 6..records + 112], &hall.table[records + 112 + 6..]].concat();
     assert!(rest.iter().all(|&word| word == 0), "every other record word is 0");
     assert!(hall.store.iter().all(|&byte| byte == 0x77), "the store isn't touched");
     assert!(hall.good());

@@ -43,3 +43,139 @@ fn r13_wear_from_set_up() {
         assert!(serials.iter().max().unwrap() - serials.iter().min().unwrap() <= 1, "{serials:?}");
     }
 }
+
+/// One cell; process 0 holds segments of 1, 2 and 8 pages by its designators 0, 1 and 2. Process 1 is above and holds the first.
+fn mapped() -> Hall {
+    let mut hall = Hall::new(&[[1, 0, 0, 2, 4, 1, 0, 0], [3, 0, 0, 1, 1, 0, 0, 0]], 1);
+    for size in [8192, 8704, 65024] {
+        hall.done(0, BUILD, [size, 0o644, 1]);
+    }
+    hall.done(2, RENDEZVOUS, [segment(0, 1), 256, 0]);
+    hall
+}
+
+const NONE: u32 = 16;
+
+fn map(hall: &mut Hall, index: usize) -> [u32; 8] {
+    hall.process(index)[104..112].try_into().unwrap()
+}
+
+#[test]
+fn r01_pages() {
+    for (size, pages) in [(512, 1), (8192, 1), (8704, 2), (16384, 2), (16896, 3), (57344, 7), (57856, 8), (65024, 8)] {
+        let mut hall = Hall::new(&[[0, 0, 0, 1, 1, 0, 0, 0]], 1);
+        hall.done(0, BUILD, [size, 0, 0]);
+        for first in 0..9 {
+            let mut hall = hall.clone();
+            let error = hall.error(0, REMAP, [0, first, NONE]);
+            assert_eq!(error, if first + pages <= 8 { XOK } else { XvrtMmCfl }, "{size} from page {first} on");
+            let expected: Vec<u32> =
+                (0..8).map(|page| u32::from(error == XOK && (first..first + pages).contains(&page))).collect();
+            assert_eq!(map(&mut hall, 0).to_vec(), expected);
+        }
+    }
+}
+
+#[test]
+fn r02_well_formed_maps() {
+    let mut hall = mapped();
+    hall.process(0)[104..112].copy_from_slice(&[3, 0, 1, 3, 1, 2, 0, 3]);
+    assert!(hall.good(), "pages may lie anywhere");
+    hall.done(0, REMAP, [NONE, 0, 2]);
+    assert_eq!(map(&mut hall, 0), [0, 0, 1, 0, 1, 2, 0, 0], "every page of it leaves");
+    for bad in [4, 16, 17, u32::MAX] {
+        hall.process(0)[104] = bad;
+        assert!(!hall.good(), "{bad}: no filled entry");
+    }
+    let mut hall = mapped();
+    hall.process(1)[104] = 1;
+    assert!(!hall.good(), "not live");
+}
+
+#[test]
+fn r03_remap_in_order() {
+    let mut hall = mapped();
+    hall.done(0, RELEASE_SEGMENT, [0; 3]);
+    // Process 2's entry is stale now; its own empty entries are 1 to 15.
+    for (arguments, error) in [
+        ([17, 0, 17], XnSgDes),
+        ([1, 0, 17], XnSgDes), // 8 before 9, also where the incoming entry is empty
+        ([17, 0, 1], XnSgDes),
+        ([1, 0, 1], XbSgDes),
+        ([0, 0, 1], XbSgDes), // 9 of the outgoing before 11 of the incoming
+        ([0, 99, 0], XbSgSd), // 11 before 30
+        ([0, 99, NONE], XbSgSd),
+        ([NONE, 0, 0], XoutSgAldUmp),
+    ] {
+        assert_eq!(hall.error(2, REMAP, arguments), error, "{arguments:?}");
+    }
+    let mut hall = mapped();
+    hall.done(0, REMAP, [0, 7, NONE]);
+    for (arguments, error) in [
+        ([0, 99, 1], XoutSgAldUmp),   // 30 before 31
+        ([0, 99, NONE], XinSgAldMap), // 31 before 32
+        ([1, 7, NONE], XvrtMmCfl),
+        ([1, 6, NONE], XvrtMmCfl),
+        ([2, 0, NONE], XvrtMmCfl),
+        ([1, 8, NONE], XvrtMmCfl),
+        ([1, u32::MAX, NONE], XvrtMmCfl), // never 8, and no sum that wraps
+        ([1, u32::MAX - 1, NONE], XvrtMmCfl),
+        ([2, 1, 0], XvrtMmCfl),
+    ] {
+        assert_eq!(hall.error(0, REMAP, arguments), error, "{arguments:?}");
+        assert_eq!(map(&mut hall, 0), [0, 0, 0, 0, 0, 0, 0, 1]);
+    }
+    assert_eq!(hall.done(0, REMAP, [NONE, 99, NONE]), (0, 0));
+    assert_eq!(hall.done(0, REMAP, [2, 0, 0]), (0, 0), "the outgoing one leaves first");
+    assert_eq!(map(&mut hall, 0), [3; 8]);
+    assert_eq!(hall.done(0, REMAP, [NONE, 99, 2]), (0, 0), "without an incoming one the page is ignored");
+    assert_eq!(map(&mut hall, 0), [0; 8]);
+}
+
+#[test]
+fn r04_a_segment_moves() {
+    let mut hall = mapped();
+    assert_eq!(hall.error(0, REMAP, [1, 0, 1]), XoutSgAldUmp);
+    hall.done(0, REMAP, [1, 0, NONE]);
+    hall.done(0, REMAP, [1, 1, 1]);
+    assert_eq!(map(&mut hall, 0), [0, 2, 2, 0, 0, 0, 0, 0], "over its own old pages");
+    hall.done(0, REMAP, [1, 6, 1]);
+    assert_eq!(hall.error(0, REMAP, [1, 7, 1]), XvrtMmCfl);
+    assert_eq!(map(&mut hall, 0), [0, 0, 0, 0, 0, 0, 2, 2], "a refusal leaves it where it was");
+}
+
+#[test]
+fn r05_stale_pages() {
+    let mut hall = mapped();
+    hall.done(2, REMAP, [0, 3, NONE]);
+    hall.done(0, RELEASE_SEGMENT, [0; 3]);
+    assert_eq!(map(&mut hall, 2), [0, 0, 0, 1, 0, 0, 0, 0], "nobody's map is touched");
+    assert_eq!(hall.error(2, PAGE_ACCESS, [3, 0, 0]), XbSgSd);
+    assert_eq!(hall.done(2, BUILD, [512, 0o600, 0]).1, 1);
+    assert_eq!(hall.error(2, REMAP, [1, 3, NONE]), XvrtMmCfl, "its page stays used");
+    assert_eq!(hall.done(2, REMAP, [1, 3, 0]), (0, 0), "until it goes out");
+    assert_eq!(map(&mut hall, 2), [0, 0, 0, 2, 0, 0, 0, 0]);
+    hall.done(2, RELEASE_SEGMENT, [1, 0, 0]);
+    assert_eq!(map(&mut hall, 2), [0; 8], "or is given up");
+}
+
+#[test]
+fn r06_no_access_is_asked() {
+    let mut hall = mapped();
+    hall.done(0, SET_ACCESS, [1, 0, 0]);
+    hall.done(0, SET_BITS, [segment(1, 1), 0, 0]);
+    hall.done(0, REMAP, [1, 2, NONE]);
+    assert_eq!(hall.done(0, PAGE_ACCESS, [3, 0, 0]), (0, 0));
+    hall.done(0, REMAP, [0, 0, NONE]);
+    assert_eq!(hall.done(0, PAGE_ACCESS, [0, 0, 0]), (384, 0));
+    hall.done(0, SET_BITS, [segment(0, 1), 0o444, 0]);
+    assert_eq!(hall.done(0, PAGE_ACCESS, [0, 0, 0]), (256, 0), "as call 18, by today's bits");
+    for page in [8, 9, u32::MAX] {
+        assert_eq!(hall.error(0, PAGE_ACCESS, [page, 0, 0]), XbParam);
+    }
+    assert_eq!(hall.error(0, PAGE_ACCESS, [1, 0, 0]), XbSgDes);
+    hall.done(0, SPAWN, [0, 0, 0]);
+    assert_eq!(map(&mut hall, 1), [0; 8], "a child's map is empty");
+    hall.done(0, RELEASE, [0; 3]);
+    assert_eq!(map(&mut hall, 0), [0; 8]);
+}

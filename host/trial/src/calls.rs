@@ -54,13 +54,14 @@ pub fn by(rng: &mut Rng, world: &World, shape: &Shape, caller: u32) -> Call {
 /// Codes that use things up come less often than those that make them.
 fn code(rng: &mut Rng) -> u32 {
     match rng.below(100) {
-        0 => rng.pick(&[0, 19, 20, 21, 32, 255, 256 + 1, 65536 + 7, u32::MAX]),
+        0 => rng.pick(&[0, 21, 22, 32, 255, 256 + 1, 65536 + 7, u32::MAX]),
         1 => 2,
         2..=5 => 1,
         6..=13 => 8,
         14..=20 => 15,
         21..=27 => 4,
-        _ => rng.pick(&[1, 3, 3, 4, 5, 6, 7, 7, 8, 9, 10, 11, 12, 13, 13, 14, 14, 15, 16, 17, 18]),
+        28..=34 => 19,
+        _ => rng.pick(&[1, 3, 3, 4, 5, 6, 7, 7, 8, 9, 10, 11, 12, 13, 13, 14, 14, 15, 16, 17, 18, 20]),
     }
 }
 
@@ -105,6 +106,8 @@ impl Draw<'_> {
                 let kind = self.rng.pick(&Kind::ALL);
                 (Some(self.seid(kind)), None, None)
             }
+            19 => self.remap(),
+            20 => (Some(self.page()), None, None),
             _ => (None, None, None),
         };
         // An unused argument may be anything.
@@ -184,6 +187,49 @@ impl Draw<'_> {
 
     fn used(&self, entries: usize) -> Vec<usize> {
         (0..ENTRIES).filter(|&place| self.world.entry(self.shape, self.process, entries, place).0 != 0).collect()
+    }
+
+    /// An incoming designator, a first page, an outgoing designator.
+    fn remap(&mut self) -> (Option<u32>, Option<u32>, Option<u32>) {
+        let none = ENTRIES as u32;
+        let incoming = match self.rng.below(8) {
+            0 => none,
+            _ => self.place(DESIGNATORS),
+        };
+        let outgoing = match self.rng.below(8) {
+            0..=2 => none,
+            3 => incoming,
+            4 => self.place(DESIGNATORS),
+            _ => self.mapped().unwrap_or(none),
+        };
+        let moved = if self.rng.chance(1, 8) { outgoing } else { incoming };
+        (Some(moved), Some(self.first_page()), Some(outgoing))
+    }
+
+    /// A designator that the caller has mapped.
+    fn mapped(&mut self) -> Option<u32> {
+        let mapped: Vec<u32> = (0..PAGES).map(|page| self.own_word(MAP + page)).filter(|&word| word != 0).collect();
+        if mapped.is_empty() { None } else { Some(self.rng.pick(&mapped) - 1) }
+    }
+
+    /// Where a run of pages may begin: at an empty page mostly.
+    fn first_page(&mut self) -> u32 {
+        match self.rng.below(8) {
+            0 => self.rng.pick(&[7, 8, 9, 255, u32::MAX - 7, u32::MAX]),
+            1 | 2 => self.rng.below(PAGES) as u32,
+            _ => (0..PAGES).find(|&page| self.own_word(MAP + page) == 0).unwrap_or(0) as u32,
+        }
+    }
+
+    /// A page, mostly a used one.
+    fn page(&mut self) -> u32 {
+        let used: Vec<usize> = (0..PAGES).filter(|&page| self.own_word(MAP + page) != 0).collect();
+        match self.rng.below(8) {
+            0 => self.rng.pick(&[8, 9, 255, 256, u32::MAX]),
+            1 | 2 => self.rng.below(PAGES) as u32,
+            _ if used.is_empty() => self.rng.below(PAGES) as u32,
+            _ => self.rng.pick(&used) as u32,
+        }
     }
 
     /// A seid, or one that the caller holds.

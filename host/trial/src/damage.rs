@@ -197,6 +197,20 @@ fn processes(all: &mut All) {
     word("queue length out of range", QUEUED, &[9, 10, 16, u32::MAX], all);
     word("first zero", 6, &[1, 65536, u32::MAX], all);
     word("second zero", 7, &[1, 65536, u32::MAX], all);
+    word("a page past the designators", MAP + 3, &[17, 18, 256, u32::MAX], all);
+    add(all, "Process: a page of an empty designator", |rng, world, shape| {
+        let (process, place) = empty(rng, world, shape, DESIGNATORS)?;
+        world.table[shape.at(Kind::Process, process) + MAP + rng.below(PAGES)] = place as u32 + 1;
+        Some(())
+    });
+    add(all, "Process: a page of a descriptor", |rng, world, shape| {
+        let (process, place) = empty(rng, world, shape, DESIGNATORS)?;
+        if world.entry(shape, process, DESCRIPTORS, place).0 == 0 {
+            return None;
+        }
+        world.table[shape.at(Kind::Process, process) + MAP] = place as u32 + 1;
+        Some(())
+    });
     let parent = |name: &str, all: &mut All, seid: fn(&mut Rng, &Shape, usize) -> Option<u32>| {
         add(all, format!("parent: {name}"), move |rng, world, shape| {
             let process = slot(rng, world, shape, Kind::Process, true)?;

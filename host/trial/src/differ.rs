@@ -5,7 +5,7 @@ use crate::damage;
 use crate::rng::Rng;
 use crate::shrink;
 use crate::tables::{self, World};
-use crate::tally::Tally;
+use crate::tally::{CODES, Tally};
 use crate::{Monitor, Plain};
 use plain::table::*;
 use plain::{Kind, Shape};
@@ -160,11 +160,11 @@ impl<'a, M: Monitor> Differ<'a, M> {
         same_setup(self.monitor, world);
     }
 
-    /// Every code up to 20 with every length of buffer up to 513.
+    /// Every code, and some beside, with every length of buffer up to 513.
     pub fn every_length(&mut self) {
         let start = tables::well_formed(&mut self.rng, tables::MIDDLE);
         let shape = start.shape();
-        for code in 0..=20 {
+        for code in 0..=CODES as u32 + 2 {
             for length in 0..=513 {
                 let caller = calls::caller(&mut self.rng, &start, &shape, |_| true).expect("there is a process slot");
                 let mut call = calls::with_code(&mut self.rng, &start, &shape, caller, code);

@@ -187,9 +187,10 @@ fn call(input: &mut &[u8]) -> Option<Part> {
 pub fn shrunk(input: &[u8], mut differs: impl FnMut(&[u8]) -> bool) -> Vec<u8> {
     let mut parts = parts(input);
     shrink::shrink(&mut parts, |fewer| differs(&joined(fewer)));
-    let on_call = |part: &mut Part, change: fn(&mut Call)| match part {
-        Part::Call(call) => change(call),
-        _ => {}
+    let on_call = |part: &mut Part, change: fn(&mut Call)| {
+        if let Part::Call(call) = part {
+            change(call);
+        }
     };
     shrink::simplify(&mut parts, on_call, |simpler| differs(&joined(simpler)));
     joined(&parts)

@@ -22,6 +22,8 @@ pub struct Met {
     pub posts_that_differ: u64,
     /// Opens and rendezvous by hidden callers in visible cells.
     pub hidden_holds: u64,
+    /// Segments of visible cells that hidden callers map.
+    pub hidden_maps: u64,
     /// Visible objects released, closed or unlinked while a hidden process holds them.
     pub freed_under_hidden: u64,
     /// Exclusive opens in a visible cell while a hidden process reads the file.
@@ -40,6 +42,7 @@ impl Met {
             self.no_caller,
             self.posts_that_differ,
             self.hidden_holds,
+            self.hidden_maps,
             self.freed_under_hidden,
             self.exclusive_under_hidden,
             self.wider_sets,
@@ -89,11 +92,17 @@ impl<M: Monitor> Run<'_, M> {
         for _ in 0..rng.below(4) {
             let caller = calls::caller(rng, &self.world, self.shape, |cell| !self.seen[cell]);
             let call = calls::by(rng, &self.world, self.shape, caller.expect("a cell is hidden"));
-            let (answer, _) = self.make(&call);
             let request = call.request;
+            let caller = request.caller as usize;
+            let mapped = (request.code == 19 && (request.a as usize) < ENTRIES)
+                .then(|| self.world.entry(self.shape, caller, DESIGNATORS, request.a as usize).0);
+            let (answer, _) = self.make(&call);
             let kind = if request.code == 8 { Kind::File } else { Kind::Segment };
             if answer[0] == 0 {
                 met.hidden_done += 1;
+                if let Some(seid) = mapped {
+                    met.hidden_maps += u64::from(self.seen[self.shape.cell(Kind::Segment, Seid::of(seid).index)]);
+                }
                 if matches!(request.code, 4 | 8) {
                     met.hidden_holds += u64::from(self.seen[self.shape.cell(kind, Seid::of(request.a).index)]);
                 }

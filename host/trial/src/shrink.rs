@@ -125,6 +125,9 @@ fn calm(start: &World, differs: impl Fn(&World) -> bool) -> World {
                 world.table[at + MESSAGES..][..QUEUE * MESSAGE_WORDS].fill(0);
             });
             attempt(&|world| world.table[at + PARENT] = 0);
+            for page in 0..PAGES {
+                attempt(&|world| world.table[at + MAP + page] = 0);
+            }
             for entries in [DESCRIPTORS, DESIGNATORS] {
                 for place in 0..ENTRIES {
                     attempt(&|world| world.set_entry(&shape, process, entries, place, (0, 0)));

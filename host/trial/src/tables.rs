@@ -312,6 +312,7 @@ fn holdings(rng: &mut Rng, mood: &Mood, world: &mut World, shape: &Shape, proces
             }
         }
     }
+    map(rng, world, shape, process);
     let queued = rng.pick(&[0, 0, 1, 2, 3, 7, 8, 8]);
     let at = shape.at(Kind::Process, process);
     world.table[at + QUEUED] = queued as u32;
@@ -322,6 +323,24 @@ fn holdings(rng: &mut Rng, mood: &Mood, world: &mut World, shape: &Shape, proces
         let words = at + MESSAGES + MESSAGE_WORDS * message;
         world.table[words] = seid;
         world.table[words + 1..words + MESSAGE_WORDS].copy_from_slice(&text);
+    }
+}
+
+/// A map of what the process holds: none, or some pages of some designators, in runs or anywhere.
+fn map(rng: &mut Rng, world: &mut World, shape: &Shape, process: usize) {
+    let held: Vec<u32> = (0..ENTRIES)
+        .filter(|&place| world.entry(shape, process, DESIGNATORS, place).0 != 0)
+        .map(|place| place as u32 + 1)
+        .collect();
+    if held.is_empty() || rng.chance(1, 4) {
+        return;
+    }
+    let at = shape.at(Kind::Process, process) + MAP;
+    let map = &mut world.table[at..at + PAGES];
+    for _ in 0..rng.below(5) {
+        let first = rng.below(PAGES);
+        let pages = rng.pick(&[1, 1, 1, 2, 4]).min(PAGES - first);
+        map[first..first + pages].fill(rng.pick(&held));
     }
 }
 

@@ -8,8 +8,8 @@ use plain::{Kind, Seid, Shape};
 use std::collections::BTreeMap;
 use std::fmt;
 
-pub const CODES: usize = 18;
-pub const ERRORS: usize = 30;
+pub const CODES: usize = 20;
+pub const ERRORS: usize = 33;
 
 /// The refusals in each call's own list. A 12 of call 14 cannot arise: write is held only in the own cell, and there nothing is stale.
 pub const REFUSALS: [&[u32]; CODES + 1] = [
@@ -32,6 +32,8 @@ pub const REFUSALS: [&[u32]; CODES + 1] = [
     &[5, 29],
     &[5, 12, 13, 2, 11],
     &[8, 9, 11],
+    &[8, 9, 11, 30, 31, 32],
+    &[4, 9, 11],
 ];
 
 pub const SITUATIONS: &[&str] = &[
@@ -81,6 +83,21 @@ pub const SITUATIONS: &[&str] = &[
     "post up: dropped, other serial",
     "post to oneself by seid 0",
     "access limited by today's bits",
+    "remap: neither",
+    "remap: one comes in",
+    "remap: one comes in from another cell",
+    "remap: one comes in over all eight pages",
+    "remap: one goes out",
+    "remap: a stale one goes out",
+    "remap: one takes the place of another",
+    "remap: one moves over its own pages",
+    "remap: one moves to other pages",
+    "remap refused: a run past page 7",
+    "remap refused: a run past page 7 as a sum that wraps",
+    "remap refused: a used page",
+    "release of a segment: its pages are emptied",
+    "release of a process with a map",
+    "access of a page limited by today's bits",
 ];
 
 pub struct Tally {
@@ -279,7 +296,52 @@ impl Scene<'_> {
                 let (_, stored) = self.before.entry(self.shape, self.caller, DESIGNATORS, request.a as usize);
                 self.tally.met("access limited by today's bits", first != stored);
             }
+            19 => self.remap(request.a, request.b, request.c),
+            20 => {
+                let place = self.own_word(MAP + request.a as usize) as usize - 1;
+                let (_, stored) = self.before.entry(self.shape, self.caller, DESIGNATORS, place);
+                self.tally.met("access of a page limited by today's bits", first != stored);
+            }
             _ => {}
+        }
+    }
+
+    /// The caller's map, and how many pages a designator has in it.
+    fn map(&self) -> [u32; PAGES] {
+        std::array::from_fn(|page| self.own_word(MAP + page))
+    }
+
+    fn pages(&self, designator: u32) -> usize {
+        self.map().iter().filter(|&&word| word == designator + 1).count()
+    }
+
+    /// The size in pages of the segment that a designator holds, and whether that is stale.
+    fn held_segment(&self, designator: u32) -> (usize, bool) {
+        let (seid, _) = self.before.entry(self.shape, self.caller, DESIGNATORS, designator as usize);
+        let size = self.word(Kind::Segment, Seid::of(seid).index, SIZE);
+        (size.div_ceil(PAGE_BYTES) as usize, self.before.stale(self.shape, Kind::Segment, seid))
+    }
+
+    fn remap(&mut self, incoming: u32, first: u32, outgoing: u32) {
+        let [comes, goes] = [incoming, outgoing].map(|designator| designator != ENTRIES as u32);
+        self.tally.met("remap: neither", !comes && !goes);
+        self.tally.met("remap: one goes out", goes && !comes);
+        if goes {
+            self.tally.met("remap: a stale one goes out", self.held_segment(outgoing).1);
+        }
+        if comes {
+            let (seid, _) = self.before.entry(self.shape, self.caller, DESIGNATORS, incoming as usize);
+            let cell = self.shape.cell(Kind::Segment, Seid::of(seid).index);
+            let pages = self.held_segment(incoming).0;
+            let run = &self.map()[first as usize..first as usize + pages];
+            let over_own = run.contains(&(incoming + 1));
+            self.tally.met("remap: one comes in", !goes);
+            let elsewhere = cell != self.shape.cell(Kind::Process, self.caller);
+            self.tally.met("remap: one comes in from another cell", elsewhere);
+            self.tally.met("remap: one comes in over all eight pages", pages == PAGES);
+            self.tally.met("remap: one takes the place of another", goes && run.contains(&(outgoing + 1)) && !over_own);
+            self.tally.met("remap: one moves over its own pages", incoming == outgoing && over_own);
+            self.tally.met("remap: one moves to other pages", incoming == outgoing && !over_own);
         }
     }
 
@@ -290,6 +352,8 @@ impl Scene<'_> {
         self.tally.met("release of oneself by seid 0", named == 0);
         self.tally.met("release of oneself by the real seid", named == own);
         self.tally.met("release of a process with messages", self.word(Kind::Process, process, QUEUED) != 0);
+        let mapped = (0..PAGES).any(|page| self.word(Kind::Process, process, MAP + page) != 0);
+        self.tally.met("release of a process with a map", mapped);
         for (kind, entries) in [(Kind::File, DESCRIPTORS), (Kind::Segment, DESIGNATORS)] {
             let held: Vec<u32> = (0..ENTRIES)
                 .map(|place| self.before.entry(self.shape, process, entries, place).0)
@@ -332,6 +396,8 @@ impl Scene<'_> {
                 self.tally.met("close of another cell's live file", !own && !stale);
             }
             _ => {
+                let pages = self.pages(place as u32);
+                self.tally.met("release of a segment: its pages are emptied", pages > 0);
                 self.tally.met("release of a segment: stale", stale);
                 self.tally.met("release of a segment: freed", last);
                 self.tally.met("release of a segment: still referred to", own && !last);
@@ -381,6 +447,18 @@ impl Scene<'_> {
                     seid == request.a && plain::clash(modes, request.b)
                 });
                 self.tally.met("open refused by the caller's own descriptor", held);
+            }
+            (19, 32) => {
+                let pages = self.held_segment(request.a).0;
+                let end = u64::from(request.b) + pages as u64;
+                let wraps = request.b.wrapping_add(pages as u32) as usize <= PAGES;
+                self.tally.met("remap refused: a run past page 7", end > PAGES as u64);
+                self.tally.met("remap refused: a run past page 7 as a sum that wraps", end > PAGES as u64 && wraps);
+                if end <= PAGES as u64 {
+                    let run = &self.map()[request.b as usize..end as usize];
+                    let used = |word: &u32| *word != 0 && *word != request.c + 1;
+                    self.tally.met("remap refused: a used page", run.iter().any(used));
+                }
             }
             (13, 16) => {
                 let (seid, _) = self.before.entry(self.shape, self.caller, DESCRIPTORS, request.a as usize);

@@ -1,5 +1,7 @@
 //! The plain monitor by itself, on random tables: what every monitor of document 01 must keep, and what it must not tell.
 
+use plain::Kind;
+use plain::table::{MAP, PAGES};
 use trial::tally::Tally;
 use trial::{Monitor, Plain, Rng, calls, damage, secrecy, tables};
 
@@ -32,6 +34,12 @@ fn calls_keep_tables_well_formed() {
             }
             if call.request.code != 14 {
                 assert!(world.store == before.store, "only 14 writes the store: {call:?}");
+            }
+            for process in (0..shape.count(Kind::Process)).filter(|&process| process != call.request.caller as usize) {
+                let map = shape.at(Kind::Process, process) + MAP;
+                let kept = world.table[map..map + PAGES] == before.table[map..map + PAGES];
+                let released = !world.live(&shape, Kind::Process, process);
+                assert!(kept || released, "the map of process {process} was changed: {call:?}");
             }
             assert_eq!(Plain.check(&world.table, world.store.len()), 0, "left a bad table: {call:?}");
             made += 1;

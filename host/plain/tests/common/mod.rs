@@ -21,6 +21,8 @@ pub const POST: u32 = 15;
 pub const RECEIVE: u32 = 16;
 pub const STATUS: u32 = 17;
 pub const ACCESS: u32 = 18;
+pub const REMAP: u32 = 19;
+pub const PAGE_ACCESS: u32 = 20;
 
 /// Security, integrity, compartments; process, segment and file slots; owner, group.
 pub type Cell = [u32; 8];
@@ -37,7 +39,7 @@ impl Hall {
         let (processes, segments, files) = (sum(3), sum(4), sum(5));
         let mut table = vec![cells.len() as u32, processes, segments, files, blocks, 0, 0, 0];
         table.extend(cells.concat());
-        table.resize(table.len() + (104 * processes + 8 * segments + 8 * files) as usize, 0);
+        table.resize(table.len() + (112 * processes + 8 * segments + 8 * files) as usize, 0);
         Hall { table, store: vec![0; (files * blocks * 512) as usize] }
     }
 
@@ -123,17 +125,17 @@ impl Hall {
     }
 
     pub fn process(&mut self, index: usize) -> &mut [u32] {
-        let at = 8 + 8 * self.cells() + 104 * index;
-        &mut self.table[at..at + 104]
+        let at = 8 + 8 * self.cells() + 112 * index;
+        &mut self.table[at..at + 112]
     }
 
     pub fn segment(&mut self, index: usize) -> &mut [u32] {
-        let at = 8 + 8 * self.cells() + 104 * self.table[1] as usize + 8 * index;
+        let at = 8 + 8 * self.cells() + 112 * self.table[1] as usize + 8 * index;
         &mut self.table[at..at + 8]
     }
 
     pub fn file(&mut self, index: usize) -> &mut [u32] {
-        let at = 8 + 8 * self.cells() + 104 * self.table[1] as usize + 8 * self.table[2] as usize + 8 * index;
+        let at = 8 + 8 * self.cells() + 112 * self.table[1] as usize + 8 * self.table[2] as usize + 8 * index;
         &mut self.table[at..at + 8]
     }
 }

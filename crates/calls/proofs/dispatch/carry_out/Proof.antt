@@ -37,6 +37,15 @@ same-length-5 c = search needs
 returns-3 : tie.Need-returns-3
 returns-3 c = search needs
 
+on-map-requires : tie.Need-on-map-requires
+on-map-requires c κs = search needs
+
+same-length-6 : tie.Need-same-length-6
+same-length-6 c = search needs
+
+returns-4 : tie.Need-returns-4
+returns-4 c = plain-through _ _ (c .before .before .on-map .ensures _ _)
+
 pub carry-out-spec : {M : Type 1} → statement M
 carry-out-spec =
     tie.close
@@ -51,4 +60,7 @@ carry-out-spec =
     same-length-3
     same-length-4
     same-length-5
-    returns-3)
+    returns-3
+    on-map-requires
+    same-length-6
+    returns-4)

@@ -1,20 +1,8 @@
--- `entries::give_up` meets its contract: the count is read before the entry is cleared.
-use Rattle.calls.proofs.Searches.{holders-small}
+-- `entries::give_up` meets its contract: the entry is cleared, and the object has one holder less where it is of the holder's cell.
 use Rattle.calls.specs.Entries.{givenUpAt}
-use Rattle.layout.specs.Kinds.{kindOf}
-use native.Mathlib.Omega.{arith}
 use borrow.Author.Needs.{needs}
 use Rattle.calls.proofs.entries.give_up.Statement.{statement}
 use Rattle.calls.proofs.entries.give_up.Tie as tie
-
-holders-word-requires : tie.Need-holders-word-requires
-holders-word-requires c κs = search needs
-
-add-word : tie.Need-add-word
-add-word c = record { fits = omega (arith, c .before .before .before .pre .1, c .holders-word .ensures, holders-small (kindOf (c .before .before .before .args .kind))) }
-
-word-requires : tie.Need-word-requires
-word-requires c κs = search needs
 
 put-requires : tie.Need-put-requires
 put-requires c κs = search needs
@@ -35,15 +23,8 @@ returns : tie.Need-returns
 unfolding givenUpAt
 returns c =
     let at-if1 = c .before .before .before .before in let at-put2 = at-if1 .before .before .before in
-    let at-put = at-put2 .before .before .before .before in let at-word = at-put .before .before in let at-holders-word = at-word .before in
-    rw (
-      at-if1 .if1 .taken,
-      ← (at-holders-word .holders-word .ensures),
-      ← (at-word .word .ensures),
-      ← (at-put .put .ensures),
-      ← (at-put2 .put2
-          .ensures),
-    ) (c .before .before .less .ensures)
+    let at-put = at-put2 .before .before .before .before in
+    rw (at-if1 .if1 .taken, ← (at-put .put .ensures), ← (at-put2 .put2 .ensures)) (c .before .before .less .ensures)
 
 same-length-2 : tie.Need-same-length-2
 same-length-2 c = search needs
@@ -53,17 +34,4 @@ unfolding givenUpAt
 returns-2 c = rw (c .if1 .left, ← (c .before .before .before .before .before .before .before .put .ensures)) (c .before .before .before .put2 .ensures)
 
 pub give-up-spec : {M : Type 1} → statement M
-give-up-spec =
-    tie.close
-    (tie.spec
-    holders-word-requires
-    add-word
-    word-requires
-    put-requires
-    add-put
-    put-requires-2
-    less-requires
-    same-length
-    returns
-    same-length-2
-    returns-2)
+give-up-spec = tie.close (tie.spec put-requires add-put put-requires-2 less-requires same-length returns same-length-2 returns-2)

@@ -2,9 +2,10 @@
 use native.Mathlib.Omega.{arith}
 use mathlib.Core.Path.{_≡_, sym, ap, ap₂, _∙_}
 use mathlib.Core.Bool.{_&&_}
-use Prim.Native.Nat.{ℕ, _<_}
+use Prim.Native.Nat.{ℕ, _+_, _≤_, _<_}
+use lib.ListN.{length}
 use lib.Dec.{leb, eqb}
-use Rattle.rules.specs.Layout.{maxCells, process, segment, file, queue, zero6, zero7, cellOf, configuration, at, rd, live}
+use Rattle.rules.specs.Layout.{maxCells, recordWords, process, segment, file, queue, zero6, zero7, cellOf, configuration, at, rd, live}
 use Rattle.laws.proofs.Tests.{and-both}
 use Rattle.table.proofs.Config.{slots-read}
 use Rattle.table.proofs.Holders.{record-word, cell-few}
@@ -105,8 +106,15 @@ designators-ok-requires c κs =
 messages-ok-requires : tie.Need-messages-ok-requires
 messages-ok-requires c κs = let s = c .before .before .before .before .before .before .before .before .before .before .before .before .before .before .before .before .before .before .before .before .before .before .before in (s .pre .0 .0, s .pre .0 .1, s .pre .0 .4, s .pre .0 .5)
 
+-- the record lies within the table
+within : (c : tie.After-messages-ok) → (c .before .before .before .before .before .before .before .before .before .before .before .before .before .before .before .before .before .before .before .before .record-at .result) + recordWords process ≤ length (c .before .before .before .before .before .before .before .before .before .before .before .before .before .before .before .before .before .before .before .before .before .before .before .before .args .t .now)
+within c = omega (arith, c .before .before .before .before .before .before .before .before .before .before .before .before .before .before .before .before .before .before .before .before .record-at .ensures .within, c .before .before .before .before .before .before .before .before .before .before .before .before .before .before .before .before .before .before .before .before .before .before .before .before .pre .0 .0 .framed .exact)
+
+pages-ok-requires : tie.Need-pages-ok-requires
+pages-ok-requires c κs = within c
+
 record-ok-requires : tie.Need-record-ok-requires
-record-ok-requires c κs = (omega (arith, c .before .before .before .before .before .before .before .before .before .before .before .before .before .before .before .before .before .before .before .before .record-at .ensures .within, c .before .before .before .before .before .before .before .before .before .before .before .before .before .before .before .before .before .before .before .before .before .before .before .before .pre .0 .0 .framed .exact), omega arith)
+record-ok-requires c κs = (within (c .before), omega arith)
 
 same-length : tie.Need-same-length
 same-length c = search needs
@@ -116,35 +124,37 @@ same-length-2 c = search needs
 
 returns : tie.Need-returns
 returns c =
-    let s = c .before .before .before .before .before .before .before .before .before .before .before .before .before .before .before .before .before .before .before .before .before .before .before .before .before in
+    let m = c .before .before in
+    let s = m .before .before .before .before .before .before .before .before .before .before .before .before .before .before .before .before .before .before .before .before .before .before .before .before in
     let t = s .args .t .now in
     let n = s .args .n in
     let p = s .args .p in
-    let lies = c .before .before .before .before .before .before .before .before .before .before .before .before .before .before .before .before .before .before .before .before .before .record-at .ensures in
-    let mine = own (c .before .before .before .before .before .before .before .before .before .before .before .before .before .before .before .before .before) in
-    let files = entries-read t n (s .pre .0 .0) p _ mine file (λ d. (omega arith, omega arith)) _ (c .before .before .before .before .before .before .before .before .before .before .before .before .before .before .before .before .entry-at .ensures .0) in
-    let segments = entries-read t n (s .pre .0 .0) p _ mine segment (λ d. (omega arith, omega arith)) _ (c .before .before .before .before .before .before .before .before .before .before .before .before .before .before .before .entry-at2 .ensures .0) in
-    let once = once-read t n (s .pre .0 .0) p _ (c .before .before .before .before .before .before .before .before .before .before .before .before .before .before .before .entry-at2 .ensures .0) in
-    let held = c .before .before .before .before .designators-ok .ensures .0 ∙ ap₂ _&&_ segments once in
+    let lies = m .before .before .before .before .before .before .before .before .before .before .before .before .before .before .before .before .before .before .before .before .record-at .ensures in
+    let mine = own (m .before .before .before .before .before .before .before .before .before .before .before .before .before .before .before .before) in
+    let files = entries-read t n (s .pre .0 .0) p _ mine file (λ d. (omega arith, omega arith)) _ (m .before .before .before .before .before .before .before .before .before .before .before .before .before .before .before .entry-at .ensures .0) in
+    let segments = entries-read t n (s .pre .0 .0) p _ mine segment (λ d. (omega arith, omega arith)) _ (m .before .before .before .before .before .before .before .before .before .before .before .before .before .before .entry-at2 .ensures .0) in
+    let once = once-read t n (s .pre .0 .0) p _ (m .before .before .before .before .before .before .before .before .before .before .before .before .before .before .entry-at2 .ensures .0) in
+    let held = m .before .before .before .designators-ok .ensures .0 ∙ ap₂ _&&_ segments once in
     let says =
     c .record-ok .ensures
-    ∙ live-process t n (s .pre .0 .0) p _ lies _ _ _ _ _ _ _
-    (c .before .before .before .before .before .before .before .before .before .before .before .before .before .before .parent-ok .ensures)
-    (ap (λ (x : ℕ). leb x 8) (c .before .before .before .before .before .before .before .before .before .before .before .before .wide .ensures ∙ record-word t n (s .pre .0 .0) process p queue _ lies))
+    ∙ live-process t n (s .pre .0 .0) p _ lies _ _ _ _ _ _ _ _
+    (m .before .before .before .before .before .before .before .before .before .before .before .before .before .parent-ok .ensures)
+    (ap (λ (x : ℕ). leb x 8) (m .before .before .before .before .before .before .before .before .before .before .before .wide .ensures ∙ record-word t n (s .pre .0 .0) process p queue _ lies))
     (ap (λ (x : ℕ). eqb x 0) (record-word t n (s .pre .0 .0) process p zero6 _ lies))
     (ap (λ (x : ℕ). eqb x 0) (record-word t n (s .pre .0 .0) process p zero7 _ lies))
-    (c .before .before .before .before .before .before .before .before .descriptors-ok .ensures .0 ∙ files)
+    (m .before .before .before .before .before .before .before .descriptors-ok .ensures .0 ∙ files)
     held
-    (c .before .messages-ok .ensures) in
-    let alive = sym (record-word t n (s .pre .0 .0) process p live _ lies) ∙ c .before .before .before .before .before .before .before .before .before .before .before .before .before .before .before .before .before .before .before .if1 .taken in (
+    (m .messages-ok .ensures)
+    (c .before .pages-ok .ensures) in
+    let alive = sym (record-word t n (s .pre .0 .0) process p live _ lies) ∙ m .before .before .before .before .before .before .before .before .before .before .before .before .before .before .before .before .before .before .if1 .taken in (
       says,
       (
         λ good.
             let right = right-segments (configuration t) (rd (configuration t) t) p alive (sym says ∙ good) in
-            live-counted t n (s .pre .0 .0) p _ mine segment (λ d. (omega arith, omega arith)) _ (c .before .before .before .before .before .before .before .before .before .before .before .before .before .before .before .entry-at2 .ensures .0) _ _ _ (c .before .before .before .before .designators-ok .ensures .1) (held ∙ and-both _ _ right (right-once (configuration t) (rd (configuration t) t) p alive (sym says ∙ good))) right,
+            live-counted t n (s .pre .0 .0) p _ mine segment (λ d. (omega arith, omega arith)) _ (m .before .before .before .before .before .before .before .before .before .before .before .before .before .before .entry-at2 .ensures .0) _ _ _ (m .before .before .before .designators-ok .ensures .1) (held ∙ and-both _ _ right (right-once (configuration t) (rd (configuration t) t) p alive (sym says ∙ good))) right,
         λ good.
             let right = right-files (configuration t) (rd (configuration t) t) p alive (sym says ∙ good) in
-            live-counted t n (s .pre .0 .0) p _ mine file (λ d. (omega arith, omega arith)) _ (c .before .before .before .before .before .before .before .before .before .before .before .before .before .before .before .before .entry-at .ensures .0) _ _ _ (c .before .before .before .before .before .before .before .before .descriptors-ok .ensures .1) (c .before .before .before .before .before .before .before .before .descriptors-ok .ensures .0 ∙ files ∙ right) right,
+            live-counted t n (s .pre .0 .0) p _ mine file (λ d. (omega arith, omega arith)) _ (m .before .before .before .before .before .before .before .before .before .before .before .before .before .before .before .entry-at .ensures .0) _ _ _ (m .before .before .before .before .before .before .before .descriptors-ok .ensures .1) (m .before .before .before .before .before .before .before .descriptors-ok .ensures .0 ∙ files ∙ right) right,
       ),
     )
 
@@ -191,6 +201,7 @@ process-ok-spec =
     descriptors-ok-requires
     designators-ok-requires
     messages-ok-requires
+    pages-ok-requires
     record-ok-requires
     same-length
     same-length-2
