@@ -33,7 +33,7 @@ enum monitor_code {
     MONITOR_CLOSE = 9, /* Descriptor. */
     MONITOR_LINK = 10, /* File seid. */
     MONITOR_UNLINK = 11, /* File seid. */
-    MONITOR_SET_BITS = 12, /* File or segment seid, bits. */
+    MONITOR_SET_BITS = 12, /* File seid, or that of a segment that is not sharable; bits. */
     MONITOR_READ_BLOCK = 13, /* Descriptor, block; a buffer of 512 bytes, which is filled. */
     MONITOR_WRITE_BLOCK = 14, /* Descriptor, block; a buffer of 512 bytes. */
     MONITOR_POST = 15, /* Process seid; a buffer of 12 bytes. */
@@ -79,6 +79,7 @@ enum monitor_error {
     MONITOR_XoutSgAldUmp = 30, /* the outgoing segment is not mapped */
     MONITOR_XinSgAldMap = 31, /* the incoming segment is mapped already */
     MONITOR_XvrtMmCfl = 32, /* its pages are used or pass the last one */
+    MONITOR_XshSg = 33, /* a sharable segment's bits are fixed */
 };
 
 /* Limits: cells, slots of each kind, blocks of a file. */
@@ -144,7 +145,7 @@ static inline const char *monitor_error_name(uint32_t error)
         "XbSgSd", "XnoObj", "XnoAcc", "XnoOwner", "XnoPriv", "XdapViol", "XsgNoAcc", "XdupSg", "Xbusy", "XnotReadable",
         "XnotWritable", "XbadBlockNo", "XendOfFile", "XbadLink", "XodSpace", "XnoSpace", "XnoProc", "XpostEh",
         "XbNoMes",
-        "XoutSgAldUmp", "XinSgAldMap", "XvrtMmCfl",
+        "XoutSgAldUmp", "XinSgAldMap", "XvrtMmCfl", "XshSg",
     };
     return error < sizeof names / sizeof *names ? names[error] : "?";
 }

@@ -49,7 +49,7 @@ codes! {
     Close = 9, "close", "Descriptor.";
     Link = 10, "link", "File seid.";
     Unlink = 11, "unlink", "File seid.";
-    SetBits = 12, "set-bits", "File or segment seid, bits.";
+    SetBits = 12, "set-bits", "File seid, or that of a segment that is not sharable; bits.";
     ReadBlock = 13, "read", "Descriptor, block; a buffer of 512 bytes, which is filled.";
     WriteBlock = 14, "write", "Descriptor, block; a buffer of 512 bytes.";
     Post = 15, "post", "Process seid; a buffer of 12 bytes.";

@@ -70,6 +70,7 @@ errors! {
     XoutSgAldUmp = 30, "the outgoing segment is not mapped";
     XinSgAldMap = 31, "the incoming segment is mapped already";
     XvrtMmCfl = 32, "its pages are used or pass the last one";
+    XshSg = 33, "a sharable segment's bits are fixed";
 }
 
 impl Error {

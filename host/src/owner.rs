@@ -205,7 +205,8 @@ impl Monitor {
         Ok(())
     }
 
-    /// Sets the bits of a file or segment of the caller's cell and owner. They are judged anew at each use.
+    /// Sets the bits of a file, or of a segment that is not sharable, of the caller's cell and owner. They are judged anew at each
+    /// use.
     pub fn set_bits(&mut self, caller: Caller, object: Seid, bits: Bits) -> Result<(), Error> {
         self.ask(caller, Code::SetBits, object.into(), bits.0.into(), 0)?;
         Ok(())

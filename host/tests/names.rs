@@ -11,7 +11,7 @@ const TABLE: &str = "
 | 20 XnotReadable | 21 XnotWritable | 22 XbadBlockNo | 23 XendOfFile |
 | 24 XbadLink | 25 XodSpace | 26 XnoSpace | 27 XnoProc |
 | 28 XpostEh | 29 XbNoMes | | |
-| 30 XoutSgAldUmp | 31 XinSgAldMap | 32 XvrtMmCfl | |
+| 30 XoutSgAldUmp | 31 XinSgAldMap | 32 XvrtMmCfl | 33 XshSg |
 ";
 
 #[test]

@@ -12,13 +12,13 @@ use Rattle.rules.specs.Layout.{maxBits, maxLinks, maxSerial, Kind, process, seg
 use Rattle.rules.specs.Seid.{class, classOf, seid, indexOf, isSeid, formed, orSelf}
 use Rattle.rules.specs.Modes.{validModes, reads, writes, clash}
 use Rattle.rules.specs.Rights.{lacks}
-use Rattle.rules.specs.Rule.{_⇒_, firstRefusal, write}
+use Rattle.rules.specs.Rule.{Refusal, _⇒_, firstRefusal, write}
 use Rattle.rules.specs.Find.{inOwnCell, flowsToCaller, rightsAt, freeSlot, noSlot, freeEntry, noEntry, entered, own, find}
 use Rattle.rules.specs.Call07.{created, create}
 use Rattle.rules.specs.Call08.{clashesAt, clashes, openFile}
 use Rattle.rules.specs.Call10.{link}
 use Rattle.rules.specs.Call11.{unlinked, unlink}
-use Rattle.rules.specs.Call12.{setBitsOf, setBits}
+use Rattle.rules.specs.Call12.{isShared, setBitsOf, setBits}
 use Rattle.rules.specs.Words.{someBelow}
 use Rattle.laws.proofs.Tests.{cond-true, cond-false, passed}
 use Rattle.laws.proofs.Below.{some-none, some-of}
@@ -126,18 +126,30 @@ module _ {t : List ℕ} {n : Header} (known : Known t n) (i : ℕ) {m held : ℕ
 
 -- ---- 12: set bits, of a kind
 
-module _ {t : List ℕ} {n : Header} {c : Caller} (sound : Sound t n c) (k : Kind) (s b : ℕ) (buffer : List ℕ) {e₁ e₂ : ℕ} {x : Seen}
-    (seen : x ≡ seenAs (configuration t) (wordsOf t) (c .slot) k (namedOf n k s)) (first : e₁ ≡ orRefuse 0 (ltb maxBits b) 4) (last : e₂ ≡ refusing e₁ (ownTests x k)) where
-  pub bits-number : e₂ ≡ firstRefusal (setBitsOf (configuration t) (wordsOf t) (c .slot) s b buffer k .refusals)
-  bits-number =
-      rw (last, first)
-      (refusing-first ((ltb maxBits b ⇒ 4) ∷ ownTests x k) (own-numbered x k [] refl)
-      ∙ past (ltb maxBits b) 4 (ownTests x k) (own (configuration t) (wordsOf t) (c .slot) k s) (λ _. own-first (sound .known) (c .slot) k s seen [] [] (λ _. refl)))
+module _ {t : List ℕ} {n : Header} {c : Caller} (sound : Sound t n c) (k : Kind) (s b : ℕ) (buffer : List ℕ) {e₁ e₂ e₃ : ℕ} {x : Seen} {fixed : Bool}
+    (seen : x ≡ seenAs (configuration t) (wordsOf t) (c .slot) k (namedOf n k s)) (shared : fixed ≡ isShared (wordsOf t) k (x .slot))
+    (first : e₁ ≡ orRefuse 0 (ltb maxBits b) 4) (second : e₂ ≡ refusing e₁ (ownTests x k)) (last : e₃ ≡ orRefuse e₂ fixed 33) where
+  -- the code's tests
+  abbrev tests : List Refusal
+  tests = (ltb maxBits b ⇒ 4) ∷ ownTests x k ++ (fixed ⇒ 33) ∷ []
 
-  pub bits-words : e₂ ≡ 0 → {j : ℕ} → j ≡ bits k
+  tests-numbered : numbered tests ≡ true
+  tests-numbered = own-numbered x k ((fixed ⇒ 33) ∷ []) refl
+
+  tests-told : e₃ ≡ firstRefusal tests
+  tests-told = rw (last, second, first) (refusing-first tests tests-numbered)
+
+  pub bits-number : e₃ ≡ firstRefusal (setBitsOf (configuration t) (wordsOf t) (c .slot) s b buffer k .refusals)
+  bits-number =
+      let rule-last = (isShared (wordsOf t) k (indexOf s) ⇒ 33) ∷ [] in
+      tests-told
+      ∙ past (ltb maxBits b) 4 (ownTests x k ++ (fixed ⇒ 33) ∷ []) (own (configuration t) (wordsOf t) (c .slot) k s ++ rule-last)
+      (λ _. own-first (sound .known) (c .slot) k s seen ((fixed ⇒ 33) ∷ []) rule-last (λ form. rw (shared, slot-is (sound .known) (c .slot) k s seen form)))
+
+  pub bits-words : e₃ ≡ 0 → {j : ℕ} → j ≡ bits k
       → set t (placeOf n (at k (x .slot) j)) b ≡ write (configuration t) t (setBitsOf (configuration t) (wordsOf t) (c .slot) s b buffer k .effects .words)
   bits-words none je =
-      let z = clear-of ((ltb maxBits b ⇒ 4) ∷ ownTests x k) (own-numbered x k [] refl) (sym (refusing-first ((ltb maxBits b ⇒ 4) ∷ ownTests x k) (own-numbered x k [] refl)) ∙ (sym (rw first at last) ∙ none)) in
+      let z = clear-of tests tests-numbered (sym tests-told ∙ none) in
       rw (je, spot (sound .known) (at k (x .slot) (bits k)), slot-is (sound .known) (c .slot) k s seen (form-past (sound .known) (c .slot) k s seen (z .1 .0)))
 
 -- it goes by the seid's class

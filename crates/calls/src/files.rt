@@ -12,7 +12,7 @@ ghost use Rattle.rules.specs.Call07.{create};
 ghost use Rattle.rules.specs.Call08.{clashesAt, clashes, openFile};
 ghost use Rattle.rules.specs.Call10.{link};
 ghost use Rattle.rules.specs.Call11.{unlinked, unlink};
-ghost use Rattle.rules.specs.Call12.{setBitsOf, setBits};
+ghost use Rattle.rules.specs.Call12.{isShared, setBitsOf, setBits};
 ghost use Rattle.layout.specs.Kinds.{kindOf};
 ghost use Rattle.calls.specs.World.{Known, Sound, wordsOf, holdable, Clashable};
 ghost use Rattle.calls.specs.Left.{Left};
@@ -64,6 +64,7 @@ use rules::OPENS;
 use rules::OWNER;
 use rules::SEGMENT_CLASS;
 use rules::SERIAL;
+use rules::SHARABLE;
 use rules::XB_PARAM;
 use rules::XBAD_LINK;
 use rules::XBAD_MODES;
@@ -72,6 +73,7 @@ use rules::XDAP_VIOL;
 use rules::XNO_SPACE;
 use rules::XOD_SPACE;
 use rules::XOK;
+use rules::XSH_SG;
 use words::wide;
 
 // 5. Release segment, and 9. Close: the caller's entry a is given up. Past the last entry, and empty, have a number each.
@@ -275,7 +277,19 @@ pub(crate) fn unlink(
     answered(0, 0)
 }
 
-// 12. Set bits, of a segment or a file.
+// A sharable segment. It goes by the flag alone, whoever holds it.
+fn is_shared(t: &[u32], n: Header, kind: Kind, i: u32) -> bool
+    requires { ⌜ Known (now t) n ⌝ }
+    ensures { λ r. ⌜ r ≡ isShared (wordsOf (now (t .entry))) (kindOf kind) i ⌝ }
+{
+    match kind {
+        Kind::Process => false,
+        Kind::Segment => read(t, n, Kind::Segment, i, SHARABLE) != 0,
+        Kind::File => false,
+    }
+}
+
+// 12. Set bits, of a kind.
 fn set_bits_of(
     t: &mut [u32],
     n: Header,
@@ -289,8 +303,10 @@ fn set_bits_of(
     ensures { λ r. ⌜ ((buffer : List ℕ) → Left (now (t .entry)) (λ h q. setBitsOf h q (c .slot) s b buffer (kindOf kind)) r (now (t .exit))) ⌝ }
 {
     let x = look(t, n, m, c, kind, s);
+    let shared = is_shared(t, n, kind, x.slot);
     let e = or_refuse(XOK, MAX_BITS < b, XB_PARAM);
     let e = own(e, x, kind);
+    let e = or_refuse(e, shared, XSH_SG);
     if e != XOK {
         return refused(e);
     }
@@ -298,7 +314,7 @@ fn set_bits_of(
     answered(0, 0)
 }
 
-// It goes by the seid's class, "12 for a class not taken".
+// 12. Set bits. It goes by the seid's class, "12 for a class not taken".
 pub(crate) fn set_bits(
     t: &mut [u32],
     n: Header,

@@ -75,11 +75,11 @@ module _ (h : List ℕ) (r : Addr → ℕ) (st : List ℕ) (k : Call) where
   lifeless f x (emptied j y w) e = refl
   lifeless f x (paged {n = n} y l) e = let z : n ≡ live = e in absurd (omega arith)
   lifeless f x (counted {j} o) e = absurd (holders-past j e)
-  lifeless f x (freed-word o y) e = refl
+  lifeless f x (freed-word j o z y) e = refl
   lifeless f x (cleared c y) e = refl
   lifeless f x linked e = let z : links ≡ live = e in absurd (omega arith)
   lifeless f x sized e = let z : size ≡ live = e in absurd (omega arith)
-  lifeless f x (set-bits {j} c o) e = absurd (bits-past j e)
+  lifeless f x (set-bits {j} c o s) e = absurd (bits-past j e)
   lifeless f x (posted {n} c w) e = absurd (mail-past n w e)
   lifeless f x (received {n} c w) e = absurd (mail-past n w e)
 

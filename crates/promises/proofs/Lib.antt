@@ -12,6 +12,7 @@ pub mod Judged
 pub mod Released
 pub mod Wear
 pub mod Map
+pub mod Shared
 pub mod Single
 pub mod Gone
 pub mod Edges

@@ -301,10 +301,10 @@ map-own s k w p pl alive other unreleased g gl = elim (ℕ-discrete (step s k .a
     past x (emptied j {q} {n} y v) e f z = entry-low j n v z
     past x (paged {q} y l) e f z = acted q y f
     past x (counted {j = j} o) e f z = no-process j o e
-    past x (freed-word {j = j} o y) e f z = no-process j o e
+    past x (freed-word j o v y) e f z = no-process j o e
     past x (cleared c y) e f z = unreleased c f
     past x linked e f z = no-process file tt e
     past x sized e f z = no-process file tt e
-    past x (set-bits {j = j} c o) e f z = no-process j o e
+    past x (set-bits {j = j} c o v) e f z = no-process j o e
     past x (posted {n} c y) e f z = omega (arith, y (λ i. omega arith))
     past x (received {n} c y) e f z = omega (arith, y (λ i. omega arith))

@@ -88,11 +88,11 @@ module _ (h : List ℕ) (r : Addr → ℕ) (st : List ℕ) (k : Call) (p : ℕ) 
     sparing unposted x (emptied j {q} {n} y w) e f = entry-fits j n w
     sparing unposted x (paged {q} {n} y l) e f = (omega arith, λ m. l)
     sparing unposted x (counted {j} o) e f = absurd (no-process j o e)
-    sparing unposted x (freed-word {j} o y) e f = absurd (no-process j o e)
+    sparing unposted x (freed-word j o z y) e f = absurd (no-process j o e)
     sparing unposted x (cleared c y) e f = absurd (unreleased c f)
     sparing unposted x linked e f = absurd (no-process file tt e)
     sparing unposted x sized e f = absurd (no-process file tt e)
-    sparing unposted x (set-bits {j} c o) e f = absurd (no-process j o e)
+    sparing unposted x (set-bits {j} c o z) e f = absurd (no-process j o e)
     sparing unposted x (posted c y) e f = absurd (unposted c f)
     sparing unposted x (received c y) e f = absurd (unreceived c f)
 

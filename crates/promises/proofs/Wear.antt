@@ -93,11 +93,11 @@ module _ (h : List ℕ) (r : Addr → ℕ) (k : Call) (j : Kind) (i : ℕ) where
   counts x (emptied l {q} {n} a w) e = absurd (entry-past l n w (word-of x e))
   counts x (paged a l) e = absurd (omega (arith, word-of x e))
   counts x (counted {j = l} o) e = absurd (omega (arith, word-of x e, object-words l o .holders-at))
-  counts x (freed-word o n) e = absurd (n (sym (word-of x e)))
+  counts x (freed-word l o f n) e = absurd (n (sym (word-of x e)))
   counts x (cleared c n) e = absurd (n (sym (word-of x e)))
   counts x linked e = absurd (omega (arith, word-of x e))
   counts x sized e = absurd (omega (arith, word-of x e))
-  counts x (set-bits {j = l} c o) e = absurd (omega (arith, word-of x e, object-words l o .bits-at))
+  counts x (set-bits {j = l} c o f) e = absurd (omega (arith, word-of x e, object-words l o .bits-at))
   counts x (posted {n} c m) e = absurd (let y = word-of x e in omega (arith, m (λ z. omega arith)))
   counts x (received {n} c m) e = absurd (let y = word-of x e in omega (arith, m (λ z. omega arith)))
 

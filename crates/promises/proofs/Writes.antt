@@ -21,6 +21,7 @@ use Rattle.rules.specs.Call08.{openFile}
 use Rattle.rules.specs.Call09.{close}
 use Rattle.rules.specs.Call10.{link}
 use Rattle.rules.specs.Call11.{unlinked, unlink}
+use Rattle.rules.specs.Call12.{isShared, setBitsOf}
 use Rattle.rules.specs.Call13.{readBlock}
 use Rattle.rules.specs.Call14.{writeBlock}
 use Rattle.rules.specs.Call15.{queued, post}
@@ -59,6 +60,12 @@ Fills process n = ⊥
 Fills segment n = Unit {0}
 Fills file n = (n ≡ 7 → ⊥) → n ≡ 8
 
+-- the calls that free an object
+abbrev pub Frees : Kind → ℕ → Type 0
+Frees process n = ⊥
+Frees segment n = (n ≡ 2 → ⊥) → n ≡ 5
+Frees file n = (n ≡ 2 → ⊥) → (n ≡ 9 → ⊥) → n ≡ 11
+
 -- the call that makes an object of a kind
 abbrev pub Makes : Kind → ℕ → Type 0
 Makes process n = n ≡ 1
@@ -76,12 +83,12 @@ pub data Wrote (h : List ℕ) (r : Addr → ℕ) (k : Call) : Word → Type 0 wh
   paged : {q n v : ℕ} → Acting r k q → pagesAt ≤ n → Wrote h r k (at process q n ≔ v)
   -- an object's holders counted, or the object freed; the process that call 2 releases cleared
   counted : {j : Kind} {i v : ℕ} → Object j → Wrote h r k (at j i (holders j) ≔ v)
-  freed-word : {j : Kind} {i n : ℕ} → Object j → (n ≡ serial → ⊥) → Wrote h r k (at j i n ≔ 0)
+  freed-word : (j : Kind) {i n : ℕ} → Object j → Frees j (k .code) → (n ≡ serial → ⊥) → Wrote h r k (at j i n ≔ 0)
   cleared : {n : ℕ} → k .code ≡ 2 → (n ≡ serial → ⊥) → Wrote h r k (at process (indexOf (orSelf r (k .caller) (k .a))) n ≔ 0)
   -- a file's links and size; bits
   linked : {i v : ℕ} → Wrote h r k (at file i links ≔ v)
   sized : {i v : ℕ} → Wrote h r k (at file i size ≔ v)
-  set-bits : {j : Kind} {i v : ℕ} → k .code ≡ 12 → Object j → Wrote h r k (at j i (bits j) ≔ v)
+  set-bits : {j : Kind} {i v : ℕ} → k .code ≡ 12 → Object j → isShared r j i ≡ false → Wrote h r k (at j i (bits j) ≔ v)
   -- a queue's length and messages: the receiver's of a post, the caller's at a receive
   posted : {n v : ℕ} → k .code ≡ 15 → MailWord n → Wrote h r k (at process (indexOf (orSelf r (k .caller) (k .a))) n ≔ v)
   received : {n v : ℕ} → k .code ≡ 16 → MailWord n → Wrote h r k (at process (k .caller) n ≔ v)
@@ -107,17 +114,18 @@ module _ (h : List ℕ) (r : Addr → ℕ) (k : Call) where
   of-emptied : (j : Kind) → Object j → (p : ℕ) → Acting r k p → (d : ℕ) → d < entries → Writes (entered j p d 0 0)
   of-emptied j o p a d l = let w = held-word j o d l in also (emptied j a (w .0)) (also (emptied j a (w .1)) nil)
 
-  of-freed : (j : Kind) → Object j → (i : ℕ) → Writes (freed j i)
+  of-freed : (j : Kind) → Object j → Frees j (k .code) → (i : ℕ) → Writes (freed j i)
   unfolding zeros
-  of-freed j o i = also (freed-word {n = live} o (λ e. omega arith)) (all-tab (Wrote h r k) 2 (recordWords j - 2) _ (λ n lo hi. freed-word {n = n} o (λ e. omega arith)))
+  of-freed j o f i =
+      also (freed-word j {n = live} o f (λ e. omega arith)) (all-tab (Wrote h r k) 2 (recordWords j - 2) _ (λ n lo hi. freed-word j {n = n} o f (λ e. omega arith)))
 
   of-cleared : k .code ≡ 2 → Writes (freed process (indexOf given))
   unfolding zeros
   of-cleared e = also (cleared {n = live} e (λ x. omega arith)) (all-tab (Wrote h r k) 2 (recordWords process - 2) _ (λ n lo hi. cleared {n = n} e (λ x. omega arith)))
 
-  of-less : (q : Addr → ℕ) (j : Kind) → Object j → (i : ℕ) → Writes (oneLess q j i)
+  of-less : (q : Addr → ℕ) (j : Kind) → Object j → Frees j (k .code) → (i : ℕ) → Writes (oneLess q j i)
   unfolding oneLess
-  of-less q j o i = all-if (Wrote h r k) (eqb (q (at j i (holders j))) 1 && not (kept q j i)) (freed j i) ((at j i (holders j) ≔ q (at j i (holders j)) - 1) ∷ []) (λ e. of-freed j o i) (λ e. also (counted o) nil)
+  of-less q j o f i = all-if (Wrote h r k) (eqb (q (at j i (holders j))) 1 && not (kept q j i)) (freed j i) ((at j i (holders j) ≔ q (at j i (holders j)) - 1) ∷ []) (λ e. of-freed j o f i) (λ e. also (counted o) nil)
 
   of-more : (q : Addr → ℕ) (p : ℕ) (j : Kind) → Object j → (s : ℕ) → Writes (oneMore h q p j s)
   of-more q p j o s = all-if (Wrote h r k) (inOwnCell h p j s) _ [] (λ e. also (counted o) nil) (λ e. nil)
@@ -131,31 +139,31 @@ module _ (h : List ℕ) (r : Addr → ℕ) (k : Call) where
   of-cleared-pages q segment p a d = of-pages p a (pageLeft q p d)
   of-cleared-pages q file p a d = nil
 
-  of-given-up : (q : Addr → ℕ) (j : Kind) → Object j → (p : ℕ) → Acting r k p → (d s : ℕ) → d < entries → Writes (givenUp h q j p d s)
+  of-given-up : (q : Addr → ℕ) (j : Kind) → Object j → Frees j (k .code) → (p : ℕ) → Acting r k p → (d s : ℕ) → d < entries → Writes (givenUp h q j p d s)
   unfolding givenUp emptiedEntry
-  of-given-up q j o p a d s l = all-append _ (of-cleared-pages q j p a d)
-      (all-append _ (of-emptied j o p a d l) (all-if (Wrote h r k) (inOwnCell h p j s) (oneLess q j (indexOf s)) [] (λ e. of-less q j o (indexOf s)) (λ e. nil)))
+  of-given-up q j o f p a d s l = all-append _ (of-cleared-pages q j p a d)
+      (all-append _ (of-emptied j o p a d l) (all-if (Wrote h r k) (inOwnCell h p j s) (oneLess q j (indexOf s)) [] (λ e. of-less q j o f (indexOf s)) (λ e. nil)))
 
-  of-dropped : (q : Addr → ℕ) (j : Kind) → Object j → (p : ℕ) → Acting r k p → (d : ℕ) → d < entries → Writes (dropped h q j p d)
+  of-dropped : (q : Addr → ℕ) (j : Kind) → Object j → Frees j (k .code) → (p : ℕ) → Acting r k p → (d : ℕ) → d < entries → Writes (dropped h q j p d)
   unfolding dropped
-  of-dropped q j o p a d l = all-if (Wrote h r k) (eqb (q (at process p (heldAt j d))) 0) [] _ (λ e. nil) (λ e. of-given-up q j o p a d _ l)
+  of-dropped q j o f p a d l = all-if (Wrote h r k) (eqb (q (at process p (heldAt j d))) 0) [] _ (λ e. nil) (λ e. of-given-up q j o f p a d _ l)
 
-  of-dropped-to : (q : Addr → ℕ) (j : Kind) → Object j → (p : ℕ) → Acting r k p → (n : ℕ) → n ≤ entries → Writes (droppedTo h q j p n)
+  of-dropped-to : (q : Addr → ℕ) (j : Kind) → Object j → Frees j (k .code) → (p : ℕ) → Acting r k p → (n : ℕ) → n ≤ entries → Writes (droppedTo h q j p n)
   unfolding droppedTo
-  of-dropped-to q j o p a zero l = nil
-  of-dropped-to q j o p a (suc n) l =
-      all-append _ (of-dropped-to q j o p a n (omega arith)) (of-dropped (over q (droppedTo h q j p n)) j o p a n (omega arith))
+  of-dropped-to q j o f p a zero l = nil
+  of-dropped-to q j o f p a (suc n) l =
+      all-append _ (of-dropped-to q j o f p a n (omega arith)) (of-dropped (over q (droppedTo h q j p n)) j o f p a n (omega arith))
 
   of-released : k .code ≡ 2 → Writes (released h r (indexOf given))
   unfolding released
   of-released e =
       let a = released-one e in
-      all-append _ (of-dropped-to r file tt _ a entries (omega arith))
-      (all-append _ (of-dropped-to (over r (droppedTo h r file (indexOf given) entries)) segment tt _ a entries (omega arith)) (of-cleared e))
+      all-append _ (of-dropped-to r file tt (λ n. absurd (n e)) _ a entries (omega arith))
+      (all-append _ (of-dropped-to (over r (droppedTo h r file (indexOf given) entries)) segment tt (λ n. absurd (n e)) _ a entries (omega arith)) (of-cleared e))
 
-  of-unlinked : (i : ℕ) → Writes (unlinked r i)
+  of-unlinked : k .code ≡ 11 → (i : ℕ) → Writes (unlinked r i)
   unfolding unlinked
-  of-unlinked i = all-if (Wrote h r k) (eqb (r (at file i links)) 1 && eqb (r (at file i opens)) 0) _ _ (λ e. of-freed file tt i) (λ e. also linked nil)
+  of-unlinked e i = all-if (Wrote h r k) (eqb (r (at file i links)) 1 && eqb (r (at file i opens)) 0) _ _ (λ t. of-freed file tt (λ n m. e) i) (λ t. also linked nil)
 
   -- ---- a record made: the caller's cell has room
 
@@ -204,6 +212,12 @@ module _ (h : List ℕ) (r : Addr → ℕ) (k : Call) where
         (all-append _ (all-tab (Wrote h r k) messagesAt (messageWords * (messages - 1)) _ (λ n lo hi. received {n = n} e (λ x. (omega arith, omega arith))))
         (all-tab (Wrote h r k) (messageAt (messages - 1) 0) messageWords _ (λ n lo hi. received {n = n} e (λ x. (omega arith, omega arith)))))
 
+-- what call 12 that is carried out says of a segment
+shared-clear : (h : List ℕ) (r : Addr → ℕ) (p s b : ℕ) (buffer : List ℕ) (j : Kind) → Object j → Clear (setBitsOf h r p s b buffer j .refusals) → isShared r j (indexOf s) ≡ false
+shared-clear h r p s b buffer process o ok = absurd o
+shared-clear h r p s b buffer segment o ok = ok .1 .1 .1 .1 .1 .0
+shared-clear h r p s b buffer file o ok = refl
+
 -- ---- every call
 
 pub writes : (h : List ℕ) (r : Addr → ℕ) (st : List ℕ) (k : Call) → Caller h r (k .caller) → Clear (ruleOf h r st k .refusals) → AllOf (Wrote h r k) (ruleOf h r st k .effects .words)
@@ -216,14 +230,14 @@ writes h r st k me =
       call-2 = λ e ok. of-released h r k e;
       call-3 = λ e ok. all-append _ (of-object h r k me segment e (ok .1 .1 .1 .0) _ _ _ _ _) (of-filled h r k segment tt tt (freeEntry r segment p) _ _ (free-entry r segment p (ok .1 .1 .0) .in-record));
       call-4 = λ e ok. all-append _ (of-filled h r k segment tt tt (freeEntry r segment p) _ _ (free-entry r segment p (ok .1 .1 .1 .1 .1 .1 .1 .0) .in-record)) (of-more h r k r p segment tt _);
-      call-5 = λ e ok. of-given-up h r k r segment tt p itself (k .a) _ (leb-false entries (k .a) (ok .0));
+      call-5 = λ e ok. of-given-up h r k r segment tt (λ n. e) p itself (k .a) _ (leb-false entries (k .a) (ok .0));
       call-6 = λ e ok. let l = leb-false entries (k .a) (ok .1 .0) in also (filled segment tt (omega arith, omega arith)) nil;
       call-7 = λ e ok. all-append _ (of-object h r k me file e (ok .1 .1 .1 .0) _ _ _ _ _) (of-filled h r k file tt (λ n. absurd (n e)) (freeEntry r file p) _ _ (free-entry r file p (ok .1 .1 .0) .in-record));
       call-8 = λ e ok. all-append _ (of-filled h r k file tt (λ n. e) (freeEntry r file p) _ _ (free-entry r file p (ok .1 .1 .1 .1 .1 .1 .0) .in-record)) (of-more h r k r p file tt _);
-      call-9 = λ e ok. of-given-up h r k r file tt p itself (k .a) _ (leb-false entries (k .a) (ok .0));
+      call-9 = λ e ok. of-given-up h r k r file tt (λ n m. absurd (m e)) p itself (k .a) _ (leb-false entries (k .a) (ok .0));
       call-10 = λ e ok. also linked nil;
-      call-11 = λ e ok. of-unlinked h r k (indexOf (orSelf r p (k .a)));
-      call-12 = λ e. by-bits h r k P (λ s j o ok. also (set-bits e o) nil);
+      call-11 = λ e ok. of-unlinked h r k e (indexOf (orSelf r p (k .a)));
+      call-12 = λ e. by-bits h r k P (λ s j o ok. also (set-bits e o (shared-clear h r p s (k .b) (k .buffer) j o ok)) nil);
       call-13 = λ e ok. nil;
       call-14 = λ e ok. also sized nil;
       call-15 = λ e ok. of-posted h r k me e;

@@ -11,8 +11,10 @@ ghost use Rattle.output.specs.Wrote.{Wrote};
 ghost use Rattle.text.specs.Names.{errors, padded};
 use rules::XOK;
 
+const ERRORS: usize = 34;
+
 // The names of the errors, by number, each filled up with spaces.
-const NAMES: [[u8; 16]; 33] = [
+const NAMES: [[u8; 16]; ERRORS] = [
     *b"XOK             ",
     *b"XbTab           ",
     *b"XbPrSd          ",
@@ -46,10 +48,11 @@ const NAMES: [[u8; 16]; 33] = [
     *b"XoutSgAldUmp    ",
     *b"XinSgAldMap     ",
     *b"XvrtMmCfl       ",
+    *b"XshSg           ",
 ];
 
 // How long each name is.
-const LENGTHS: [usize; 33] = [
+const LENGTHS: [usize; ERRORS] = [
     3,
     5,
     6,
@@ -83,6 +86,7 @@ const LENGTHS: [usize; 33] = [
     12,
     11,
     9,
+    5,
 ];
 
 fn name_row(n: u32) -> [u8; 16]
@@ -103,7 +107,7 @@ fn name_length(n: u32) -> usize
 pub fn put_error_name(out: &mut [u8], at: usize, n: u32) -> usize
     ensures { λ r. ⌜ Wrote (now (out .entry)) at (errorName n) r (now (out .exit)) ⌝ }
 {
-    if 33 <= n {
+    if ERRORS <= n as usize {
         return at;
     }
     let row = name_row(n);

@@ -455,6 +455,7 @@ impl Caller<'_> {
             _ => return Err(XnoObj),
         };
         let object = self.own(kind, seid)?;
+        refuse_if(kind == Kind::Segment && self.word(object, SHARABLE) == 1, XshSg)?;
         self.table[object.at + BITS] = bits;
         DONE
     }

@@ -36,4 +36,5 @@ pub enum Error {
     XoutSgAldUmp = 30,
     XinSgAldMap = 31,
     XvrtMmCfl = 32,
+    XshSg = 33,
 }

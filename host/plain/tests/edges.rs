@@ -57,7 +57,7 @@ fn the_listing() {
 fn error_names() {
     let names = "XOK XbTab XbPrSd XbdKcl XbParam XbSz XbSgSz XbadModes XnSgDes XbSgDes XbadOd XbSgSd XnoObj XnoAcc XnoOwner \
                  XnoPriv XdapViol XsgNoAcc XdupSg Xbusy XnotReadable XnotWritable XbadBlockNo XendOfFile XbadLink XodSpace \
-                 XnoSpace XnoProc XpostEh XbNoMes XoutSgAldUmp XinSgAldMap XvrtMmCfl";
+                 XnoSpace XnoProc XpostEh XbNoMes XoutSgAldUmp XinSgAldMap XvrtMmCfl XshSg";
     let errors = [
         XOK,
         XbTab,
@@ -92,6 +92,7 @@ fn error_names() {
         XoutSgAldUmp,
         XinSgAldMap,
         XvrtMmCfl,
+        XshSg,
     ];
     assert_eq!(names.split_whitespace().count(), errors.len());
     for (at, (name, error)) in names.split_whitespace().zip(errors).enumerate() {

@@ -184,10 +184,11 @@ fn r09_set_access() {
     assert_eq!(hall.error(0, SET_ACCESS, [15, 0, 0]), XbSgDes);
     hall.done(0, SET_ACCESS, [0, 0, 0]);
     assert_eq!(hall.error(0, SET_ACCESS, [0, 384, 0]), XOK, "the stored access is not asked");
-    hall.done(0, SET_BITS, [seid, 0o400, 0]);
+    // A sharable segment's bits don't change by calls: here they are others from the start.
+    hall.segment(0)[4] = 0o400;
     assert_eq!(hall.error(0, SET_ACCESS, [0, 384, 0]), XdapViol);
     assert_eq!(hall.error(3, SET_ACCESS, [0, 128, 0]), XnoAcc);
-    hall.done(0, SET_BITS, [seid, 0, 0]);
+    hall.segment(0)[4] = 0;
     assert_eq!(hall.error(0, SET_ACCESS, [0, 0, 0]), XOK, "0 lacks nothing");
     assert_eq!(hall.error(3, SET_ACCESS, [0, 256, 0]), XdapViol);
     hall.done(0, RELEASE_SEGMENT, [0; 3]);
@@ -321,10 +322,10 @@ fn r16_status_and_access() {
     let seid = hall.done(0, BUILD, [512, 0o600, 1]).0;
     assert_eq!(hall.status(3, seid).unwrap()[..8], [5, 0, 0, 0, 0, 0, 1, 0x80]);
     assert_eq!(hall.done(0, ACCESS, [0, 0, 0]), (384, 0));
-    hall.done(0, SET_BITS, [seid, 0o277, 0]);
+    hall.segment(0)[4] = 0o277;
     assert_eq!(hall.done(0, ACCESS, [0, 0, 0]), (128, 0), "limited by today's bits");
     hall.done(0, SET_ACCESS, [0, 0, 0]);
-    hall.done(0, SET_BITS, [seid, 0o777, 0]);
+    hall.segment(0)[4] = 0o777;
     assert_eq!(hall.done(0, ACCESS, [0, 0, 0]), (0, 0), "and by what is stored");
     assert_eq!(hall.status(3, seid).unwrap()[6..8], [1, 0xff], "no bits are judged");
     assert_eq!(hall.error(0, ACCESS, [16, 0, 0]), XnSgDes);

@@ -163,12 +163,12 @@ fn r05_stale_pages() {
 fn r06_no_access_is_asked() {
     let mut hall = mapped();
     hall.done(0, SET_ACCESS, [1, 0, 0]);
-    hall.done(0, SET_BITS, [segment(1, 1), 0, 0]);
+    hall.segment(1)[4] = 0;
     hall.done(0, REMAP, [1, 2, NONE]);
     assert_eq!(hall.done(0, PAGE_ACCESS, [3, 0, 0]), (0, 0));
     hall.done(0, REMAP, [0, 0, NONE]);
     assert_eq!(hall.done(0, PAGE_ACCESS, [0, 0, 0]), (384, 0));
-    hall.done(0, SET_BITS, [segment(0, 1), 0o444, 0]);
+    hall.segment(0)[4] = 0o444;
     assert_eq!(hall.done(0, PAGE_ACCESS, [0, 0, 0]), (256, 0), "as call 18, by today's bits");
     for page in [8, 9, u32::MAX] {
         assert_eq!(hall.error(0, PAGE_ACCESS, [page, 0, 0]), XbParam);
@@ -178,4 +178,22 @@ fn r06_no_access_is_asked() {
     assert_eq!(map(&mut hall, 1), [0; 8], "a child's map is empty");
     hall.done(0, RELEASE, [0; 3]);
     assert_eq!(map(&mut hall, 0), [0; 8]);
+}
+
+#[test]
+fn r14_shared_segments_are_fixed() {
+    let mut hall = Hall::two_levels();
+    let shared = hall.done(0, BUILD, [512, 0o644, 1]).0;
+    let own = hall.done(0, BUILD, [512, 0o644, 0]).0;
+    assert_eq!(hall.error(0, SET_BITS, [shared, 512, 0]), XbParam);
+    assert_eq!(hall.error(0, SET_BITS, [shared + 1, 0o600, 0]), XbSgSd);
+    assert_eq!(hall.error(3, SET_BITS, [shared, 0o600, 0]), XnoAcc);
+    hall.done(0, SPAWN, [5, 5, 0]);
+    assert_eq!(hall.error(1, SET_BITS, [shared, 0o600, 0]), XnoOwner, "14 before 33");
+    assert_eq!(hall.error(0, SET_BITS, [shared, 0o600, 0]), XshSg, "though nobody else holds it");
+    assert_eq!(hall.error(0, SET_BITS, [shared, 0o644, 0]), XshSg, "though they would not change");
+    assert_eq!(hall.error(0, SET_BITS, [own, 0o600, 0]), XOK);
+    assert_eq!(hall.done(0, ACCESS, [1, 0, 0]), (384, 0));
+    hall.done(0, SET_BITS, [own, 0o277, 0]);
+    assert_eq!(hall.done(0, ACCESS, [1, 0, 0]), (128, 0), "judged anew, also here");
 }

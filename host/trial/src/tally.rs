@@ -9,7 +9,7 @@ use std::collections::BTreeMap;
 use std::fmt;
 
 pub const CODES: usize = 20;
-pub const ERRORS: usize = 33;
+pub const ERRORS: usize = 34;
 
 /// The refusals in each call's own list. A 12 of call 14 cannot arise: write is held only in the own cell, and there nothing is stale.
 pub const REFUSALS: [&[u32]; CODES + 1] = [
@@ -25,7 +25,7 @@ pub const REFUSALS: [&[u32]; CODES + 1] = [
     &[10],
     &[12, 13, 14, 24],
     &[12, 13, 14, 24],
-    &[4, 11, 12, 13, 14],
+    &[4, 11, 12, 13, 14, 33],
     &[5, 10, 20, 12, 16, 22, 23],
     &[5, 10, 21, 16, 22],
     &[5, 2, 13, 28],
@@ -73,6 +73,9 @@ pub const SITUATIONS: &[&str] = &[
     "close of another cell's live file",
     "unlink frees the file",
     "unlink leaves an open file",
+    "set bits of a segment that is not sharable",
+    "set bits refused of a sharable segment that nobody else holds",
+    "set bits refused of a sharable segment though they would not change",
     "read refused to the owner though all may read",
     "write fills a hole",
     "write extends by one block",
@@ -284,6 +287,10 @@ impl Scene<'_> {
                 self.tally.met("unlink frees the file", last && !open);
                 self.tally.met("unlink leaves an open file", last && open);
             }
+            12 => {
+                let segment = Seid::of(request.a).class == Kind::Segment.class();
+                self.tally.met("set bits of a segment that is not sharable", segment);
+            }
             14 => {
                 let (seid, _) = self.before.entry(self.shape, self.caller, DESCRIPTORS, request.a as usize);
                 let size = self.word(Kind::File, Seid::of(seid).index, SIZE);
@@ -459,6 +466,13 @@ impl Scene<'_> {
                     let used = |word: &u32| *word != 0 && *word != request.c + 1;
                     self.tally.met("remap refused: a used page", run.iter().any(used));
                 }
+            }
+            (12, 33) => {
+                let segment = Seid::of(request.a).index;
+                let alone = self.word(Kind::Segment, segment, HOLDS) == 1;
+                let same = self.word(Kind::Segment, segment, BITS) == request.b;
+                self.tally.met("set bits refused of a sharable segment that nobody else holds", alone);
+                self.tally.met("set bits refused of a sharable segment though they would not change", same);
             }
             (13, 16) => {
                 let (seid, _) = self.before.entry(self.shape, self.caller, DESCRIPTORS, request.a as usize);

@@ -1,9 +1,9 @@
 //! The plain monitor by itself, on random tables: what every monitor of document 01 must keep, and what it must not tell.
 
 use plain::Kind;
-use plain::table::{MAP, PAGES};
+use plain::table::{BITS, LIVE, MAP, PAGES, SERIAL, SHARABLE};
 use trial::tally::Tally;
-use trial::{Monitor, Plain, Rng, calls, damage, secrecy, tables};
+use trial::{Monitor, Plain, Rng, World, calls, damage, secrecy, tables};
 
 /// Every call on a well-formed table leaves it well formed, and a refused one changes nothing.
 #[test]
@@ -40,6 +40,12 @@ fn calls_keep_tables_well_formed() {
                 let kept = world.table[map..map + PAGES] == before.table[map..map + PAGES];
                 let released = !world.live(&shape, Kind::Process, process);
                 assert!(kept || released, "the map of process {process} was changed: {call:?}");
+            }
+            for segment in 0..shape.count(Kind::Segment) {
+                let word = |world: &World, word: usize| world.table[shape.at(Kind::Segment, segment) + word];
+                let lives_on = [LIVE, SERIAL].iter().all(|&at| word(&world, at) == word(&before, at));
+                let fixed = word(&before, SHARABLE) == 1 && lives_on;
+                assert!(!fixed || word(&world, BITS) == word(&before, BITS), "a sharable segment's bits: {call:?}");
             }
             assert_eq!(Plain.check(&world.table, world.store.len()), 0, "left a bad table: {call:?}");
             made += 1;

@@ -15,23 +15,32 @@ use borrow.Author.Needs.{needs}
 use Rattle.calls.proofs.files.set_bits_of.Statement.{statement}
 use Rattle.calls.proofs.files.set_bits_of.Tie as tie
 
-number : (c : tie.After-own) (buffer : List ℕ) → c .own .result ≡ firstRefusal (setBitsOf (configuration (c .before .before .before .before .before
-    .args .t .now)) (wordsOf (c .before .before .before .before .before .args .t .now)) (c .before .before .before .before .before .args .c .slot) (c
-    .before .before .before .before .before .args .s) (c .before .before .before .before .before .args .b) buffer (kindOf (c .before .before .before
-    .before .before .args .kind)) .refusals)
+abbrev seen : tie.After-or-refuse2 → tie.After-look
+seen c = c .before .before .before .before .before
+
+abbrev start : tie.After-or-refuse2 → tie.Start
+start c = seen c .before .before .before
+
+number : (c : tie.After-or-refuse2) (buffer : List ℕ) → c .or-refuse2 .result ≡ firstRefusal (setBitsOf (configuration (start c .args .t .now))
+    (wordsOf (start c .args .t .now)) (start c .args .c .slot) (start c .args .s) (start c .args .b) buffer (kindOf (start c .args .kind)) .refusals)
 number c buffer =
-    let at-start = c .before .before .before .before .before in
-    bits-number (at-start .pre .0) (kindOf (at-start .args .kind)) (at-start .args .s) (at-start .args .b) buffer (c .before .before .look .ensures)
-    (c .before .or-refuse .ensures) (c .own .ensures)
+    bits-number (start c .pre .0) (kindOf (start c .args .kind)) (start c .args .s) (start c .args .b) buffer (seen c .look .ensures)
+    (c .before .before .before .is-shared .ensures) (c .before .before .or-refuse .ensures) (c .before .own .ensures) (c .or-refuse2 .ensures)
 
 look-requires : tie.Need-look-requires
 look-requires c κs = search needs
+
+is-shared-requires : tie.Need-is-shared-requires
+is-shared-requires c κs = search needs
 
 or-refuse-requires : tie.Need-or-refuse-requires
 or-refuse-requires c κs = search needs
 
 own-requires : tie.Need-own-requires
 own-requires c κs = search needs
+
+or-refuse-requires-2 : tie.Need-or-refuse-requires-2
+or-refuse-requires-2 c κs = search needs
 
 refused-requires : tie.Need-refused-requires
 refused-requires c κs = search needs
@@ -46,7 +55,7 @@ bits-word-requires : tie.Need-bits-word-requires
 bits-word-requires c κs = search needs
 
 write-requires : tie.Need-write-requires
-write-requires c κs = bits-small (kindOf (c .before .before .before .before .before .before .before .before .args .kind)) (c .bits-word .ensures)
+write-requires c κs = bits-small (kindOf (start (c .before .before .before) .args .kind)) (c .bits-word .ensures)
 
 answered-requires : tie.Need-answered-requires
 answered-requires c κs = search needs
@@ -56,20 +65,23 @@ same-length-2 c = search needs
 
 returns-2 : tie.Need-returns-2
 returns-2 c =
-    let at-write = c .before .before .before in let at-bits-word = at-write .before in let at-if1 = at-bits-word .before .before in
-    let at-own = at-if1 .before in let at-or-refuse = at-own .before in let at-look = at-or-refuse .before in
-    let at-start = at-look .before .before .before in
-    λ buffer. left-done _ _ (number (at-own) buffer) (at-if1 .if1 .left) (c .answered .ensures) (at-write .write .ensures ∙ bits-words (at-start .pre
-    .0) (kindOf (at-start .args .kind)) (at-start .args .s) (at-start .args .b) buffer (at-look .look .ensures) (at-or-refuse .or-refuse .ensures)
-    (at-own .own .ensures) (at-if1 .if1 .left) (at-bits-word .bits-word .ensures))
+    let wrote = c .before .before .before in
+    let past = wrote .before .before .before in
+    let judged = past .before in
+    λ buffer. left-done _ _ (number judged buffer) (past .if1 .left) (c .answered .ensures)
+    (wrote .write .ensures ∙ bits-words (start judged .pre .0) (kindOf (start judged .args .kind)) (start judged .args .s) (start judged .args .b) buffer
+    (seen judged .look .ensures) (judged .before .before .before .is-shared .ensures) (judged .before .before .or-refuse .ensures)
+    (judged .before .own .ensures) (judged .or-refuse2 .ensures) (past .if1 .left) (wrote .before .bits-word .ensures))
 
 pub set-bits-of-spec : {M : Type 1} → statement M
 set-bits-of-spec =
     tie.close
     (tie.spec
     look-requires
+    is-shared-requires
     or-refuse-requires
     own-requires
+    or-refuse-requires-2
     refused-requires
     same-length
     returns
