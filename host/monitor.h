@@ -22,7 +22,7 @@ extern "C" {
 
 /* The calls, with their arguments a, b and c, and what they give. */
 enum monitor_code {
-    MONITOR_SPAWN = 1, /* Owner, group. Gives a process seid. */
+    MONITOR_SPAWN = 1, /* Owner, group, bits. Gives a process seid. */
     MONITOR_RELEASE_PROCESS = 2, /* Process seid. */
     MONITOR_BUILD_SEGMENT = 3, /* Size in bytes, bits, sharable 0 or 1. Gives a segment seid and a designator. */
     MONITOR_RENDEZVOUS = 4, /* Segment seid, access. Gives a designator. */
@@ -33,7 +33,7 @@ enum monitor_code {
     MONITOR_CLOSE = 9, /* Descriptor. */
     MONITOR_LINK = 10, /* File seid. */
     MONITOR_UNLINK = 11, /* File seid. */
-    MONITOR_SET_BITS = 12, /* File seid, or that of a segment that is not sharable; bits. */
+    MONITOR_SET_BITS = 12, /* Seid of a process, a file, or a segment that is not sharable; bits. */
     MONITOR_READ_BLOCK = 13, /* Descriptor, block; a buffer of 512 bytes, which is filled. */
     MONITOR_WRITE_BLOCK = 14, /* Descriptor, block; a buffer of 512 bytes. */
     MONITOR_POST = 15, /* Process seid; a buffer of 12 bytes. */

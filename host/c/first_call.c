@@ -20,10 +20,10 @@ static uint32_t table[WORDS] = {
 static uint8_t store[BYTES];
 
 /* A call by process 0; a buffer is never NULL, also where the call has none. */
-static monitor_answer call(uint32_t code, uint32_t a, uint32_t b, uint8_t *buffer, size_t length)
+static monitor_answer call(uint32_t code, uint32_t a, uint32_t b, uint32_t c, uint8_t *buffer, size_t length)
 {
     static uint8_t none[1];
-    return monitor_call(table, WORDS, store, BYTES, 0, code, a, b, 0, length == 0 ? none : buffer, length);
+    return monitor_call(table, WORDS, store, BYTES, 0, code, a, b, c, length == 0 ? none : buffer, length);
 }
 
 int main(void)
@@ -34,18 +34,18 @@ int main(void)
     printf("set-up: %s\n", monitor_error_name(monitor_setup(table, WORDS, BYTES)));
     printf("well formed: %s\n", monitor_check(table, WORDS, BYTES) == 0 ? "yes" : "no");
 
-    answer = call(MONITOR_SPAWN, 17, 18, NULL, 0);
+    answer = call(MONITOR_SPAWN, 17, 18, 0666, NULL, 0); /* 0666: all may post to it */
     printf("spawn, owner 17, group 18: %s, seid %" PRIu32 "\n", monitor_error_name(answer.error), answer.first);
-    answer = call(MONITOR_SPAWN, 17, 18, NULL, 0);
+    answer = call(MONITOR_SPAWN, 17, 18, 0666, NULL, 0);
     printf("spawn once more: %s\n", monitor_error_name(answer.error));
 
-    answer = call(MONITOR_CREATE_FILE, 0600, 3, NULL, 0);
+    answer = call(MONITOR_CREATE_FILE, 0600, 3, 0, NULL, 0);
     printf("create a file: %s, seid %" PRIu32 ", descriptor %" PRIu32 "\n", monitor_error_name(answer.error),
            answer.first, answer.second);
-    answer = call(MONITOR_WRITE_BLOCK, answer.second, 0, block, sizeof block);
+    answer = call(MONITOR_WRITE_BLOCK, answer.second, 0, 0, block, sizeof block);
     printf("write its block 0: %s\n", monitor_error_name(answer.error));
     block[0] = 'Q';
-    answer = call(MONITOR_READ_BLOCK, 0, 0, block, sizeof block);
+    answer = call(MONITOR_READ_BLOCK, 0, 0, 0, block, sizeof block);
     printf("read it: %s, \"%s\"\n", monitor_error_name(answer.error), (const char *)block);
     return 0;
 }

@@ -14,7 +14,7 @@ fn main() -> Result<(), Error> {
         ],
     };
     let [desk, auditor] = [0, 1].map(|cell| hall.first_process(cell));
-    let tenants = [(desk, "front desk"), (auditor, "auditor")];
+    let tenants = [(desk, "front desk"), (desk + 1, "clerk"), (auditor, "auditor")];
     let mut night = Night::open(&hall, &tenants)?;
     let first_use = |slot: u32| u32::from(Seid::new(Kind::Process, slot as u8, 1));
 
@@ -27,8 +27,10 @@ fn main() -> Result<(), Error> {
     night.call(auditor, Code::Receive, [0; 3], &mut [0; 16]);
     night.call(auditor, Code::Post, [first_use(desk), 0, 0], &mut [0; 12]);
     night.call(auditor, Code::Status, [ledger, 0, 0], &mut [0; 16]);
-    night.call(desk, Code::Spawn, [10, 10, 0], &mut []);
-    night.call(desk, Code::Spawn, [10, 10, 0], &mut []);
+    let clerk = Seid::from(night.call(desk, Code::Spawn, [10, 10, 0o600], &mut []).first).slot();
+    night.call(desk, Code::Spawn, [10, 10, 0o600], &mut []);
+    night.call(desk, Code::SetBits, [0, 0o400, 0], &mut []);
+    night.call(clerk, Code::Post, [first_use(desk), 0, 0], &mut b"come quickly".to_owned());
     night.call(desk, Code::Close, [0; 3], &mut []);
     night.call(auditor, Code::ReadBlock, [0, 0, 0], &mut [0; 512]);
     night.close();
@@ -49,7 +51,7 @@ impl<'a> Night<'a> {
         let (words, bytes) = (monitor.table().len(), monitor.store().len());
         println!("HOST UP      table of {words} words, store of {bytes} bytes");
         println!();
-        println!("  n  outcome  who         what was asked                                  what came back");
+        println!("  n  outcome  who         what was asked                                      what came back");
         Ok(Night { monitor, tenants, made: 0, refused: 0 })
     }
 
@@ -66,7 +68,7 @@ impl<'a> Night<'a> {
             Err(why) => ("REFUSED", why.to_string()),
         };
         let asked = call.asked().to_string();
-        println!("{:>3}  {outcome:<7}  {who:<10}  {asked:<46}  {back}", self.made);
+        println!("{:>3}  {outcome:<7}  {who:<10}  {asked:<50}  {back}", self.made);
         answer
     }
 

@@ -38,7 +38,7 @@ macro_rules! codes {
 }
 
 codes! {
-    Spawn = 1, "spawn", "Owner, group. Gives a process seid.";
+    Spawn = 1, "spawn", "Owner, group, bits. Gives a process seid.";
     ReleaseProcess = 2, "release-process", "Process seid.";
     BuildSegment = 3, "build", "Size in bytes, bits, sharable 0 or 1. Gives a segment seid and a designator.";
     Rendezvous = 4, "rendezvous", "Segment seid, access. Gives a designator.";
@@ -49,7 +49,7 @@ codes! {
     Close = 9, "close", "Descriptor.";
     Link = 10, "link", "File seid.";
     Unlink = 11, "unlink", "File seid.";
-    SetBits = 12, "set-bits", "File seid, or that of a segment that is not sharable; bits.";
+    SetBits = 12, "set-bits", "Seid of a process, a file, or a segment that is not sharable; bits.";
     ReadBlock = 13, "read", "Descriptor, block; a buffer of 512 bytes, which is filled.";
     WriteBlock = 14, "write", "Descriptor, block; a buffer of 512 bytes.";
     Post = 15, "post", "Process seid; a buffer of 12 bytes.";

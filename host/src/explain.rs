@@ -84,7 +84,7 @@ impl Display for Asked {
         };
         let object = Seid::from(a);
         match code {
-            Code::Spawn => write!(f, "spawn a process for owner {a}, group {b}"),
+            Code::Spawn => write!(f, "spawn a process for owner {a}, group {b}, {}", Rights(c)),
             Code::ReleaseProcess => write!(f, "release {object}"),
             Code::BuildSegment => write!(f, "build a segment of {a} bytes, {}, {}", Rights(b), Sharable(c)),
             Code::Rendezvous => write!(f, "take up {object} to {}", Use(b)),

@@ -105,6 +105,8 @@ pub mod process {
     pub const PARENT: usize = 4;
     /// The messages that are waiting.
     pub const QUEUED: usize = 5;
+    /// The owner bits; who may write may post.
+    pub const BITS: usize = 6;
     /// The first descriptor: a file seid and modes.
     pub const DESCRIPTORS: usize = 8;
     /// The first designator: a segment seid and an access.

@@ -133,9 +133,10 @@ impl Monitor {
         self.call(caller, code.number(), arguments, buffer).result()
     }
 
-    /// A new process of the caller's cell, whose child it is. Only owner 0 may give another owner or group than its own.
-    pub fn spawn(&mut self, caller: Caller, owner: u16, group: u16) -> Result<Seid, Error> {
-        let (seid, _) = self.ask(caller, Code::Spawn, owner.into(), group.into(), 0)?;
+    /// A new process of the caller's cell, whose child it is. Only owner 0 may give another owner or group than its own. The bits
+    /// say who may post to it; with none nobody can.
+    pub fn spawn(&mut self, caller: Caller, owner: u16, group: u16, bits: Bits) -> Result<Seid, Error> {
+        let (seid, _) = self.ask(caller, Code::Spawn, owner.into(), group.into(), bits.0.into())?;
         Ok(seid.into())
     }
 
@@ -205,8 +206,8 @@ impl Monitor {
         Ok(())
     }
 
-    /// Sets the bits of a file, or of a segment that is not sharable, of the caller's cell and owner. They are judged anew at each
-    /// use.
+    /// Sets the bits of a process, a file, or a segment that is not sharable, of the caller's cell and owner. They are judged anew at
+    /// each use. [`Seid::CALLER`] is the caller.
     pub fn set_bits(&mut self, caller: Caller, object: Seid, bits: Bits) -> Result<(), Error> {
         self.ask(caller, Code::SetBits, object.into(), bits.0.into(), 0)?;
         Ok(())
@@ -236,7 +237,8 @@ impl Monitor {
         Ok(())
     }
 
-    /// Posts a message. To a process of another cell it always succeeds, delivered or not.
+    /// Posts a message. In the caller's cell the receiver's bits must let the caller write; to a process of another cell a post
+    /// always succeeds, delivered or not.
     pub fn post(&mut self, caller: Caller, process: Seid, text: &[u8; TEXT_BYTES]) -> Result<(), Error> {
         self.ask_with(caller, Code::Post, [process.into(), 0, 0], &mut text.clone())?;
         Ok(())

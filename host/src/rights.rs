@@ -1,11 +1,16 @@
-//! What may be done with a file or segment: owner bits, open modes, access.
+//! What may be done with a process, segment or file: owner bits, open modes, access.
 
 use std::fmt;
 
-/// Owner bits: read, write and execute for the owner, for its group and for all, as in `0o644`. Execute grants nothing. More than
-/// 511 is refused.
+/// Owner bits: read, write and execute for the owner, for its group and for all, as in `0o644`. Who may write to a process may post
+/// to it. Execute grants nothing. More than 511 is refused.
 #[derive(Clone, Copy, Debug, Default, PartialEq, Eq, PartialOrd, Ord, Hash)]
 pub struct Bits(pub u16);
+
+impl Bits {
+    /// Those of each cell's first process after set-up: all may read and write.
+    pub const FIRST: Bits = Bits(0o666);
+}
 
 /// As in `rw-r--r--`; or the number, where it is too large.
 impl fmt::Display for Bits {

@@ -17,7 +17,7 @@ pub struct Status {
     pub owner: u16,
     /// Its group.
     pub group: u16,
-    /// Its owner bits; none for a process.
+    /// Its owner bits.
     pub bits: Bits,
     /// Its cell's level.
     pub level: Level,
@@ -41,11 +41,8 @@ impl Status {
 /// As in `file of cell 0, owner 10, group 10, rw-r--r--`.
 impl fmt::Display for Status {
     fn fmt(&self, f: &mut fmt::Formatter) -> fmt::Result {
-        write!(f, "{} of cell {}, owner {}, group {}", self.kind, self.cell, self.owner, self.group)?;
-        match self.kind {
-            Kind::Process => Ok(()),
-            _ => write!(f, ", {}", self.bits),
-        }
+        let Status { kind, cell, owner, group, bits, .. } = self;
+        write!(f, "{kind} of cell {cell}, owner {owner}, group {group}, {bits}")
     }
 }
 

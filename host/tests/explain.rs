@@ -13,7 +13,14 @@ const MESSAGE: [u8; 16] = *b"\x04\x03\x00\x07all is quiet";
 type Made = (Code, [u32; 3], [u32; 2], &'static [u8], &'static str, &'static str);
 
 const MADE: [Made; 20] = [
-    (Code::Spawn, [10, 20, 0], [PROCESS, 0], &[], "spawn a process for owner 10, group 20", "process 3 (use 7)"),
+    (
+        Code::Spawn,
+        [10, 20, 0o620],
+        [PROCESS, 0],
+        &[],
+        "spawn a process for owner 10, group 20, rw--w----",
+        "process 3 (use 7)",
+    ),
     (Code::ReleaseProcess, [0, 0, 0], [0, 0], &[], "release itself", "done"),
     (
         Code::BuildSegment,

@@ -1,7 +1,7 @@
 //! The sizes, places and limits of `monitor::layout` are the library's: tables are set up and used, and looked at.
 
 use monitor::layout::{self, *};
-use monitor::{Cell, Code, Error, Hall, Kind, Level, Seid, setup};
+use monitor::{Bits, Cell, Code, Error, Hall, Kind, Level, Seid, setup};
 
 const FILL: u32 = 0xdead_beef;
 
@@ -118,16 +118,18 @@ fn places() {
     let first = hall.first_process(1);
     let told = status(&mut look, first);
     assert_eq!((told.kind, told.cell, told.level), (Kind::Process, 1, hall.cells[1].level));
+    assert_eq!((told.bits, look.record(Kind::Process, first as usize)[process::BITS]), (Bits::FIRST, 0o666));
     assert_eq!([told.owner, told.group].map(u32::from), [upper[layout::cell::OWNER], upper[layout::cell::GROUP]]);
 
     // Processes.
-    let child = look.call(0, Code::Spawn, [7, 8, 0], &mut []).0;
+    let child = look.call(0, Code::Spawn, [7, 8, 0o640], &mut []).0;
     assert_eq!(child, Seid::new(Kind::Process, 1, 1).into());
     let head = |look: &Look, kind, slot| {
         [record::LIVE, record::SERIAL, record::OWNER, record::GROUP].map(|word| look.record(kind, slot)[word])
     };
     assert_eq!(head(&look, Kind::Process, 1), [1, 1, 7, 8]);
     assert_eq!(look.record(Kind::Process, 1)[process::PARENT], Seid::new(Kind::Process, 0, 1).into());
+    assert_eq!(look.record(Kind::Process, 1)[process::BITS], 0o640);
     for text in [b"the first...", b"the second.."] {
         look.call(0, Code::Post, [child, 0, 0], &mut text.to_vec());
     }

@@ -52,7 +52,7 @@ fn typed(monitor: &mut Monitor, call: &Call, buffer: &mut [u8]) -> Option<Number
         return None;
     }
     Some(match code {
-        Code::Spawn => monitor.spawn(by, a.try_into().ok()?, b.try_into().ok()?).map(|seid| (seid.into(), 0)),
+        Code::Spawn => monitor.spawn(by, a.try_into().ok()?, b.try_into().ok()?, bits(c)?).map(|seid| (seid.into(), 0)),
         Code::ReleaseProcess => none(monitor.release_process(by, seid)),
         Code::BuildSegment => monitor.build_segment(by, a, bits(b)?, sharable?).map(|(seid, d)| (seid.into(), d.0)),
         Code::Rendezvous => monitor.rendezvous(by, seid, Access::of(b)?).map(|d| (d.0, 0)),

@@ -54,16 +54,18 @@ plain-by t p code a b c s buffer f e x y l = record {
   same = ap (λ (k : Rule). k .effects .buffer) e ∙ y;
 }
 
--- call 12's rule is one of two, by the seid's class
+-- call 12's rule is one of three, by the seid's class
 bits-plain : (h : List ℕ) (q : Addr → ℕ) (p a b : ℕ) (buffer : List ℕ) → (setBits h q p a b buffer .effects .bytes ≡ []) × (setBits h q p a b buffer .effects .buffer ≡ buffer)
 unfolding setBits
-bits-plain h q p a b buffer = split _ (eqb (classOf (orSelf q p a)) (class segment)) (λ e. rw e (refl, refl)) (λ e. rw e (refl, refl))
+bits-plain h q p a b buffer =
+    split _ (eqb (classOf (orSelf q p a)) (class process)) (λ e. rw e (refl, refl)) (λ f. split _ (eqb (classOf (orSelf q p a)) (class segment))
+    (λ e. rw (f, e) (refl, refl)) (λ e. rw (f, e) (refl, refl)))
 
 module _ (t : List ℕ) (p code a b c : ℕ) {r : Answer} {t′ : List ℕ} where
-  pub plain-1 : code ≡ 1 → ((buffer : List ℕ) → Left t (λ h q. spawn h q p a b buffer) r t′) → (s buffer : List ℕ) → Plain t p code a b c r t′ s buffer
+  pub plain-1 : code ≡ 1 → ((buffer : List ℕ) → Left t (λ h q. spawn h q p a b c buffer) r t′) → (s buffer : List ℕ) → Plain t p code a b c r t′ s buffer
   unfolding ruleOf spawn
   plain-1 e l s buffer =
-      plain-by t p code a b c s buffer (λ h q. spawn h q p a b buffer) (coded t s p a b c buffer e) refl refl (l buffer)
+      plain-by t p code a b c s buffer (λ h q. spawn h q p a b c buffer) (coded t s p a b c buffer e) refl refl (l buffer)
 
   pub plain-2 : code ≡ 2 → ((buffer : List ℕ) → Left t (λ h q. releaseProcess h q p a buffer) r t′) → (s buffer : List ℕ) → Plain t p code a b c r t′ s buffer
   unfolding ruleOf releaseProcess

@@ -154,13 +154,18 @@ module _ {t : List ℕ} {n : Header} {c : Caller} (sound : Sound t n c) (k : Kin
 
 -- it goes by the seid's class
 module _ (h : List ℕ) (r : Addr → ℕ) (p a b : ℕ) (buffer : List ℕ) {s c : ℕ} (self : s ≡ orSelf r p a) (cl : c ≡ classOf s) where
-  pub by-segment : c ≡ class segment → setBitsOf h r p s b buffer segment ≡ setBits h r p a b buffer
+  pub by-process : c ≡ class process → setBitsOf h r p s b buffer process ≡ setBits h r p a b buffer
   unfolding setBits
-  by-segment ce = rw (← self) (sym (cond-true _ _ _ (eq-eqb _ 5 (sym cl ∙ ce))))
+  by-process ce = rw (← self) (sym (cond-true _ _ _ (eq-eqb _ 4 (sym cl ∙ ce))))
 
-  pub by-file : (c ≡ class segment → ⊥) → setBitsOf h r p s b buffer file ≡ setBits h r p a b buffer
-  unfolding setBits
-  by-file ce = rw (← self) (sym (cond-false _ _ _ (ne-eqb _ 5 (λ e. ce (cl ∙ e)))))
+  module _ (other : c ≡ class process → ⊥) where
+    pub by-segment : c ≡ class segment → setBitsOf h r p s b buffer segment ≡ setBits h r p a b buffer
+    unfolding setBits
+    by-segment ce = rw (← self) (sym (cond-false _ _ _ (ne-eqb _ 4 (λ e. other (cl ∙ e))) ∙ cond-true _ _ _ (eq-eqb _ 5 (sym cl ∙ ce))))
+
+    pub by-file : (c ≡ class segment → ⊥) → setBitsOf h r p s b buffer file ≡ setBits h r p a b buffer
+    unfolding setBits
+    by-file ce = rw (← self) (sym (cond-false _ _ _ (ne-eqb _ 4 (λ e. other (cl ∙ e))) ∙ cond-false _ _ _ (ne-eqb _ 5 (λ e. ce (cl ∙ e)))))
 
 -- ---- 7: create. d is the descriptor and f the slot that were found
 

@@ -10,10 +10,11 @@ use borrow.Author.Tests.{leb-true, leb-false, lt-ltb, le-ltb}
 use Rattle.rules.specs.Words.{word4}
 use Rattle.rules.specs.Layout.{process, configuration, cellOf, flows, flowMatrix, Addr, at, offset, queue, messages, messagesAt, messageAt, messageWords}
 use Rattle.rules.specs.Seid.{indexOf, formed, present, seidAt, orSelf}
-use Rattle.rules.specs.Errors.{XbSz, XbPrSd, XnoAcc, XpostEh}
+use Rattle.rules.specs.Errors.{XbSz, XbPrSd, XnoAcc, XdapViol, XpostEh}
 use Rattle.rules.specs.Rule.{Refusal, _⇒_, write, firstRefusal}
+use Rattle.rules.specs.Rights.{mayWrite}
 use Rattle.rules.specs.Find.{inOwnCell}
-use Rattle.rules.specs.Call15.{textBytes, queued, post}
+use Rattle.rules.specs.Call15.{textBytes, queued, mayPost, post}
 use Rattle.laws.proofs.Tests.{passed, failed, and-right}
 use Rattle.levels.proofs.Cells.{matrix-any}
 use Rattle.layout.specs.declared.Header.{Header}
@@ -53,8 +54,8 @@ room-is m n = by (leb m n) refl
     by true e = sym (le-ltb n m (leb-true m n e))
     by false e = sym (lt-ltb n m (leb-false m n e))
 
-pub room-told : (here : Bool) {y n : ℕ} → here && not (leb messages y) ≡ true → y ≡ n → n < messages
-room-told here {y} test e = omega (arith, e, leb-false messages y (failed (leb messages y) (and-right here _ test)))
+pub room-told : (here allowed : Bool) {y n : ℕ} → here && (allowed && not (leb messages y)) ≡ true → y ≡ n → n < messages
+room-told here allowed {y} test e = omega (arith, e, leb-false messages y (failed (leb messages y) (and-right allowed _ (and-right here _ test))))
 
 self-zero : (r : Addr → ℕ) (p : ℕ) → orSelf r p 0 ≡ seidAt r process p
 unfolding orSelf
@@ -64,7 +65,7 @@ self-zero r p = refl
 abbrev postTests : Seen → Bool → ℕ → ℕ → List Refusal
 postTests to flow bytes waiting =
     (not (eqb bytes textBytes) ⇒ XbSz) ∷ (not (to .formed) ⇒ XbPrSd) ∷ (not flow ⇒ XnoAcc) ∷ (to .own && not (to .present) ⇒ XbPrSd)
-    ∷ (to .own && leb messages waiting ⇒ XpostEh) ∷ []
+    ∷ (to .own && not (mayWrite (to .rights)) ⇒ XdapViol) ∷ (to .own && leb messages waiting ⇒ XpostEh) ∷ []
 
 -- whether the caller's level flows to the receiver's
 abbrev flowsTo : List ℕ → ℕ → Seen → Bool
@@ -79,12 +80,12 @@ pub record Posted (t : List ℕ) (n : Header) (c : Caller) (a : ℕ) (b : List �
   pub told : e ≡ firstRefusal (postTests to (flowsTo t (c .slot) to) (length b) y)
 
 pub posted : {t : List ℕ} {n : Header} {c : Caller} → Sound t n c → {m : List (List Bool)} → m ≡ flowMatrix (configuration t) → (a : ℕ) (b : List ℕ)
-    {s waiting y e e2 e3 e4 e5 : ℕ} {to : Seen} {flow : Bool} → s ≡ orSelf (wordsOf t) (c .slot) a
+    {s waiting y e e2 e3 e4 e5 e6 : ℕ} {to : Seen} {flow allowed : Bool} → s ≡ orSelf (wordsOf t) (c .slot) a
     → to ≡ seenAs (configuration t) (wordsOf t) (c .slot) process (namedOf n process s) → waiting ≡ wordsOf t (at process (to .slot) queue) → y ≡ waiting
-    → flow ≡ getD (getD m (c .cell) []) (to .cell) false → e ≡ orRefuse 0 (not (eqb (length b) textBytes)) XbSz → e2 ≡ orRefuse e (not (to .formed)) XbPrSd
-    → e3 ≡ orRefuse e2 (not flow) XnoAcc → e4 ≡ orRefuse e3 (to .own && not (to .present)) XbPrSd → e5 ≡ orRefuse e4 (to .own && leb messages y) XpostEh
-    → Posted t n c a b to waiting y e5
-posted {t} {n} {c} sound {m} matrix a b {y = y} {to = to} {flow} named seen waits wide flow-is long form level here full =
+    → allowed ≡ mayWrite (to .rights) → flow ≡ getD (getD m (c .cell) []) (to .cell) false → e ≡ orRefuse 0 (not (eqb (length b) textBytes)) XbSz → e2 ≡ orRefuse e (not (to .formed)) XbPrSd
+    → e3 ≡ orRefuse e2 (not flow) XnoAcc → e4 ≡ orRefuse e3 (to .own && not (to .present)) XbPrSd → e5 ≡ orRefuse e4 (to .own && not allowed) XdapViol
+    → e6 ≡ orRefuse e5 (to .own && leb messages y) XpostEh → Posted t n c a b to waiting y e6
+posted {t} {n} {c} sound {m} matrix a b {y = y} {to = to} {flow} named seen waits wide may flow-is long form level here bits full =
     let f : flow ≡ flowsTo t (c .slot) to
     = flow-is ∙ rw (matrix, sound .home) (matrix-any (configuration t) (shape (sound .known) .few-cells) _ _) in
     record {
@@ -92,7 +93,7 @@ posted {t} {n} {c} sound {m} matrix a b {y = y} {to = to} {flow} named seen wait
       seen = rw (← named) seen;
       waits = waits;
       wide = wide;
-      told = rw (← f, full, here, level, form, long) (refusing-first (postTests to flow (length b) y) refl);
+      told = rw (← f, full, bits, may, here, level, form, long) (refusing-first (postTests to flow (length b) y) refl);
     }
 
 module _ {t : List ℕ} {n : Header} {c : Caller} {a : ℕ} {b : List ℕ} {to : Seen} {waiting y e : ℕ} (p : Posted t n c a b to waiting y e) where
@@ -101,7 +102,7 @@ module _ {t : List ℕ} {n : Header} {c : Caller} {a : ℕ} {b : List ℕ} {to :
 
   by-form : (f : Bool) → formed (configuration t) process named ≡ f
       → firstRefusal (postTests to (flowsTo t (c .slot) to) (length b) y) ≡ firstRefusal (ruleAt t (λ h q. post h q (c .slot) a b) .refusals)
-  unfolding post present named
+  unfolding post present mayPost named
   by-form true f = rw (p .wide, p .waits, seen-formed (p .sound .known) (c .slot) process named (p .seen) f, f)
   by-form false f = rw (formed-is (p .sound .known) (c .slot) process named (p .seen), f)
 
@@ -119,20 +120,23 @@ module _ {t : List ℕ} {n : Header} {c : Caller} {a : ℕ} {b : List ℕ} {to :
         let clear = clear-of (postTests to (flowsTo t (c .slot) to) (length b) y) refl (sym (p .told) ∙ none) in
         passed _ (rw (formed-is (p .sound .known) (c .slot) process named (p .seen)) at (clear .1 .0))
 
-    test-is : (to .present && not (leb messages y)) ≡ (present (wordsOf t) process named && ltb (wordsOf t (at process (indexOf named) queue)) messages)
-    unfolding present named
+    test-is : (to .present && (mayWrite (to .rights) && not (leb messages y)))
+        ≡ (present (wordsOf t) process named && (mayPost (wordsOf t) (c .slot) (indexOf named) && ltb (wordsOf t (at process (indexOf named) queue)) messages))
+    unfolding present mayPost named
     test-is = rw (room-is messages y, p .wide, p .waits, seen-formed (p .sound .known) (c .slot) process named (p .seen) formed-past)
 
-    pub post-delivered : {me : ℕ} {z : List ℕ} → me ≡ orSelf (wordsOf t) (c .slot) 0 → to .present && not (leb messages y) ≡ true
+    pub post-delivered : {me : ℕ} {z : List ℕ} {allowed : Bool} → allowed ≡ mayWrite (to .rights) → me ≡ orSelf (wordsOf t) (c .slot) 0
+        → to .present && (allowed && not (leb messages y)) ≡ true
         → z ≡ write (configuration t) t (queued me (to .slot) b waiting) → z ≡ write (configuration t) t (ruleAt t (λ h q. post h q (c .slot) a b) .effects .words)
     unfolding post named
-    post-delivered me-is test ze =
-        rw (← test-is, test)
+    post-delivered may me-is test ze =
+        rw (← test-is, ← may, test)
         (ze ∙ rw (me-is, self-zero (wordsOf t) (c .slot), p .waits, slot-is (p .sound .known) (c .slot) process named (p .seen) formed-past))
 
-    pub post-dropped : to .present && not (leb messages y) ≡ false → t ≡ write (configuration t) t (ruleAt t (λ h q. post h q (c .slot) a b) .effects .words)
+    pub post-dropped : {allowed : Bool} → allowed ≡ mayWrite (to .rights) → to .present && (allowed && not (leb messages y)) ≡ false
+        → t ≡ write (configuration t) t (ruleAt t (λ h q. post h q (c .slot) a b) .effects .words)
     unfolding post named
-    post-dropped test = rw (← test-is, test) refl
+    post-dropped may test = rw (← test-is, ← may, test) refl
 
     pub post-done : {r : Answer} {z : List ℕ} → z ≡ write (configuration t) t (ruleAt t (λ h q. post h q (c .slot) a b) .effects .words) → r ≡ said 0 0 0
         → Left t (λ h q. post h q (c .slot) a b) r z

@@ -13,11 +13,11 @@ use Rattle.rules.specs.Level.{Level}
 use Rattle.rules.specs.WellFormed.{configured}
 use Rattle.levels.specs.declared.Level as Code
 use Rattle.levels.specs.Rule.{ruleLevel}
-use Rattle.rules.specs.Layout.{levelOf, cellWord, Kind, process, segment, file, cells, configuration, cellOf, Addr, at, owner, group}
+use Rattle.rules.specs.Layout.{levelOf, cellWord, Kind, process, segment, file, cells, configuration, cellOf, Addr, at, owner, group, bits}
 use Rattle.rules.specs.Seid.{class, classOf, indexOf, formed, present, orSelf}
 use Rattle.rules.specs.Errors.{XbSz}
 use Rattle.rules.specs.Rule.{Refusal, _⇒_, Rule, firstRefusal}
-use Rattle.rules.specs.Call17.{statusBytes, bitsOf, told, statusOf, status}
+use Rattle.rules.specs.Call17.{statusBytes, told, statusOf, status}
 use Rattle.laws.proofs.Tests.{passed}
 use Rattle.laws.proofs.Shape.{in-run, shape-of}
 use Rattle.layout.specs.declared.Header.{Header}
@@ -41,7 +41,7 @@ Shown k b r z = (r ≡ answerOf k) × (z ≡ bufferOf b k)
 
 -- sixteen bytes stored four at a time
 all-told : (h : List ℕ) (r : Addr → ℕ) (k : Kind) (i : ℕ) (b : List ℕ) → length b ≡ statusBytes
-    → toldAt h (class k) (cellOf h k i) (r (at k i owner)) (r (at k i group)) (bitsOf r k i) b ≡ told h r k i
+    → toldAt h (class k) (cellOf h k i) (r (at k i owner)) (r (at k i group)) (r (at k i (bits k))) b ≡ told h r k i
 unfolding told toldAt
 all-told h r k i b l = sets-all b (told h r k i) (sym l)
 
@@ -104,7 +104,7 @@ module _ {t : List ℕ} {n : Header} {c : Caller} {k : Kind} {s : ℕ} {b : List
 
     -- the class, the owner, the group and the bits as the code has them
     pub status-done : {r : Answer} {z : List ℕ} {l o g y : ℕ} → l ≡ class k → o ≡ wordsOf t (at k (x .slot) owner) → g ≡ wordsOf t (at k (x .slot) group)
-        → y ≡ bitsOf (wordsOf t) k (x .slot) → z ≡ toldAt (configuration t) l (x .cell) o g y b → r ≡ said 0 0 0
+        → y ≡ wordsOf t (at k (x .slot) (bits k)) → z ≡ toldAt (configuration t) l (x .cell) o g y b → r ≡ said 0 0 0
         → Shown (ruleAt t (λ h q. statusOf h q (c .slot) s b k)) b r z
     status-done {z = z} le oe ge ye ze re =
         let bytes : z ≡ told (configuration t) (wordsOf t) k (indexOf s)

@@ -53,7 +53,7 @@ fn on_processes_and_segments(
     match code {
         1 => {
             let q = free_slot(t, n, Kind::Process, me.cell);
-            spawn(t, n, me, q, a, b)
+            spawn(t, n, me, q, a, b, c)
         }
         2 => release_process(t, n, m, me, a),
         3 => {

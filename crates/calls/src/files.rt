@@ -62,6 +62,7 @@ use rules::MAX_CELLS;
 use rules::MAX_LINKS;
 use rules::OPENS;
 use rules::OWNER;
+use rules::PROCESS_CLASS;
 use rules::SEGMENT_CLASS;
 use rules::SERIAL;
 use rules::SHARABLE;
@@ -327,7 +328,11 @@ pub(crate) fn set_bits(
     ensures { λ r. ⌜ ((buffer : List ℕ) → Left (now (t .entry)) (λ h q. setBits h q (c .slot) a b buffer) r (now (t .exit))) ⌝ }
 {
     let s = or_self(t, n, c, a);
-    if class_of(s) == SEGMENT_CLASS {
+    let class = class_of(s);
+    if class == PROCESS_CLASS {
+        return set_bits_of(t, n, m, c, Kind::Process, s, b);
+    }
+    if class == SEGMENT_CLASS {
         return set_bits_of(t, n, m, c, Kind::Segment, s, b);
     }
     set_bits_of(t, n, m, c, Kind::File, s, b)

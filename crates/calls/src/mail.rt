@@ -27,6 +27,7 @@ use crate::objects::or_self;
 use layout::Header;
 use layout::Kind;
 use levels::may_flow;
+use rights::may_write;
 use rules::MAX_CELLS;
 use rules::MESSAGE_WORDS;
 use rules::MESSAGES;
@@ -35,6 +36,7 @@ use rules::QUEUE;
 use rules::XB_NO_MES;
 use rules::XB_PR_SD;
 use rules::XB_SZ;
+use rules::XDAP_VIOL;
 use rules::XNO_ACC;
 use rules::XOK;
 use rules::XPOST_EH;
@@ -129,7 +131,7 @@ fn deliver(t: &mut [u32], n: Header, q: u32, me: u32, waiting: u32, b: &[u8])
     put_four(t, from, me, word_at(b, 0), word_at(b, 4), word_at(b, 8));
 }
 
-// 15. Post. A higher receiver's absence or full queue is not told.
+// 15. Post. A higher receiver's absence, bits or full queue are not told.
 pub(crate) fn post(
     t: &mut [u32],
     n: Header,
@@ -145,16 +147,18 @@ pub(crate) fn post(
     let to = look(t, n, m, c, Kind::Process, s);
     let waiting = read(t, n, Kind::Process, to.slot, QUEUE);
     let full = MESSAGES <= wide(waiting);
+    let allowed = may_write(to.rights);
     let e = or_refuse(XOK, buffer.len() != TEXT_BYTES, XB_SZ);
     let e = or_refuse(e, !to.formed, XB_PR_SD);
     let e = or_refuse(e, !may_flow(m, c.cell, to.cell), XNO_ACC);
     let e = or_refuse(e, to.own & !to.present, XB_PR_SD);
+    let e = or_refuse(e, to.own & !allowed, XDAP_VIOL);
     let e = or_refuse(e, to.own & full, XPOST_EH);
     if e != XOK {
         return refused(e);
     }
     let me = or_self(t, n, c, 0);
-    if to.present & !full {
+    if to.present & (allowed & !full) {
         deliver(t, n, to.slot, me, waiting, buffer);
     }
     answered(0, 0)

@@ -32,10 +32,12 @@ use layout::Header;
 use layout::Kind;
 use rules::ENTRIES;
 use rules::GROUP;
+use rules::MAX_BITS;
 use rules::MAX_CELLS;
 use rules::MAX_OWNER;
 use rules::OWNER;
 use rules::PARENT;
+use rules::PROCESS_BITS;
 use rules::PROCESS_CLASS;
 use rules::PROCESS_WORDS;
 use rules::SERIAL;
@@ -46,15 +48,27 @@ use rules::XOK;
 use words::wide;
 
 // 1. Spawn, in the slot that was found.
-pub(crate) fn spawn(t: &mut [u32], n: Header, c: Caller, q: Slot, a: u32, b: u32) -> Answer
+pub(crate) fn spawn(
+    t: &mut [u32],
+    n: Header,
+    c: Caller,
+    q: Slot,
+    a: u32,
+    b: u32,
+    bits: u32,
+) -> Answer
     requires { ⌜ Sound (now t) n c × (q ≡ slotFound (configuration (now t)) (wordsOf (now t)) process (c .cell)) ⌝ }
-    ensures { λ r. ⌜ ((buffer : List ℕ) → Left (now (t .entry)) (λ h r. spawn h r (c .slot) a b buffer) r (now (t .exit))) ⌝ }
+    ensures { λ r. ⌜ ((buffer : List ℕ) → Left (now (t .entry)) (λ h r. spawn h r (c .slot) a b bits buffer) r (now (t .exit))) ⌝ }
 {
     let me = c.slot;
     let owner = read(t, n, Kind::Process, me, OWNER);
     let group = read(t, n, Kind::Process, me, GROUP);
     let foreign = (owner != 0) & ((a != owner) | (b != group));
-    let e = or_refuse(XOK, (MAX_OWNER < a) | (MAX_OWNER < b), XB_PARAM);
+    let e = or_refuse(
+        XOK,
+        (MAX_OWNER < a) | ((MAX_OWNER < b) | (MAX_BITS < bits)),
+        XB_PARAM,
+    );
     let e = or_refuse(e, foreign, XNO_PRIV);
     let e = or_refuse(e, q.none, XNO_PROC);
     if e != XOK {
@@ -65,6 +79,7 @@ pub(crate) fn spawn(t: &mut [u32], n: Header, c: Caller, q: Slot, a: u32, b: u32
     let at = n.record_at(Kind::Process, q.index);
     put_four(t, at, 1, serial, a, b);
     write(t, n, Kind::Process, q.index, PARENT, parent);
+    write(t, n, Kind::Process, q.index, PROCESS_BITS, bits);
     answered(seid(PROCESS_CLASS, q.index, serial), 0)
 }
 

@@ -6,7 +6,7 @@ ghost use lib.Seq.{sets};
 ghost use Rattle.rules.specs.Claim.{Holds};
 ghost use Rattle.rules.specs.Layout.{cells, configuration, flowMatrix};
 ghost use Rattle.rules.specs.WellFormed.{configured};
-ghost use Rattle.rules.specs.Call17.{bitsOf, statusOf, status};
+ghost use Rattle.rules.specs.Call17.{statusOf, status};
 ghost use Rattle.layout.specs.Kinds.{kindOf};
 ghost use Rattle.calls.specs.World.{Known, Sound, wordsOf};
 ghost use Rattle.calls.specs.Left.{answerOf, bufferOf, ruleAt};
@@ -24,7 +24,6 @@ use layout::Header;
 use layout::Kind;
 use layout::class_of;
 use levels::level_at;
-use rules::BITS;
 use rules::GROUP;
 use rules::MAX_CELLS;
 use rules::OWNER;
@@ -72,18 +71,6 @@ fn tell(t: &[u32], class: u32, cell: u32, owner: u32, group: u32, bits: u32, b: 
     put_four_bytes(b, 12, c / 256 % 256, c % 256, 0, 0);
 }
 
-// The bits that are told: a process has none.
-fn told_bits(t: &[u32], n: Header, kind: Kind, i: u32) -> u32
-    requires { ⌜ Known (now t) n ⌝ }
-    ensures { λ r. ⌜ r ≡ bitsOf (wordsOf (now (t .entry))) (kindOf kind) i ⌝ }
-{
-    match kind {
-        Kind::Process => 0,
-        Kind::Segment => read(t, n, Kind::Segment, i, BITS),
-        Kind::File => read(t, n, Kind::File, i, BITS),
-    }
-}
-
 fn status_of(
     t: &[u32],
     n: Header,
@@ -105,7 +92,7 @@ fn status_of(
     let i = x.slot;
     let owner = read(t, n, kind, i, OWNER);
     let group = read(t, n, kind, i, GROUP);
-    let bits = told_bits(t, n, kind, i);
+    let bits = read(t, n, kind, i, kind.bits_word());
     tell(t, kind.class(), x.cell, owner, group, bits, buffer);
     answered(0, 0)
 }

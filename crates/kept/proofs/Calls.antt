@@ -27,7 +27,6 @@ use Rattle.rules.specs.Call18.{accessOf}
 use Rattle.rules.specs.Call19.{remap}
 use Rattle.rules.specs.Call20.{pageAccess}
 use Rattle.rules.specs.Step.{Call, ruleOf}
-use Rattle.laws.proofs.Object.{Object}
 use Rattle.laws.proofs.Refusals.{without}
 use Rattle.kept.proofs.Keeps.{KeptBy, Caller, keeps-none}
 use Rattle.kept.proofs.Keep01
@@ -54,7 +53,7 @@ module _ (h : List ℕ) (r : Addr → ℕ) (st : List ℕ) (k : Call) where
   keeps me =
       let p = k .caller in
       by-code h k (λ f. KeptBy h r (f r st)) (record {
-        call-1 = λ e. Keep01.keeps h r p me (k .a) (k .b) (k .buffer);
+        call-1 = λ e. Keep01.keeps h r p me (k .a) (k .b) (k .c) (k .buffer);
         call-2 = λ e. Keep02.keeps h r p me (k .a) (k .buffer);
         call-3 = λ e. Keep03.keeps h r p me (k .a) (k .b) (k .c) (k .buffer);
         call-4 = λ e. Keep04.keeps h r p me (k .a) (k .b) (k .buffer);
@@ -106,10 +105,10 @@ module _ (h : List ℕ) (r : Addr → ℕ) (st : List ℕ) (k : Call) where
         other = refl;
       })
     where
-      bits-numbers : (s : ℕ) (j : Kind) → Object j → without XbTab (setBitsOf h r (k .caller) s (k .b) (k .buffer) j .refusals) ≡ true
-      bits-numbers s process o = refl
-      bits-numbers s segment o = refl
-      bits-numbers s file o = refl
+      bits-numbers : (s : ℕ) (j : Kind) → without XbTab (setBitsOf h r (k .caller) s (k .b) (k .buffer) j .refusals) ≡ true
+      bits-numbers s process = refl
+      bits-numbers s segment = refl
+      bits-numbers s file = refl
 
       status-numbers : (s : ℕ) (j : Kind) → without XbTab (statusOf h r (k .caller) s (k .buffer) j .refusals) ≡ true
       status-numbers s process = refl

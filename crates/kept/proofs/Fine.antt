@@ -8,7 +8,7 @@ use native.Mathlib.Decide.{ℕ-discrete, decLt}
 use lib.Dec.{eqb}
 use borrow.Author.Tests.{eq-eqb, ne-eqb, lt-ltb, le-leb, eqb-true, eqb-false, ltb-true, leb-true}
 use Rattle.rules.specs.Claim.{Claim, Holds}
-use Rattle.rules.specs.Layout.{maxBits, maxLinks, Kind, process, segment, file, recordWords, slots, blocks, cellOf, Addr, at, live, parent, queue, zero6, zero7, entries, heldAt, usedAt, messages, messageWords, messageAt, pages, pageAt, bits, size, links, opens, holders}
+use Rattle.rules.specs.Layout.{maxBits, maxLinks, Kind, process, segment, file, recordWords, slots, blocks, cellOf, Addr, at, live, parent, queue, zero7, entries, heldAt, usedAt, messages, messageWords, messageAt, pages, pageAt, bits, size, links, opens, holders}
 use Rattle.rules.specs.WellFormed.{recordOk, currentOk, entryOk, parentOk, heldOnce, messageOk, pageOk, processOk, ownEntries, segmentSize, segmentOk, fileOk, recordsOk}
 use Rattle.laws.proofs.Tests.{not-of, failed, passed}
 use Rattle.laws.proofs.Object.{Object}
@@ -40,7 +40,7 @@ Paged r p v = (v ≡ 0 → ⊥) → (v ≤ entries) × (r (at process p (heldAt 
 pub record AliveProcess (h : List ℕ) (r : Addr → ℕ) (p : ℕ) : Type 0 where
   pub parent-ok : Holds (parentOk h (cellOf h process p) (r (at process p parent)))
   pub queue-fits : r (at process p queue) ≤ messages
-  pub zero-six : r (at process p zero6) ≡ 0
+  pub bits-fit : r (at process p (bits process)) ≤ maxBits
   pub zero-seven : r (at process p zero7) ≡ 0
   pub once : (d e : ℕ) → d < entries → e < entries → (d ≡ e → ⊥) → (r (at process p (heldAt segment e)) ≡ 0 → ⊥)
       → r (at process p (heldAt segment d)) ≡ r (at process p (heldAt segment e)) → ⊥
@@ -95,7 +95,7 @@ module _ (h : List ℕ) (r : Addr → ℕ) (w : Holds (recordsOk h r)) where
   process-alive p x = record {
     parent-ok = x .parent-ok;
     queue-fits = x .queue-fits;
-    zero-six = x .zero-six;
+    bits-fit = x .bits-fit;
     zero-seven = x .zero-seven;
     once = λ d e dl el ne some same. elim (decLt d e) [
       | yes l ↦ eqb-false _ _ (failed _ (x .once e el d l (not-of _ (ne-eqb _ 0 some)))) same
@@ -164,7 +164,7 @@ module _ (h : List ℕ) (r : Addr → ℕ) (w : Fine h r) where
     (
       a .queue-fits,
       (
-        a .zero-six,
+        a .bits-fit,
         (
           a .zero-seven,
           (

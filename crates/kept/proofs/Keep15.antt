@@ -10,7 +10,7 @@ use Rattle.rules.specs.Words.{word4}
 use Rattle.rules.specs.Layout.{process, slots, cellOf, flows, Addr, at, live, queue, messages, messageWords, messageAt}
 use Rattle.rules.specs.Seid.{seidAt, orSelf, indexOf, present}
 use Rattle.rules.specs.Rule.{over}
-use Rattle.rules.specs.Call15.{post, queued}
+use Rattle.rules.specs.Call15.{post, queued, mayPost}
 use Rattle.laws.proofs.Tests.{and-left, and-right, passed, cond-both}
 use Rattle.laws.proofs.Seids.{is-formed, is-present}
 use Rattle.laws.proofs.Shape.{Held}
@@ -93,7 +93,7 @@ keeps h r p me a buffer e =
     let q : ℕ = indexOf s in
     let n : ℕ = r (at process q queue) in
     let ok = clear (post h r p a buffer .refusals) refl e in
-    cond-both (Keeps h r) (present r process s && ltb n messages) (queued (seidAt r process p) q buffer n) []
-    (λ t. queues h r p me q n buffer (is-formed _ _ s (passed _ (ok .1 .0)) .index-in) (is-present r process s (and-left (present r process s) (ltb n messages) t) .is-live) refl
-    (ltb-true n messages (and-right (present r process s) (ltb n messages) t)) (passed _ (ok .1 .1 .0)))
+    cond-both (Keeps h r) (present r process s && (mayPost r p q && ltb n messages)) (queued (seidAt r process p) q buffer n) []
+    (λ t. queues h r p me q n buffer (is-formed _ _ s (passed _ (ok .1 .0)) .index-in) (is-present r process s (and-left (present r process s) _ t) .is-live) refl
+    (ltb-true n messages (and-right (mayPost r p q) (ltb n messages) (and-right (present r process s) _ t))) (passed _ (ok .1 .1 .0)))
     (λ t. keeps-none h r (me .fine))

@@ -5,7 +5,7 @@ use mathlib.Core.List.{List}
 use Prim.Native.Nat.{ℕ, _+_, _-_, _≤_, _<_}
 use native.Mathlib.Omega.{arith}
 use native.Mathlib.Decide.{ℕ-discrete}
-use Rattle.rules.specs.Layout.{Kind, process, segment, file, slots, Addr, at, live, serial, queue, entries, heldAt, usedAt, messagesAt, messageAt, pages, pageAt, holders}
+use Rattle.rules.specs.Layout.{Kind, process, segment, file, slots, Addr, at, live, serial, queue, entries, heldAt, usedAt, messagesAt, messageAt, pages, pageAt, bits, holders}
 use Rattle.rules.specs.Seid.{class, indexOf}
 use Rattle.rules.specs.WellFormed.{ownEntry, ownEntries}
 use Rattle.laws.proofs.Seids.{is-formed}
@@ -151,7 +151,7 @@ module _ (h : List ℕ) (r q : Addr → ℕ) where
         let own = w .own process p pl in
         let a = own .alive alive in
         let e5 = outside p queue (λ a b. omega arith) in
-        live-process h r q p alive own (λ j l n. outside p j (λ a b. omega arith)) (rw e5 (a .queue-fits))
+        live-process h r q p alive own (λ j l n m. outside p j (λ a b. omega arith)) (rw e5 (a .queue-fits)) (rw (outside p (bits process) (λ a b. omega arith)) (a .bits-fit))
         (once-now k o (x .fresh) (λ l s e el n. entry-words l s p e el (λ lk gp ed. n lk ed) .0) a)
         (λ m j ml jl full. outside p (messageAt m j) (λ a b. omega arith) ∙ a .unused m j ml jl (rw e5 at full))
         (λ g gl. rw (outside p (pageAt g) (λ a b. omega arith)) (paged-now k o (x .unmapped) (λ l s e el n. entry-words l s p e el (λ lk gp ed. n lk ed) .0) g gl (a .paged g gl)))

@@ -4,7 +4,7 @@ use mathlib.Core.List.{List}
 use Prim.Native.Nat.{ℕ, _-_, _≤_, _<_}
 use native.Mathlib.Omega.{arith}
 use native.Mathlib.Decide.{ℕ-discrete}
-use Rattle.rules.specs.Layout.{Kind, process, segment, file, recordWords, slots, cellOf, Addr, at, Valid, live, serial, owner, group, parent, queue, zero6, zero7, entries, heldAt, usedAt, messages, messageWords, messageAt, pages, pageAt, bits, size, links, holders}
+use Rattle.rules.specs.Layout.{maxBits, Kind, process, segment, file, recordWords, slots, cellOf, Addr, at, Valid, live, serial, owner, group, parent, queue, zero7, entries, heldAt, usedAt, messages, messageWords, messageAt, pages, pageAt, bits, size, links, holders}
 use Rattle.rules.specs.Seid.{indexOf}
 use Rattle.laws.proofs.Seids.{is-formed}
 use Rattle.laws.proofs.Shape.{Held, Entry}
@@ -37,7 +37,7 @@ module _ (h : List ℕ) (r q : Addr → ℕ) where
   process-same p same x = record {
     parent-ok = rw (same parent (omega arith)) (x .parent-ok);
     queue-fits = rw (same queue (omega arith)) (x .queue-fits);
-    zero-six = same zero6 (omega arith) ∙ x .zero-six;
+    bits-fit = rw (same (bits process) (omega arith)) (x .bits-fit);
     zero-seven = same zero7 (omega arith) ∙ x .zero-seven;
     once = λ d e dl el. rw (same (heldAt segment d) (omega arith), same (heldAt segment e) (omega arith)) (x .once d e dl el);
     unused = λ m j ml jl f. same (messageAt m j) (omega arith) ∙ x .unused m j ml jl (rw (same queue (omega arith)) at f);
@@ -66,21 +66,22 @@ module _ (h : List ℕ) (r q : Addr → ℕ) where
 
   -- a live process whose entries, if they change, still name no segment twice
   pub live-process : (p : ℕ) → r (at process p live) ≡ 1 → Own h r process p
-      → ((j : ℕ) → j < 8 → (j ≡ queue → ⊥) → q (at process p j) ≡ r (at process p j)) → q (at process p queue) ≤ messages
+      → ((j : ℕ) → j < 8 → (j ≡ queue → ⊥) → (j ≡ bits process → ⊥) → q (at process p j) ≡ r (at process p j)) → q (at process p queue) ≤ messages
+      → q (at process p (bits process)) ≤ maxBits
       → ((d e : ℕ) → d < entries → e < entries → (d ≡ e → ⊥) → (q (at process p (heldAt segment e)) ≡ 0 → ⊥)
       → q (at process p (heldAt segment d)) ≡ q (at process p (heldAt segment e)) → ⊥)
       → ((m j : ℕ) → m < messages → j < messageWords → q (at process p queue) ≤ m → q (at process p (messageAt m j)) ≡ 0)
       → ((g : ℕ) → g < pages → Paged q p (q (at process p (pageAt g)))) → Own h q process p
-  live-process p lives own head queue-fits once unused paged =
+  live-process p lives own head queue-fits bits-fit once unused paged =
       let a = own .alive lives in
-      let e1 = head serial (omega arith) (λ e. omega arith) in
-      live-record q process p _ (head live (omega arith) (λ e. omega arith) ∙ lives) (rw e1 (own .serial-some lives)) (rw e1 (own .serial-fits))
-      (rw (head owner (omega arith) (λ e. omega arith)) (own .owner-fits)) (rw (head group (omega arith) (λ e. omega arith)) (own .group-fits))
+      let e1 = head serial (omega arith) (λ e. omega arith) (λ e. omega arith) in
+      live-record q process p _ (head live (omega arith) (λ e. omega arith) (λ e. omega arith) ∙ lives) (rw e1 (own .serial-some lives)) (rw e1 (own .serial-fits))
+      (rw (head owner (omega arith) (λ e. omega arith) (λ e. omega arith)) (own .owner-fits)) (rw (head group (omega arith) (λ e. omega arith) (λ e. omega arith)) (own .group-fits))
       (record {
-        parent-ok = rw (head parent (omega arith) (λ e. omega arith)) (a .parent-ok);
+        parent-ok = rw (head parent (omega arith) (λ e. omega arith) (λ e. omega arith)) (a .parent-ok);
         queue-fits = queue-fits;
-        zero-six = head zero6 (omega arith) (λ e. omega arith) ∙ a .zero-six;
-        zero-seven = head zero7 (omega arith) (λ e. omega arith) ∙ a .zero-seven;
+        bits-fit = bits-fit;
+        zero-seven = head zero7 (omega arith) (λ e. omega arith) (λ e. omega arith) ∙ a .zero-seven;
         once = once;
         unused = unused;
         paged = paged;

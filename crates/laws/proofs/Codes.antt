@@ -31,10 +31,9 @@ use Rattle.rules.specs.Call19.{remap}
 use Rattle.rules.specs.Call20.{pageAccess}
 use Rattle.rules.specs.Step.{Call, ruleOf}
 use Rattle.laws.proofs.Tests.{split, cond-both}
-use Rattle.laws.proofs.Object.{Object}
 
 pub record Each (h : List ℕ) (k : Call) (P : ((Addr → ℕ) → List ℕ → Rule) → Type 0) : Type 0 where
-  pub call-1 : k .code ≡ 1 → P (λ r st. spawn h r (k .caller) (k .a) (k .b) (k .buffer))
+  pub call-1 : k .code ≡ 1 → P (λ r st. spawn h r (k .caller) (k .a) (k .b) (k .c) (k .buffer))
   pub call-2 : k .code ≡ 2 → P (λ r st. releaseProcess h r (k .caller) (k .a) (k .buffer))
   pub call-3 : k .code ≡ 3 → P (λ r st. buildSegment h r (k .caller) (k .a) (k .b) (k .c) (k .buffer))
   pub call-4 : k .code ≡ 4 → P (λ r st. rendezvous h r (k .caller) (k .a) (k .b) (k .buffer))
@@ -70,17 +69,22 @@ module _ (h : List ℕ) (k : Call) (P : ((Addr → ℕ) → List ℕ → Rule) �
 
 module _ (h : List ℕ) (r : Addr → ℕ) (k : Call) (P : Rule → Type 0) where
   -- two calls go by the seid's class
-  pub by-bits : ((s : ℕ) (j : Kind) → Object j → P (setBitsOf h r (k .caller) s (k .b) (k .buffer) j)) → P (setBits h r (k .caller) (k .a) (k .b) (k .buffer))
+  by-class : (s : ℕ) (of : Kind → Rule) → ((j : Kind) → P (of j))
+      → P (cond (eqb (classOf s) (class process)) (of process) (cond (eqb (classOf s) (class segment)) (of segment) (of file)))
+  by-class s of p =
+      cond-both P (eqb (classOf s) (class process)) (of process) (cond (eqb (classOf s) (class segment)) (of segment) (of file)) (λ e. p process)
+      (λ e. cond-both P (eqb (classOf s) (class segment)) (of segment) (of file) (λ e. p segment) (λ e. p file))
+
+  pub by-bits : ((s : ℕ) (j : Kind) → P (setBitsOf h r (k .caller) s (k .b) (k .buffer) j)) → P (setBits h r (k .caller) (k .a) (k .b) (k .buffer))
   unfolding setBits
   by-bits p =
       let s = orSelf r (k .caller) (k .a) in
       let of : Kind → Rule = setBitsOf h r (k .caller) s (k .b) (k .buffer) in
-      cond-both P (eqb (classOf s) (class segment)) (of segment) (of file) (λ e. p s segment tt) (λ e. p s file tt)
+      by-class s of (p s)
 
   pub by-status : ((s : ℕ) (j : Kind) → P (statusOf h r (k .caller) s (k .buffer) j)) → P (status h r (k .caller) (k .a) (k .buffer))
   unfolding status
   by-status p =
       let s = orSelf r (k .caller) (k .a) in
       let of : Kind → Rule = statusOf h r (k .caller) s (k .buffer) in
-      cond-both P (eqb (classOf s) (class process)) (of process) (cond (eqb (classOf s) (class segment)) (of segment) (of file)) (λ e. p s process)
-      (λ e. cond-both P (eqb (classOf s) (class segment)) (of segment) (of file) (λ e. p s segment) (λ e. p s file))
+      by-class s of (p s)

@@ -1,7 +1,7 @@
 -- Which message comes out: twelve bytes posted and delivered with n messages ahead come out at the receiver's receive n+1, behind the sender's seid, most
 -- significant byte first: `comes-out-whole`, at the end.
 use mathlib.Core.Path.{_≡_, refl, ap, _∙_}
-use mathlib.Core.Bool.{true, false, cond, _&&_}
+use mathlib.Core.Bool.{Bool, true, false, cond, _&&_}
 use mathlib.Core.List.{List, [], _∷_, _++_}
 use Prim.Native.Nat.{ℕ, _+_, _*_, _/_, _%_, _<_}
 use native.Mathlib.Omega.{arith}
@@ -14,7 +14,7 @@ use Rattle.rules.specs.Seid.{class, seid, indexOf, seidAt, present}
 use Rattle.rules.specs.Errors.{XOK}
 use Rattle.rules.specs.Rule.{Rule, over}
 use Rattle.rules.specs.Find.{inOwnCell}
-use Rattle.rules.specs.Call15.{textBytes, queued, post}
+use Rattle.rules.specs.Call15.{textBytes, queued, mayPost, post}
 use Rattle.rules.specs.Step.{State, Call, step, next, run, ruleOf}
 use Rattle.laws.proofs.Tests.{and-both, cond-true, passed}
 use Rattle.laws.proofs.Seids.{is-formed, is-present}
@@ -136,12 +136,13 @@ module _ (me q n : ℕ) (buffer : List ℕ) (r : Addr → ℕ) where
 
 -- ---- a post that is delivered
 
--- with n messages ahead: the receiver is live with that serial and has room
+-- with n messages ahead: the receiver is live with that serial, permits the post (02, CR 4), and has room
 pub record Delivered (s : State) (k : Call) (n : ℕ) : Type 0 where
   pub well : Well s
   pub is-post : k .code ≡ 15
   pub taken : step s k .answered .error ≡ XOK
   pub here : present (rd (configuration (s .table)) (s .table)) process (given s k) ≡ true
+  pub permits : mayPost (rd (configuration (s .table)) (s .table)) (k .caller) (indexOf (given s k)) ≡ true
   pub ahead : wordOf s (indexOf (given s k)) queue ≡ n
   pub room : n < messages
 
@@ -166,9 +167,11 @@ module _ (s : State) (k : Call) (n : ℕ) (d : Delivered s k n) where
   unfolding post
   written =
       let room : r (at process q queue) < messages = omega (arith, d .ahead, d .room) in
-      let fits = and-both (present r process (given s k)) (ltb (r (at process q queue)) messages) (d .here) (lt-ltb _ messages room) in
+      let asked : Bool = mayPost r (k .caller) q && ltb (r (at process q queue)) messages in
+      let fits = and-both (present r process (given s k)) asked (d .here)
+      (and-both (mayPost r (k .caller) q) (ltb (r (at process q queue)) messages) (d .permits) (lt-ltb _ messages room)) in
       ap (λ (x : Rule). x .effects .words) its-rule
-      ∙ cond-true (present r process (given s k) && ltb (r (at process q queue)) messages) _ [] fits ∙ ap (queued me q (k .buffer)) (d .ahead)
+      ∙ cond-true (present r process (given s k) && asked) _ [] fits ∙ ap (queued me q (k .buffer)) (d .ahead)
 
   right-length : length (k .buffer) ≡ textBytes
   unfolding post
@@ -217,10 +220,20 @@ comes-out-whole s k n d bytes before k′ e u y =
     let out = comes-out (indexOf (given s k)) n (next s k) before k′ (waits s k n d) e u y in
     (out .0, out .1 ∙ whole s k n d bytes)
 
--- a post in the own cell that succeeds is delivered; "Another cell: delivered exactly if the receiver is live with that serial and has room"
+-- a post in the own cell that succeeds is delivered; "Another cell: delivered exactly if the receiver is live with that serial and has room", and permits it (Posts)
 pub own-delivered : (s : State) (k : Call) → Well s → k .code ≡ 15 → step s k .answered .error ≡ XOK
     → inOwnCell (configuration (s .table)) (k .caller) process (given s k) ≡ true → Delivered s k (wordOf s (indexOf (given s k)) queue)
 unfolding ruleOf post
 own-delivered s k w c ok mine =
+    let r : Addr → ℕ = rd (configuration (s .table)) (s .table) in
+    let q : ℕ = indexOf (given s k) in
     let x = rw (c, mine) at (own-clear s k ok) in
-    record { well = w; is-post = c; taken = ok; here = passed _ (x .1 .1 .1 .0); ahead = refl; room = leb-false messages _ (x .1 .1 .1 .1 .0) }
+    record {
+      well = w;
+      is-post = c;
+      taken = ok;
+      here = passed (present r process (given s k)) (x .1 .1 .1 .0);
+      permits = passed (mayPost r (k .caller) q) (x .1 .1 .1 .1 .0);
+      ahead = refl;
+      room = leb-false messages (wordOf s q queue) (x .1 .1 .1 .1 .1 .0);
+    }

@@ -4,29 +4,27 @@ use mathlib.Core.Bool.{true, false}
 use mathlib.Core.List.{List, [], _∷_, _++_}
 use Prim.Native.Nat.{ℕ, _<_, _≤_}
 use native.Mathlib.Omega.{arith}
-use lib.ListN.{length, replicate}
+use lib.ListN.{replicate}
 use borrow.Author.Tests.{eq-eqb, ne-eqb}
 use Rattle.rules.specs.Words.{allBelow, someBelow, sumBelow, countBelow, lowest, orRather, least, tabFrom, part, word4}
-use Rattle.rules.specs.Claim.{Holds}
 use Rattle.rules.specs.Level.{Level, level, has, within, equals, flowsTo}
-use Rattle.rules.specs.Layout.{maxSerial, Kind, process, file, cells, slots, blocks, cellWord, levelOf, configuration, firstSlot, cellOf, flows, Addr, at, rd, live, serial}
-use Rattle.rules.specs.Seid.{class, seid, classOf, indexOf, serialOf, isSeid, formed, seidAt, orSelf, present}
+use Rattle.rules.specs.Layout.{maxSerial, Kind, process, file, cells, slots, blocks, cellWord, levelOf, configuration, firstSlot, cellOf, flows, at, rd, live, serial}
+use Rattle.rules.specs.Seid.{class, seid, classOf, indexOf, serialOf, isSeid, seidAt, orSelf, present}
 use Rattle.rules.specs.Modes.{validModes, reads, writes}
 use Rattle.rules.specs.Rights.{rights, mayRead, mayWrite, access}
 use Rattle.rules.specs.WellFormed.{headerOk, cellOk, levelsDistinct, sumsMatch, configured, lengthsExact, recordOk, heldOk, currentOk, entryOk, parentOk, heldOnce, messageOk, pageOk, processOk, ownEntry, ownEntries, segmentSize, segmentOk, fileOk, recordsOk, wellFormed}
 use Rattle.rules.specs.Errors.{XOK}
 use Rattle.rules.specs.Rule.{_≔_, write, store}
-use Rattle.rules.specs.Find.{inOwnCell, freeSlot, freeEntry}
+use Rattle.rules.specs.Find.{freeSlot, freeEntry}
 use Rattle.rules.specs.Call07.{create}
-use Rattle.rules.specs.Call15.{textBytes, post}
 use Rattle.rules.specs.SetUp.{canSetUp, firstProcesses, freshTable, setUpTable}
 use Rattle.rules.specs.Step.{State, Call, answer, step, next, badCaller, badCode, ruleOf, carriedOut, wholeRule}
 use Rattle.laws.proofs.Tests.{refuted, both-ways}
-use Rattle.laws.proofs.Refusals.{Clear}
 use Rattle.levels.proofs.Flow.{flows-says, flows-when, reflexive}
 use Rattle.kept.proofs.Kept.{Well}
-use Rattle.promises.proofs.Refusals.{Untouched, goes-on}
-use Rattle.promises.proofs.Stale.{for-itself, stale-post}
+use Rattle.promises.proofs.Refusals.{Untouched}
+use Rattle.promises.proofs.Stale.{stale-post}
+use Rattle.promises.proofs.Posts.{Upward, its-seid, goes-up}
 use Rattle.promises.proofs.Single.{creates, worn-passed-over}
 
 -- ---- levels
@@ -77,53 +75,16 @@ second-taken = (refl, refl, refl)
 
 -- ---- a post up
 
--- caller and receiver of a post from one cell up to another, with text of the right length, to a seid in form whose slot is not live with its serial
-pub record PostUp (s : State) (k : Call) (h : List ℕ) (r : Addr → ℕ) : Type 0 where
-  pub well : Holds (wellFormed (s .table) (length (s .store)))
-  pub caller-in : k .caller < slots h process
-  pub caller-live : r (at process (k .caller) live) ≡ 1
-  pub is-post : k .code ≡ 15
-  pub text : length (k .buffer) ≡ textBytes
-  pub form : formed h process (k .a) ≡ true
-  pub up : flows h (cellOf h process (k .caller)) (cellOf h process (indexOf (k .a))) ≡ true
-  pub other-cell : cellOf h process (indexOf (k .a)) ≡ cellOf h process (k .caller) → ⊥
-  pub absent : present r process (k .a) ≡ false
-
+-- a post from one cell up to another, to a seid in form whose slot is not live with its serial
 abbrev pub AbsentAbove : State → Call → Type 0
-AbsentAbove s k = PostUp s k (configuration (s .table)) (rd (configuration (s .table)) (s .table))
+AbsentAbove s k = Upward s k × (present (rd (configuration (s .table)) (s .table)) process (k .a) ≡ false)
 
 -- XOK, and nothing changed
 abbrev pub OnlyXOK : State → Call → Type 0
 OnlyXOK s k = (step s k .answered .error ≡ XOK) × Untouched s k (step s k)
 
-module _ (s : State) (k : Call) (x : AbsentAbove s k) where
-  abbrev h : List ℕ
-  h = configuration (s .table)
-
-  abbrev r : Addr → ℕ
-  r = rd (configuration (s .table)) (s .table)
-
-  its-rule : ruleOf h r (s .store) k ≡ post h r (k .caller) (k .a) (k .buffer)
-  unfolding ruleOf
-  its-rule = rw (x .is-post)
-
-  its-seid : orSelf r (k .caller) (k .a) ≡ k .a
-  its-seid = for-itself h r (k .caller) process (k .a) (x .form)
-
-  -- none of its refusals holds
-  nothing-refused : Clear (post h r (k .caller) (k .a) (k .buffer) .refusals)
-  unfolding post
-  nothing-refused =
-      let other : inOwnCell h (k .caller) process (k .a) ≡ false = ne-eqb _ _ (x .other-cell) in
-      rw (its-seid, eq-eqb (length (k .buffer)) textBytes (x .text), x .form, x .up, other) (refl, (refl, (refl, (refl, (refl, tt)))))
-
-  dropped-above : OnlyXOK s k
-  unfolding badCode
-  dropped-above =
-      let c : badCode (k .code) ≡ false = rw (x .is-post) in (
-        goes-on s k (x .well) (x .caller-in) (x .caller-live) c (rw its-rule nothing-refused),
-        stale-post s k (x .is-post) (rw its-seid (x .absent)) .1,
-      )
+dropped-above : (s : State) (k : Call) → AbsentAbove s k → OnlyXOK s k
+dropped-above s k x = (goes-up s k (x .0), stale-post s k (x .0 .is-post) (rw (its-seid s k (x .0)) (x .1)) .1)
 
 -- ---- all of them
 

@@ -10,10 +10,10 @@ use lib.ListN.{length, getD, replicate, length-replicate, getD-replicate, length
 use lib.Seq.{length-take-le, getD-append-add, take-at}
 use borrow.Author.Tests.{ne-eqb}
 use Rattle.rules.specs.Claim.{Holds}
-use Rattle.rules.specs.Layout.{maxOwner, process, configurationWords, cells, slots, cellOwner, cellGroup, configuration, firstSlot, Addr, at, offset, Valid, rd, tableWords, live, serial, owner, group, parent, entries}
+use Rattle.rules.specs.Layout.{maxOwner, process, configurationWords, cells, slots, cellOwner, cellGroup, configuration, firstSlot, Addr, at, offset, Valid, rd, tableWords, live, serial, owner, group, parent, entries, bits}
 use Rattle.rules.specs.WellFormed.{parentOk, ownEntries, ownEntry, lengthsExact, recordsOk, wellFormed}
 use Rattle.rules.specs.Rule.{Word, _≔_, over}
-use Rattle.rules.specs.SetUp.{canSetUp, firstProcesses, freshTable, setUpTable}
+use Rattle.rules.specs.SetUp.{firstBits, canSetUp, firstProcesses, freshTable, setUpTable}
 use Rattle.laws.proofs.Claims.{tested}
 use Rattle.laws.proofs.Below.{sum-zero, count-none}
 use Rattle.laws.proofs.Places.{conf-cells, offset-ge, offset-lt}
@@ -53,18 +53,22 @@ blank-fine h = record {
 -- ---- one process begun in a slot of zeros
 
 abbrev begun : ℕ → ℕ → ℕ → List Word
-begun q a b = (at process q live ≔ 1) ∷ (at process q serial ≔ 1) ∷ (at process q owner ≔ a) ∷ (at process q group ≔ b) ∷ []
+begun q a b =
+    (at process q live ≔ 1) ∷ (at process q serial ≔ 1) ∷ (at process q owner ≔ a) ∷ (at process q group ≔ b) ∷ (at process q (bits process) ≔ firstBits) ∷ []
 
 begun-in : (q a b : ℕ) → AllOf (InRecord process q) (begun q a b)
-begun-in q a b = word-in process q live 1 (omega arith) (word-in process q serial 1 (omega arith) (word-in process q owner a (omega arith) (word-in process q group b (omega arith) nil)))
+begun-in q a b =
+    word-in process q live 1 (omega arith) (word-in process q serial 1 (omega arith) (word-in process q owner a (omega arith) (word-in process q group b (omega arith)
+    (word-in process q (bits process) firstBits (omega arith) nil))))
 
 module _ (h : List ℕ) (r : Addr → ℕ) (w : Fine h r) (q a b : ℕ) (l : q < slots h process) (zeros : (j : ℕ) → r (at process q j) ≡ 0) (a-fits : a ≤ maxOwner) (b-fits : b ≤ maxOwner) where
-  word : (j : ℕ) → over r (begun q a b) (at process q j) ≡ cond (eqb j 3) b (cond (eqb j 2) a (cond (eqb j 1) 1 (cond (eqb j 0) 1 (r (at process q j)))))
+  word : (j : ℕ) → over r (begun q a b) (at process q j)
+      ≡ cond (eqb j 6) firstBits (cond (eqb j 3) b (cond (eqb j 2) a (cond (eqb j 1) 1 (cond (eqb j 0) 1 (r (at process q j))))))
   unfolding over
   word j = simp same-record
 
-  past : (j : ℕ) → 4 ≤ j → over r (begun q a b) (at process q j) ≡ r (at process q j)
-  past j m = word j ∙ rw (ne-eqb j 3 (λ e. omega arith), ne-eqb j 2 (λ e. omega arith), ne-eqb j 1 (λ e. omega arith), ne-eqb j 0 (λ e. omega arith))
+  past : (j : ℕ) → 4 ≤ j → (j ≡ bits process → ⊥) → over r (begun q a b) (at process q j) ≡ r (at process q j)
+  past j m n = word j ∙ rw (ne-eqb j 6 n, ne-eqb j 3 (λ e. omega arith), ne-eqb j 2 (λ e. omega arith), ne-eqb j 1 (λ e. omega arith), ne-eqb j 0 (λ e. omega arith))
 
   begins : Keeps h r (begun q a b)
   unfolding parentOk
@@ -77,8 +81,9 @@ module _ (h : List ℕ) (r : Addr → ℕ) (w : Fine h r) (q a b : ℕ) (l : q <
     next-serial = rw (word 1, zeros serial);
     owner-fits = rw (word 2) a-fits;
     group-fits = rw (word 3) b-fits;
-    parent-ok = rw (past parent (omega arith), zeros parent) (λ n. absurd (true≢false (sym n)));
-    beyond = λ j l. past j (omega arith);
+    parent-ok = rw (past parent (omega arith) (λ e. omega arith), zeros parent) (λ n. absurd (true≢false (sym n)));
+    bits-fit = rw (word 6) (omega arith);
+    beyond = λ j l n. past j (omega arith) n;
   })
 
 -- ---- the first process of each cell

@@ -79,7 +79,7 @@ module _ (h : List ℕ) (r : Addr → ℕ) (st : List ℕ) (k : Call) where
   lifeless f x (cleared c y) e = refl
   lifeless f x linked e = let z : links ≡ live = e in absurd (omega arith)
   lifeless f x sized e = let z : size ≡ live = e in absurd (omega arith)
-  lifeless f x (set-bits {j} c o s) e = absurd (bits-past j e)
+  lifeless f x (set-bits {j} c s) e = absurd (bits-past j e)
   lifeless f x (posted {n} c w) e = absurd (mail-past n w e)
   lifeless f x (received {n} c w) e = absurd (mail-past n w e)
 

@@ -7,7 +7,7 @@ use lib.ListN.{set, replicate}
 use Rattle.rules.specs.Words.{allBelow, sumBelow, countBelow, lowest}
 use Rattle.rules.specs.Claim.{test}
 use Rattle.rules.specs.Level.{within, equals, flowsTo}
-use Rattle.rules.specs.Layout.{headerWords, cellWords, process, segment, file, recordWords, cells, slots, blocks, cellWord, levelOf, configuration, firstSlot, cellOf, flows, Addr, at, rd, live, serial, owner, group, parent, queue, heldAt, usedAt, messageAt, pageAt, bits, sharable, size, references, opens}
+use Rattle.rules.specs.Layout.{headerWords, cellWords, process, segment, file, recordWords, cells, slots, blocks, cellWord, levelOf, configuration, firstSlot, cellOf, flows, Addr, at, rd, live, serial, owner, group, parent, queue, zero7, heldAt, usedAt, messageAt, pageAt, bits, sharable, size, references, opens}
 use Rattle.rules.specs.Seid.{class, seid, classOf, indexOf, serialOf, isSeid}
 use Rattle.rules.specs.Modes.{validModes, writes}
 use Rattle.rules.specs.Rights.{asksWrite, validAccess}
@@ -82,6 +82,10 @@ pub record Judged : Type 0 where
   pub free-serial : right (but (at file 1 serial) 4) ≡ true
   pub free-not-zero : right (but (at file 1 owner) 1) ≡ false
   pub unused-message : right (but (at process 1 (messageAt 7 3)) 1) ≡ false
+  -- a process has bits too, and one zero after them
+  pub process-bits : right (but (at process 1 (bits process)) 511) ≡ true
+  pub process-bits-over : right (but (at process 1 (bits process)) 512) ≡ false
+  pub process-zero : right (but (at process 1 zero7) 1) ≡ false
   -- a page holds a filled entry, wherever the entry's other pages lie
   pub mapped : right (but (at process 0 (pageAt 7)) 4) ≡ true
   pub mapped-empty : right (but (at process 0 (pageAt 7)) 3) ≡ false
@@ -110,6 +114,9 @@ judged =
       free-serial = refl;
       free-not-zero = refl;
       unused-message = refl;
+      process-bits = refl;
+      process-bits-over = refl;
+      process-zero = refl;
       mapped = refl;
       mapped-empty = refl;
       mapped-past = refl;

@@ -2,6 +2,8 @@
 pub mod Refusals
 pub mod After
 pub mod Stale
+pub mod Permits
+pub mod Posts
 pub mod Listing
 pub mod Writes
 pub mod Queue

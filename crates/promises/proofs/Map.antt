@@ -8,7 +8,7 @@ use native.Mathlib.Decide.{ℕ-discrete, decLt}
 use lib.Dec.{ltb, leb, eqb}
 use borrow.Author.Tests.{lt-ltb, le-leb, ltb-true, ltb-false, leb-true, eq-eqb, ne-eqb, eqb-true, eqb-false, lt-leb, le-ltb, leb-false}
 use Rattle.rules.specs.Words.{someBelow}
-use Rattle.rules.specs.Layout.{Kind, process, segment, file, slots, configuration, Addr, at, Valid, rd, live, entries, heldAt, pages, pageBytes, pagesAt, pageAt, size}
+use Rattle.rules.specs.Layout.{Kind, process, segment, file, slots, configuration, Addr, at, Valid, rd, live, entries, heldAt, pages, pageBytes, pagesAt, pageAt, bits, size}
 use Rattle.rules.specs.Seid.{indexOf, orSelf}
 use Rattle.rules.specs.Errors.{XOK}
 use Rattle.rules.specs.Rule.{Word, Rule, over, store}
@@ -292,6 +292,11 @@ map-own s k w p pl alive other unreleased g gl = elim (ℕ-discrete (step s k .a
     entry-low segment n y e = omega arith
     entry-low file n y e = omega arith
 
+    bits-low : (j : Kind) → pageAt g ≡ bits j → ⊥
+    bits-low process e = omega arith
+    bits-low segment e = omega arith
+    bits-low file e = omega arith
+
     past : (x : Word) → Wrote (configuration (s .table)) (rd (configuration (s .table)) (s .table)) k x → x .at .kind ≡ process → x .at .slot ≡ p → pageAt g ≡ x .at .word → ⊥
     past x (made {j = j} {c = c} m l room y) e f z = omega (arith, slot-untaken (configuration (s .table)) (rd (configuration (s .table)) (s .table)) j c room .is-free, lived j _ e f)
       where
@@ -305,6 +310,6 @@ map-own s k w p pl alive other unreleased g gl = elim (ℕ-discrete (step s k .a
     past x (cleared c y) e f z = unreleased c f
     past x linked e f z = no-process file tt e
     past x sized e f z = no-process file tt e
-    past x (set-bits {j = j} c o v) e f z = no-process j o e
+    past x (set-bits {j = j} c v) e f z = bits-low j z
     past x (posted {n} c y) e f z = omega (arith, y (λ i. omega arith))
     past x (received {n} c y) e f z = omega (arith, y (λ i. omega arith))

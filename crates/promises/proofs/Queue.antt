@@ -6,10 +6,10 @@ use Prim.Native.Nat.{ℕ, _≤_, _<_}
 use native.Mathlib.Omega.{arith}
 use native.Mathlib.Decide.{ℕ-discrete}
 use lib.Dec.{ltb}
-use Rattle.rules.specs.Layout.{Kind, process, segment, file, Addr, at, live, queue, messages, messageWords, messagesAt, messageAt, pagesAt}
+use Rattle.rules.specs.Layout.{Kind, process, segment, file, Addr, at, live, queue, messages, messageWords, messagesAt, messageAt, pagesAt, bits}
 use Rattle.rules.specs.Seid.{indexOf, orSelf, present, seidAt}
 use Rattle.rules.specs.Rule.{Word, over}
-use Rattle.rules.specs.Call15.{queued, post}
+use Rattle.rules.specs.Call15.{queued, mayPost, post}
 use Rattle.rules.specs.Step.{Call, ruleOf}
 use Rattle.laws.proofs.Tests.{cond-both}
 use Rattle.laws.proofs.Written.{AllOf, nil, all-map, over-miss}
@@ -20,9 +20,9 @@ use Rattle.kept.proofs.Keeps.{Caller}
 use Rattle.kept.proofs.Keep15.{queued-past, queued-length}
 use Rattle.promises.proofs.Writes.{EntryWord, Wrote, made, filled, emptied, paged, counted, freed-word, cleared, linked, sized, set-bits, posted, received, writes}
 
--- a word of a process that is neither of its first eight nor of its messages: an entry's or a page
+-- a word of a process that tells nothing of its life and its mail: bits, an entry's, or a page
 abbrev Apart : ℕ → Type 0
-Apart n = (8 ≤ n) × (messagesAt ≤ n → pagesAt ≤ n)
+Apart n = (6 ≤ n) × (messagesAt ≤ n → pagesAt ≤ n)
 
 -- a word that is not process p's, or is such a one
 abbrev Spares : ℕ → Word → Type 0
@@ -34,10 +34,13 @@ spared p a j out = over-miss (at process p j) (all-map (λ x f e.
     let same : j ≡ x .at .word = ap (λ (b : Addr). b .word) e in
     out (rw same w)) a)
 
+bits-apart : (j : Kind) → j ≡ process → Apart (bits j)
+bits-apart j e = rw e (omega arith, λ m. omega arith)
+
 entry-fits : (j : Kind) (n : ℕ) → EntryWord j n → Apart n
 entry-fits process n w = absurd w
 entry-fits segment n w = (omega arith, λ m. omega arith)
-entry-fits file n w = (w .0, λ m. omega arith)
+entry-fits file n w = (omega arith, λ m. omega arith)
 
 -- ---- the queue that a call leaves
 
@@ -92,13 +95,13 @@ module _ (h : List ℕ) (r : Addr → ℕ) (st : List ℕ) (k : Call) (p : ℕ) 
     sparing unposted x (cleared c y) e f = absurd (unreleased c f)
     sparing unposted x linked e f = absurd (no-process file tt e)
     sparing unposted x sized e f = absurd (no-process file tt e)
-    sparing unposted x (set-bits {j} c o z) e f = absurd (no-process j o e)
+    sparing unposted x (set-bits {j} c z) e f = bits-apart j e
     sparing unposted x (posted c y) e f = absurd (unposted c f)
     sparing unposted x (received c y) e f = absurd (unreceived c f)
 
     by-post : indexOf given ≡ p → Later r (over r (post h r caller (k .a) (k .buffer) .effects .words)) p
     unfolding post
-    by-post e = rw e (cond-both (λ ws. Later r (over r ws) p) (present r process given && ltb (r (at process p queue)) messages)
+    by-post e = rw e (cond-both (λ ws. Later r (over r ws) p) (present r process given && (mayPost r caller p && ltb (r (at process p queue)) messages))
         (queued (seidAt r process caller) p (k .buffer) (r (at process p queue))) []
         (λ t. later-posted r p (seidAt r process caller) (k .buffer)) (λ t. later-spared r p nil))
 

@@ -177,7 +177,7 @@ module _ (s : State) (k : Call) where
         call-9 = λ e. refl;
         call-10 = λ e. refl;
         call-11 = λ e. refl;
-        call-12 = λ e. by-bits conf reading k P (λ v j o. refl);
+        call-12 = λ e. by-bits conf reading k P (λ v j. refl);
         call-13 = λ e. absurd (a e);
         call-14 = λ e. refl;
         call-15 = λ e. refl;

@@ -180,9 +180,9 @@ module _ (h : List ℕ) (r : Addr → ℕ) (st : List ℕ) (k : Call) (me : Call
   sparing a b x (cleared c y) n m z e = a c
   sparing a b x linked n m z e = omega (arith, ap class (kind-of i n x e))
   sparing a b x sized n m z e = omega (arith, ap class (kind-of i n x e))
-  sparing a b x (set-bits {j = process} c o f) n m z e = absurd o
-  sparing a b x (set-bits {j = segment} c o f) n m z e = shared (eqb-true _ 0 (passed _ (rw (ap (λ (b : Addr). b .slot) e) f)))
-  sparing a b x (set-bits {j = file} c o f) n m z e = omega (arith, ap class (kind-of i n x e))
+  sparing a b x (set-bits {j = process} c f) n m z e = no-process segment tt (kind-of i n x e)
+  sparing a b x (set-bits {j = segment} c f) n m z e = shared (eqb-true _ 0 (passed _ (rw (ap (λ (b : Addr). b .slot) e) f)))
+  sparing a b x (set-bits {j = file} c f) n m z e = omega (arith, ap class (kind-of i n x e))
   sparing a b x (posted c y) n m z e = no-process segment tt (kind-of i n x e)
   sparing a b x (received c y) n m z e = no-process segment tt (kind-of i n x e)
 

@@ -87,8 +87,8 @@ module _ (h : List ℕ) (r : Addr → ℕ) (k : Call) (me : Caller h r (k .calle
   pub by-rule : (st : List ℕ) → creates (k .code) ≡ true → Clear (ruleOf h r st k .refusals) → Handed h r (ruleOf h r st k)
   unfolding ruleOf spawn buildSegment create
   by-rule st t = split _ (eqb (k .code) 1)
-      (λ e. rw (eqb-true (k .code) 1 e) (λ ok. handed process _ (ok .1 .1 .0) refl (spawned-word r (k .caller) (k .a) (k .b) (free process) _ serial)
-      (λ l m. elsewhere process (free process) (spawned-in r (k .caller) (k .a) (k .b) (free process) _) r l m live)))
+      (λ e. rw (eqb-true (k .code) 1 e) (λ ok. handed process _ (ok .1 .1 .0) refl (spawned-word r (k .caller) (k .a) (k .b) (k .c) (free process) _ serial)
+      (λ l m. elsewhere process (free process) (spawned-in r (k .caller) (k .a) (k .b) (k .c) (free process) _) r l m live)))
       (λ n. split _ (eqb (k .code) 3)
       (λ e. rw (eqb-true (k .code) 3 e) (λ ok. handed segment _ (ok .1 .1 .1 .0) refl
       (object-serial segment tt (free segment) (freeEntry r segment (k .caller)) (free-entry r segment (k .caller) (ok .1 .1 .0) .in-record) _ _ _ _ _ _ _ _)

@@ -53,7 +53,7 @@ abbrev pub takesSeid : ℕ → Bool
 takesSeid n = eqb n 2 || (eqb n 4 || (eqb n 8 || (eqb n 10 || (eqb n 11 || (eqb n 12 || eqb n 17)))))
 
 abbrev pub takes : Kind → ℕ → Bool
-takes process n = eqb n 2 || eqb n 17
+takes process n = eqb n 2 || (eqb n 12 || eqb n 17)
 takes segment n = eqb n 4 || (eqb n 12 || eqb n 17)
 takes file n = eqb n 8 || (eqb n 10 || (eqb n 11 || (eqb n 12 || eqb n 17)))
 
@@ -117,7 +117,8 @@ module _ (s : State) (k : Call) where
       (λ t. either (eqb n 10) _ t (λ e. let q = rw (eqb-true n 10 e) at c in (file, rw (eqb-true n 10 e), passed _ (q .0), passed _ (q .1 .1 .0)))
       (λ t. either (eqb n 11) _ t (λ e. let q = rw (eqb-true n 11 e) at c in (file, rw (eqb-true n 11 e), passed _ (q .0), passed _ (q .1 .1 .0)))
       (λ t. either (eqb n 12) _ t
-      (λ e. by-class (eqb (classOf given) (class segment)) _ _ (for-bits segment (rw (eqb-true n 12 e))) (for-bits file (rw (eqb-true n 12 e))) (rw (eqb-true n 12 e) at c))
+      (λ e. by-class (eqb (classOf given) (class process)) _ _ (for-bits process (rw (eqb-true n 12 e)))
+      (by-class (eqb (classOf given) (class segment)) _ _ (for-bits segment (rw (eqb-true n 12 e))) (for-bits file (rw (eqb-true n 12 e)))) (rw (eqb-true n 12 e) at c))
       (λ e. by-class (eqb (classOf given) (class process)) _ _ (for-status process (rw (eqb-true n 17 e)))
       (by-class (eqb (classOf given) (class segment)) _ _ (for-status segment (rw (eqb-true n 17 e))) (for-status file (rw (eqb-true n 17 e)))) (rw (eqb-true n 17 e) at c)))))))
     where

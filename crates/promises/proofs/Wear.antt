@@ -81,6 +81,11 @@ module _ (h : List ℕ) (r : Addr → ℕ) (k : Call) (j : Kind) (i : ℕ) where
   entry-past segment n w e = omega arith
   entry-past file n w e = omega arith
 
+  bits-past : (l : Kind) → serial ≡ bits l → ⊥
+  bits-past process e = omega arith
+  bits-past segment e = omega arith
+  bits-past file e = omega arith
+
   counts : (x : Word) → Wrote h r k x → here ≡ x .at → Counts (x .value)
   counts x (made {j = l} {c = c} m in-cells room one-more) e =
       let kind : j ≡ l = ap (λ (b : Addr). b .kind) e in
@@ -97,7 +102,7 @@ module _ (h : List ℕ) (r : Addr → ℕ) (k : Call) (j : Kind) (i : ℕ) where
   counts x (cleared c n) e = absurd (n (sym (word-of x e)))
   counts x linked e = absurd (omega (arith, word-of x e))
   counts x sized e = absurd (omega (arith, word-of x e))
-  counts x (set-bits {j = l} c o f) e = absurd (omega (arith, word-of x e, object-words l o .bits-at))
+  counts x (set-bits {j = l} c f) e = absurd (bits-past l (word-of x e))
   counts x (posted {n} c m) e = absurd (let y = word-of x e in omega (arith, m (λ z. omega arith)))
   counts x (received {n} c m) e = absurd (let y = word-of x e in omega (arith, m (λ z. omega arith)))
 
@@ -174,7 +179,8 @@ once-at-most : (h : List ℕ) (j : Kind) (i n : ℕ) → AllOf (λ x. at j i ser
 unfolding firstProcesses
 once-at-most h j i zero = nil
 once-at-most h j i (suc n) = all-append _ (once-at-most h j i n)
-    (also (λ e. omega arith) (also (λ e. omega arith) (also (λ e. absurd (past owner e (omega arith))) (also (λ e. absurd (past group e (omega arith))) nil))))
+    (also (λ e. omega arith) (also (λ e. omega arith) (also (λ e. absurd (past owner e (λ x. omega arith)))
+    (also (λ e. absurd (past group e (λ x. omega arith))) (also (λ e. absurd (past (bits process) e (λ x. omega arith))) nil)))))
   where
     past : {l : Kind} {m : ℕ} (w : ℕ) → at j i serial ≡ at l m w → (serial ≡ w → ⊥) → ⊥
     past w e d = d (ap (λ (b : Addr). b .word) e)

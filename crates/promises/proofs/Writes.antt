@@ -24,7 +24,7 @@ use Rattle.rules.specs.Call11.{unlinked, unlink}
 use Rattle.rules.specs.Call12.{isShared, setBitsOf}
 use Rattle.rules.specs.Call13.{readBlock}
 use Rattle.rules.specs.Call14.{writeBlock}
-use Rattle.rules.specs.Call15.{queued, post}
+use Rattle.rules.specs.Call15.{queued, mayPost, post}
 use Rattle.rules.specs.Call16.{movedUp, receive}
 use Rattle.rules.specs.Call18.{accessOf}
 use Rattle.rules.specs.Call19.{remap}
@@ -85,10 +85,10 @@ pub data Wrote (h : List ℕ) (r : Addr → ℕ) (k : Call) : Word → Type 0 wh
   counted : {j : Kind} {i v : ℕ} → Object j → Wrote h r k (at j i (holders j) ≔ v)
   freed-word : (j : Kind) {i n : ℕ} → Object j → Frees j (k .code) → (n ≡ serial → ⊥) → Wrote h r k (at j i n ≔ 0)
   cleared : {n : ℕ} → k .code ≡ 2 → (n ≡ serial → ⊥) → Wrote h r k (at process (indexOf (orSelf r (k .caller) (k .a))) n ≔ 0)
-  -- a file's links and size; bits
+  -- a file's links and size; bits, of any kind
   linked : {i v : ℕ} → Wrote h r k (at file i links ≔ v)
   sized : {i v : ℕ} → Wrote h r k (at file i size ≔ v)
-  set-bits : {j : Kind} {i v : ℕ} → k .code ≡ 12 → Object j → isShared r j i ≡ false → Wrote h r k (at j i (bits j) ≔ v)
+  set-bits : {j : Kind} {i v : ℕ} → k .code ≡ 12 → isShared r j i ≡ false → Wrote h r k (at j i (bits j) ≔ v)
   -- a queue's length and messages: the receiver's of a post, the caller's at a receive
   posted : {n v : ℕ} → k .code ≡ 15 → MailWord n → Wrote h r k (at process (indexOf (orSelf r (k .caller) (k .a))) n ≔ v)
   received : {n v : ℕ} → k .code ≡ 16 → MailWord n → Wrote h r k (at process (k .caller) n ≔ v)
@@ -180,11 +180,11 @@ module _ (h : List ℕ) (r : Addr → ℕ) (k : Call) where
     new-serial j m room = made m mine room (λ e. refl)
 
     -- the words of any list that begins with live and serial and goes on with others
-    of-spawned : k .code ≡ 1 → Clear (spawn h r (k .caller) (k .a) (k .b) (k .buffer) .refusals) → Writes (spawn h r (k .caller) (k .a) (k .b) (k .buffer) .effects .words)
+    of-spawned : k .code ≡ 1 → Clear (spawn h r (k .caller) (k .a) (k .b) (k .c) (k .buffer) .refusals) → Writes (spawn h r (k .caller) (k .a) (k .b) (k .c) (k .buffer) .effects .words)
     unfolding spawn
     of-spawned e ok =
         let w = new-word process e (ok .1 .1 .0) in
-        also (w 0 _ (λ e. omega arith)) (also (new-serial process e (ok .1 .1 .0)) (also (w 2 _ (λ e. omega arith)) (also (w 3 _ (λ e. omega arith)) (also (w 4 _ (λ e. omega arith)) nil))))
+        also (w 0 _ (λ e. omega arith)) (also (new-serial process e (ok .1 .1 .0)) (also (w 2 _ (λ e. omega arith)) (also (w 3 _ (λ e. omega arith)) (also (w 4 _ (λ e. omega arith)) (also (w 6 _ (λ e. omega arith)) nil)))))
 
     of-object : (j : Kind) → Makes j (k .code) → noSlot h r j (cellOf h process (k .caller)) ≡ false → (u g b x y : ℕ)
         → let i : ℕ = freeSlot h r j (cellOf h process (k .caller)) in
@@ -200,8 +200,8 @@ module _ (h : List ℕ) (r : Addr → ℕ) (k : Call) where
     unfolding post queued
     of-posted e =
         let q = indexOf given in
-        all-if (Wrote h r k) (present r process given && ltb (r (at process q queue)) messages) _ [] (λ t.
-        let l = ltb-true (r (at process q queue)) messages (and-right (present r process given) _ t) in
+        all-if (Wrote h r k) (present r process given && (mayPost r (k .caller) q && ltb (r (at process q queue)) messages)) _ [] (λ t.
+        let l = ltb-true (r (at process q queue)) messages (and-right (mayPost r (k .caller) q) _ (and-right (present r process given) _ t)) in
         also (posted e (λ x. absurd (x refl))) (also (posted e (λ x. (omega arith, omega arith))) (also (posted e (λ x. (omega arith, omega arith)))
         (also (posted e (λ x. (omega arith, omega arith))) (also (posted e (λ x. (omega arith, omega arith))) nil)))))
         (λ t. nil)
@@ -213,10 +213,10 @@ module _ (h : List ℕ) (r : Addr → ℕ) (k : Call) where
         (all-tab (Wrote h r k) (messageAt (messages - 1) 0) messageWords _ (λ n lo hi. received {n = n} e (λ x. (omega arith, omega arith)))))
 
 -- what call 12 that is carried out says of a segment
-shared-clear : (h : List ℕ) (r : Addr → ℕ) (p s b : ℕ) (buffer : List ℕ) (j : Kind) → Object j → Clear (setBitsOf h r p s b buffer j .refusals) → isShared r j (indexOf s) ≡ false
-shared-clear h r p s b buffer process o ok = absurd o
-shared-clear h r p s b buffer segment o ok = ok .1 .1 .1 .1 .1 .0
-shared-clear h r p s b buffer file o ok = refl
+shared-clear : (h : List ℕ) (r : Addr → ℕ) (p s b : ℕ) (buffer : List ℕ) (j : Kind) → Clear (setBitsOf h r p s b buffer j .refusals) → isShared r j (indexOf s) ≡ false
+shared-clear h r p s b buffer process ok = refl
+shared-clear h r p s b buffer segment ok = ok .1 .1 .1 .1 .1 .0
+shared-clear h r p s b buffer file ok = refl
 
 -- ---- every call
 
@@ -237,7 +237,7 @@ writes h r st k me =
       call-9 = λ e ok. of-given-up h r k r file tt (λ n m. absurd (m e)) p itself (k .a) _ (leb-false entries (k .a) (ok .0));
       call-10 = λ e ok. also linked nil;
       call-11 = λ e ok. of-unlinked h r k e (indexOf (orSelf r p (k .a)));
-      call-12 = λ e. by-bits h r k P (λ s j o ok. also (set-bits e o (shared-clear h r p s (k .b) (k .buffer) j o ok)) nil);
+      call-12 = λ e. by-bits h r k P (λ s j ok. also (set-bits e (shared-clear h r p s (k .b) (k .buffer) j ok)) nil);
       call-13 = λ e ok. nil;
       call-14 = λ e ok. also sized nil;
       call-15 = λ e ok. of-posted h r k me e;

@@ -9,7 +9,8 @@ use borrow.Author.Tests.{eqb-true, ltb-true}
 use Rattle.rules.specs.Layout.{process, slots, recordWords, cellOf, flows, Addr, at, queue, messages, messageAt}
 use Rattle.rules.specs.Seid.{indexOf, present}
 use Rattle.rules.specs.Rule.{effect}
-use Rattle.rules.specs.Call15.{queued, post}
+use Rattle.rules.specs.Find.{rightsAt}
+use Rattle.rules.specs.Call15.{queued, mayPost, post}
 use Rattle.laws.proofs.Tests.{split, passed, and-right}
 use Rattle.laws.proofs.Written.{AllOf, nil, also, all-if}
 use Rattle.secrecy.proofs.Shown.{up-rules, alike-rules, Up, Ups, WritesUp, Hidden, Alike-effects, same-effect, hidden, Alike}
@@ -25,9 +26,10 @@ up-queued h c me q buffer n l f m = also (up queue (omega arith)) (also (up (mes
     up j i = record { valid = (l, i); up = f }
 
 -- what a post delivers, if anything
-up-posted : (h : List ℕ) (c me q : ℕ) (buffer : List ℕ) (b : Bool) (n : ℕ) → q < slots h process → flows h c (cellOf h process q) ≡ true
-    → Ups h c (cond (b && ltb n messages) (queued me q buffer n) [])
-up-posted h c me q buffer b n l f = all-if _ (b && ltb n messages) _ _ (λ e. up-queued h c me q buffer n l f (ltb-true n messages (and-right b (ltb n messages) e))) (λ e. nil)
+up-posted : (h : List ℕ) (c me q : ℕ) (buffer : List ℕ) (b d : Bool) (n : ℕ) → q < slots h process → flows h c (cellOf h process q) ≡ true
+    → Ups h c (cond (b && (d && ltb n messages)) (queued me q buffer n) [])
+up-posted h c me q buffer b d n l f = all-if _ (b && (d && ltb n messages)) _ _
+    (λ e. up-queued h c me q buffer n l f (ltb-true n messages (and-right d (ltb n messages) (and-right b (d && ltb n messages) e)))) (λ e. nil)
 
 pub up15 : {h : List ℕ} {p : ℕ} {r : Addr → ℕ} → View.Here h p r → (a : ℕ) (buffer : List ℕ) → WritesUp h (cellOf h process p) (post h r p a buffer)
 unfolding post
@@ -40,13 +42,15 @@ hid-queued h C me q buffer n out = search (also, nil) depth 8
 -- what a post delivers, if anything: the same where the set sees the receiver, and hidden where it does not
 alike-posted : {h : List ℕ} {p : ℕ} {C : ℕ → Bool} {r q : Addr → ℕ} → View.View h p C r q → (me s : ℕ) (buffer : List ℕ) → indexOf s < slots h process
     → Alike-effects h C
-    (effect 0 0 buffer (cond (present r process s && ltb (r (at process (indexOf s) queue)) messages) (queued me (indexOf s) buffer (r (at process (indexOf s) queue))) []) [])
-    (effect 0 0 buffer (cond (present q process s && ltb (q (at process (indexOf s) queue)) messages) (queued me (indexOf s) buffer (q (at process (indexOf s) queue))) []) [])
-unfolding present
+    (effect 0 0 buffer (cond (present r process s && (mayPost r p (indexOf s) && ltb (r (at process (indexOf s) queue)) messages))
+    (queued me (indexOf s) buffer (r (at process (indexOf s) queue))) []) [])
+    (effect 0 0 buffer (cond (present q process s && (mayPost q p (indexOf s) && ltb (q (at process (indexOf s) queue)) messages))
+    (queued me (indexOf s) buffer (q (at process (indexOf s) queue))) []) [])
+unfolding present mayPost rightsAt
 alike-posted {h} {p} {C} {r} {q} v me s buffer l = split _ (C (cellOf h process (indexOf s)))
     (λ i. let same : (j : ℕ) → ltb j (recordWords process) ≡ true → q (at process (indexOf s) j) ≡ r (at process (indexOf s) j)
     = λ j m. sym (v .seen (at process (indexOf s) j) (l, ltb-true j (recordWords process) m) i) in
-    search (same-effect, same))
+    search (same-effect, same, View.same-me v))
     (λ o. search (hidden, all-if, nil, hid-queued) depth 8)
 
 and-same : (a b d : Bool) → (a ≡ true → b ≡ d) → a && b ≡ a && d
@@ -55,6 +59,6 @@ and-same false b d e = refl
 
 pub alike15 : {h : List ℕ} {p : ℕ} {C : ℕ → Bool} {r q : Addr → ℕ} → View.View h p C r q → (a : ℕ) (buffer : List ℕ)
     → Alike h C (post h r p a buffer) (post h q p a buffer)
-unfolding post
+unfolding post mayPost
 alike15 v a buffer = rw (View.same-self v a, View.same-seid v)
-    (search (alike-rules, alike-posted v, and-same, View.same-below v, View.same-present v, View.formed-in, View.own-flows (v .here), eqb-true) depth 12)
+    (search (alike-rules, alike-posted v, and-same, View.same-below v, View.same-present v, View.same-rights v, View.formed-in, View.own-flows (v .here), eqb-true) depth 12)

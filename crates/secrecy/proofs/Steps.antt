@@ -45,7 +45,7 @@ use Rattle.secrecy.proofs.Flow20.{up20, alike20}
 
 up-code : {h : List ℕ} {r : Addr → ℕ} (k : Call) → Here h (k .caller) r → Holds (recordsOk h r) → (st : List ℕ) → WritesUp h (cellOf h process (k .caller)) (ruleOf h r st k)
 up-code {h} {r} k v w st = by-code h k (λ f. WritesUp h (cellOf h process (k .caller)) (f r st)) (record {
-  call-1 = λ e. up01 v (k .a) (k .b) (k .buffer);
+  call-1 = λ e. up01 v (k .a) (k .b) (k .c) (k .buffer);
   call-2 = λ e. up02 v (k .a) (k .buffer);
   call-3 = λ e. up03 v (k .a) (k .b) (k .c) (k .buffer);
   call-4 = λ e. up04 v (k .a) (k .b) (k .buffer);
@@ -71,7 +71,7 @@ up-code {h} {r} k v w st = by-code h k (λ f. WritesUp h (cellOf h process (k .c
 alike-code : {h : List ℕ} {C : ℕ → Bool} {r q : Addr → ℕ} (k : Call) → View h (k .caller) C r q → (s t : List ℕ) → length s ≡ length t → Stretches h C s t
     → Alike h C (ruleOf h r s k) (ruleOf h q t k)
 alike-code {h} {C} {r} {q} k v s t same seen = by-code h k (λ f. Alike h C (f r s) (f q t)) (record {
-  call-1 = λ e. alike01 v (k .a) (k .b) (k .buffer);
+  call-1 = λ e. alike01 v (k .a) (k .b) (k .c) (k .buffer);
   call-2 = λ e. alike02 v (k .a) (k .buffer);
   call-3 = λ e. alike03 v (k .a) (k .b) (k .c) (k .buffer);
   call-4 = λ e. alike04 v (k .a) (k .b) (k .buffer);

@@ -8,7 +8,7 @@ use borrow.Author.Tests.{eq-eqb, ne-eqb, lt-ltb, le-ltb, lt-leb, le-leb}
 use lib.Dec.{leb, ltb, eqb}
 use Rattle.rules.specs.Words.{allBelow}
 use Rattle.rules.specs.Claim.{Claim, test, is, each}
-use Rattle.rules.specs.Layout.{Kind, process, segment, file, slots, cellOf, configuration, Addr, at, rd, live, parent, queue, zero6, zero7, entries, heldAt, usedAt, messages, messageAt, messageWords, pages, pageAt}
+use Rattle.rules.specs.Layout.{maxBits, Kind, process, segment, file, slots, cellOf, configuration, Addr, at, rd, live, parent, queue, bits, zero7, entries, heldAt, usedAt, messages, messageAt, messageWords, pages, pageAt}
 use Rattle.rules.specs.Seid.{class, serialOf}
 use Rattle.rules.specs.WellFormed.{recordOk, heldOk, entryOk, parentOk, heldOnce, messageOk, pageOk, processOk}
 use Rattle.laws.proofs.Below.{all-of}
@@ -93,7 +93,7 @@ module _ (t : List ℕ) (n : Header) (shaped : Shaped t n) (p place : ℕ) (lies
   pub live-process : (b₀ b₁ b₂ b₃ b₄ b₅ b₆ b₇ : Bool)
       → b₀ ≡ test (parentOk (configuration t) (cellOf (configuration t) process p) (rd (configuration t) t (at process p parent)))
       → b₁ ≡ leb (rd (configuration t) t (at process p queue)) messages
-      → b₂ ≡ eqb (rd (configuration t) t (at process p zero6)) 0
+      → b₂ ≡ leb (rd (configuration t) t (at process p (bits process))) maxBits
       → b₃ ≡ eqb (rd (configuration t) t (at process p zero7)) 0
       → b₄ ≡ test (entriesOk (configuration t) (rd (configuration t) t) file p)
       → b₅ ≡ test (entriesOk (configuration t) (rd (configuration t) t) segment p) && test (heldOnce (rd (configuration t) t) p)

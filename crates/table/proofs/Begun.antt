@@ -9,11 +9,11 @@ use lib.ListN.{length, getD, set, take, replicate, length-set, length-append, le
 use lib.Seq.{length-take-le, take-suc-set, take-length, take-at, getD-take}
 use Rattle.rules.specs.Words.{sumBelow}
 use Rattle.rules.specs.Claim.{Holds, test}
-use Rattle.rules.specs.Layout.{maxSlots, process, segment, file, headerWords, cellWords, recordWords, cells, cellWord, configuration, firstSlot, tableWords, live, serial, owner, group}
+use Rattle.rules.specs.Layout.{maxSlots, process, segment, file, headerWords, cellWords, recordWords, cells, cellWord, configuration, firstSlot, tableWords, live, serial, owner, group, bits}
 use Rattle.rules.specs.Errors.{XOK, XbParam}
 use Rattle.rules.specs.Rule.{write}
 use Rattle.rules.specs.WellFormed.{configured}
-use Rattle.rules.specs.SetUp.{canSetUp, firstProcesses, freshTable, setUpAnswer, setUpTable}
+use Rattle.rules.specs.SetUp.{canSetUp, firstBits, firstProcesses, freshTable, setUpAnswer, setUpTable}
 use Rattle.laws.proofs.Claims.{holds}
 use Rattle.laws.proofs.Cells.{first-next, run-end}
 use Rattle.laws.proofs.Places.{conf-cells}
@@ -122,7 +122,8 @@ module _ (t₀ : List ℕ) (base end : ℕ) (t : List ℕ) (slot c : ℕ) (b : B
 
     pub begun-more : (x first-owner first-group : ℕ) (t′ : List ℕ)
         → x ≡ getD t (headerWords + cellWords * c + 3) 0 → first-owner ≡ getD t (headerWords + cellWords * c + 6) 0 → first-group ≡ getD t (headerWords + cellWords * c + 7) 0
-        → t′ ≡ set (set (set (set t (base + recordWords process * slot + live) 1) (base + recordWords process * slot + serial) 1) (base + recordWords process * slot + owner) first-owner) (base + recordWords process * slot + group) first-group
+        → t′ ≡ set (set (set (set (set t (base + recordWords process * slot + live) 1) (base + recordWords process * slot + serial) 1) (base + recordWords process * slot + owner) first-owner)
+        (base + recordWords process * slot + group) first-group) (base + recordWords process * slot + bits process) firstBits
         → Begun t₀ base end t′ (slot + x) (c + 1)
     unfolding firstProcesses
     begun-more x first-owner first-group t′ ex eu ep e =

@@ -20,21 +20,21 @@ use layout::Header;
 use layout::Kind;
 use rules::ENTRIES;
 use rules::LIVE;
+use rules::MAX_BITS;
 use rules::MAX_CELLS;
 use rules::MAX_SLOTS;
 use rules::MESSAGE_WORDS;
 use rules::MESSAGES;
 use rules::MESSAGES_AT;
 use rules::PARENT;
+use rules::PROCESS_BITS;
 use rules::QUEUE;
 use words::wide;
 
 // The word of a message that names its sender.
 const SENDER: usize = 0;
 
-// The two words of a process that are zero.
-const ZERO_6: usize = 6;
-
+// The word of a process that is zero.
 const ZERO_7: usize = 7;
 
 fn parent_ok(t: &[u32], n: Header, cells: &[u16; MAX_SLOTS], p: usize) -> bool
@@ -178,7 +178,7 @@ fn process_ok(
         let designators = n.entry_at(Kind::Segment, p as u32, 0);
         let alive = parent_ok(t, n, cells, p)
             & ((wide(t[at + QUEUE]) <= MESSAGES)
-                & ((t[at + ZERO_6] == 0)
+                & ((t[at + PROCESS_BITS] <= MAX_BITS)
                     & ((t[at + ZERO_7] == 0)
                         & (descriptors_ok(t, n, file_cells, flow, mine, descriptors, opens)
                             & (designators_ok(

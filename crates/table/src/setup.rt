@@ -4,10 +4,10 @@ ghost use mathlib.Core.List.{_++_};
 ghost use Prim.Native.Nat.{_+_, _-_, _≤_, _<_};
 ghost use lib.ListN.{length, set, take, replicate};
 ghost use Rattle.rules.specs.Claim.{Holds};
-ghost use Rattle.rules.specs.Layout.{cells, configuration, live, serial, owner, group};
+ghost use Rattle.rules.specs.Layout.{process, cells, configuration, live, serial, owner, group, bits};
 ghost use Rattle.rules.specs.Rule.{write};
 ghost use Rattle.rules.specs.WellFormed.{configured};
-ghost use Rattle.rules.specs.SetUp.{firstProcesses};
+ghost use Rattle.rules.specs.SetUp.{firstBits, firstProcesses};
 ghost use Rattle.table.specs.Shape.{Framed};
 use layout::Header;
 use layout::Kind;
@@ -15,10 +15,12 @@ use rules::CELL_GROUP;
 use rules::CELL_OWNER;
 use rules::CELL_PROCESSES;
 use rules::CELL_WORDS;
+use rules::FIRST_BITS;
 use rules::GROUP;
 use rules::HEADER_WORDS;
 use rules::LIVE;
 use rules::OWNER;
+use rules::PROCESS_BITS;
 use rules::PROCESS_WORDS;
 use rules::SERIAL;
 use words::wide;
@@ -35,13 +37,14 @@ pub(crate) fn clear(t: &mut [u32], from: usize)
 
 // A process begins in the record at `at`, whose words are all zero.
 fn begin(t: &mut [u32], at: usize, cell_owner: u32, cell_group: u32)
-    requires { ⌜ at + group < length (now t) ⌝ }
-    ensures { λ _. ⌜ now (t .exit) ≡ set (set (set (set (now (t .entry)) (at + live) 1) (at + serial) 1) (at + owner) «cell_owner») (at + group) «cell_group» ⌝ }
+    requires { ⌜ at + bits process < length (now t) ⌝ }
+    ensures { λ _. ⌜ now (t .exit) ≡ set (set (set (set (set (now (t .entry)) (at + live) 1) (at + serial) 1) (at + owner) «cell_owner») (at + group) «cell_group») (at + bits process) firstBits ⌝ }
 {
     t[at + LIVE] = 1;
     t[at + SERIAL] = 1;
     t[at + OWNER] = cell_owner;
     t[at + GROUP] = cell_group;
+    t[at + PROCESS_BITS] = FIRST_BITS;
 }
 
 // The first process of each cell, in the first slot of the cell's run.

@@ -54,7 +54,7 @@ fn outcome(table: &mut [u32], store: &mut [u8], request: &Request, buffer: &mut 
         store,
     };
     match code {
-        1 => caller.spawn(a, b),
+        1 => caller.spawn(a, b, c),
         2 => caller.release_process(a),
         3 => caller.build_segment(a, b, c),
         4 => caller.rendezvous(a, b),
@@ -91,9 +91,10 @@ struct Caller<'a> {
     group: u32,
 }
 
-/// A slot: its index, the first word of its record, and its cell.
+/// A slot: its kind and index, the first word of its record, and its cell.
 #[derive(Clone, Copy)]
 struct Object {
+    kind: Kind,
     index: usize,
     at: usize,
     cell: usize,
@@ -101,6 +102,14 @@ struct Object {
 
 fn refuse_if(test: bool, error: Error) -> Result<(), Error> {
     if test { Err(error) } else { Ok(()) }
+}
+
+/// Where the bits stand in a record.
+fn bits_word(kind: Kind) -> usize {
+    match kind {
+        Kind::Process => PROCESS_BITS,
+        Kind::Segment | Kind::File => BITS,
+    }
 }
 
 /// Empties the pages of a designator.
@@ -134,7 +143,7 @@ pub fn granted(bits: u32, same_owner: bool, same_group: bool) -> u32 {
 
 impl Caller<'_> {
     fn slot(&self, kind: Kind, index: usize) -> Object {
-        Object { index, at: self.shape.at(kind, index), cell: self.shape.cell(kind, index) }
+        Object { kind, index, at: self.shape.at(kind, index), cell: self.shape.cell(kind, index) }
     }
 
     fn word(&self, object: Object, word: usize) -> u32 {
@@ -177,7 +186,7 @@ impl Caller<'_> {
     fn granted(&self, object: Object) -> u32 {
         let same_owner = self.word(object, OWNER) == self.owner;
         let same_group = self.word(object, GROUP) == self.group;
-        granted(self.word(object, BITS), same_owner, same_group)
+        granted(self.word(object, bits_word(object.kind)), same_owner, same_group)
     }
 
     fn lacks(&self, object: Object, access: u32) -> bool {
@@ -276,12 +285,13 @@ impl Caller<'_> {
 
     // Processes.
 
-    fn spawn(&mut self, owner: u32, group: u32) -> Outcome {
-        refuse_if(owner > MAX_ID || group > MAX_ID, XbParam)?;
+    fn spawn(&mut self, owner: u32, group: u32, bits: u32) -> Outcome {
+        refuse_if(owner > MAX_ID || group > MAX_ID || bits > MAX_BITS, XbParam)?;
         refuse_if(self.owner != 0 && (owner != self.owner || group != self.group), XnoPriv)?;
         let slot = self.free_slot(Kind::Process).ok_or(XnoProc)?;
         let seid = self.occupy(Kind::Process, slot, owner, group);
         self.table[slot.at + PARENT] = self.seid;
+        self.table[slot.at + PROCESS_BITS] = bits;
         Ok((seid, 0))
     }
 
@@ -449,14 +459,10 @@ impl Caller<'_> {
 
     fn set_bits(&mut self, seid: u32, bits: u32) -> Outcome {
         refuse_if(bits > MAX_BITS, XbParam)?;
-        let kind = match Kind::of_class(Seid::of(self.named(seid)).class) {
-            Some(Kind::Segment) => Kind::Segment,
-            Some(Kind::File) => Kind::File,
-            _ => return Err(XnoObj),
-        };
+        let kind = Kind::of_class(Seid::of(self.named(seid)).class).ok_or(XnoObj)?;
         let object = self.own(kind, seid)?;
         refuse_if(kind == Kind::Segment && self.word(object, SHARABLE) == 1, XshSg)?;
-        self.table[object.at + BITS] = bits;
+        self.table[object.at + bits_word(kind)] = bits;
         DONE
     }
 
@@ -506,11 +512,13 @@ impl Caller<'_> {
         let receiver = self.slot(Kind::Process, seid.index);
         refuse_if(!self.shape.flow[self.cell][receiver.cell], XnoAcc)?;
         let absent = self.stale(receiver, seid.serial);
+        let forbidden = self.lacks(receiver, WRITE);
         let queued = self.word(receiver, QUEUED) as usize;
         if receiver.cell == self.cell {
             refuse_if(absent, XbPrSd)?;
+            refuse_if(forbidden, XdapViol)?;
             refuse_if(queued == QUEUE, XpostEh)?;
-        } else if absent || queued == QUEUE {
+        } else if absent || forbidden || queued == QUEUE {
             return DONE; // the poster must not learn it
         }
         let at = receiver.at + MESSAGES + MESSAGE_WORDS * queued;
@@ -542,7 +550,7 @@ impl Caller<'_> {
         let kind = Kind::of_class(Seid::of(self.named(seid)).class).ok_or(XnoObj)?;
         let object = self.find(kind, seid, |cell| self.flows_here(cell))?;
         let level = self.shape.levels[object.cell];
-        let bits = if kind == Kind::Process { 0 } else { self.word(object, BITS) };
+        let bits = self.word(object, bits_word(kind));
         buffer[0] = kind.class() as u8;
         buffer[1] = object.cell as u8;
         buffer[2..4].copy_from_slice(&(self.word(object, OWNER) as u16).to_be_bytes());

@@ -36,6 +36,9 @@ pub const GROUP: usize = 3;
 // Processes.
 pub const PARENT: usize = 4;
 pub const QUEUED: usize = 5;
+pub const PROCESS_BITS: usize = 6;
+/// The bits of a cell's first process after set-up.
+pub const FIRST_BITS: u32 = 0o666;
 pub const DESCRIPTORS: usize = 8;
 pub const DESIGNATORS: usize = DESCRIPTORS + ENTRIES * ENTRY_WORDS;
 pub const MESSAGES: usize = DESIGNATORS + ENTRIES * ENTRY_WORDS;
@@ -215,6 +218,7 @@ pub fn setup(table: &mut [u32], store_bytes: usize) -> Error {
         table[first + SERIAL] = 1;
         table[first + OWNER] = owner;
         table[first + GROUP] = group;
+        table[first + PROCESS_BITS] = FIRST_BITS;
     }
     Error::XOK
 }
@@ -256,7 +260,8 @@ impl Pass<'_> {
         live_head(record)
             && self.parent(record[PARENT], cell)
             && queued <= QUEUE
-            && record[QUEUED + 1..DESCRIPTORS] == [0; 2]
+            && record[PROCESS_BITS] <= MAX_BITS
+            && record[PROCESS_BITS + 1] == 0
             && self.descriptors(&record[DESCRIPTORS..DESIGNATORS], cell)
             && self.designators(&record[DESIGNATORS..MESSAGES], cell)
             && self.messages(&record[MESSAGES..MAP], queued, cell)

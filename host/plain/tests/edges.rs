@@ -178,7 +178,7 @@ fn segment_sizes() {
 #[test]
 fn ninth_message() {
     let mut hall = Hall::two_levels();
-    let neighbour = hall.done(0, SPAWN, [0, 0, 0]).0;
+    let neighbour = hall.done(0, SPAWN, [0, 0, 0o600]).0;
     for k in 0..8 {
         assert_eq!(hall.post(0, neighbour, &[k; 12]), XOK);
     }
@@ -301,9 +301,9 @@ fn status_bytes() {
     for caller in [0, 1] {
         assert_eq!(hall.status(caller, file).unwrap().to_vec(), status(129, [1, 0x84]));
         assert_eq!(hall.status(caller, segment).unwrap().to_vec(), status(5, [1, 0xff]));
-        assert_eq!(hall.status(caller, process(0, 1)).unwrap().to_vec(), status(4, [0, 0]));
+        assert_eq!(hall.status(caller, process(0, 1)).unwrap().to_vec(), status(4, [1, 0xb6]));
     }
-    assert_eq!(hall.status(1, 0).unwrap(), [4, 1, 0, 5, 0, 6, 0, 0, 3, 2, 0x80, 0, 0, 3, 0, 0]);
+    assert_eq!(hall.status(1, 0).unwrap(), [4, 1, 0, 5, 0, 6, 1, 0xb6, 3, 2, 0x80, 0, 0, 3, 0, 0]);
     assert_eq!(hall.status(0, process(1, 1)), Err(XnoAcc));
     let wrong: Error = hall.with(0, STATUS, [0; 3], &mut [0; 15]).error;
     assert_eq!(wrong, XbSz);

@@ -21,7 +21,8 @@ fn r01_seid_0_is_the_caller() {
     assert_eq!(hall.error(0, OPEN, [0, 1, 0]), XnoObj);
     assert_eq!(hall.error(0, LINK, [0; 3]), XnoObj);
     assert_eq!(hall.error(0, UNLINK, [0; 3]), XnoObj);
-    assert_eq!(hall.error(0, SET_BITS, [0; 3]), XnoObj);
+    hall.done(0, SET_BITS, [0, 0o600, 0]);
+    assert_eq!(hall.process(0)[6], 0o600);
     hall.done(0, RELEASE, [0; 3]);
     assert_eq!(hall.process(0)[..8], [0, 1, 0, 0, 0, 0, 0, 0]);
     assert_eq!(hall.error(0, STATUS, [0; 3]), XbPrSd);
@@ -50,7 +51,7 @@ fn r03_absent_goes_by_class() {
     let mut hall = Hall::two_levels();
     assert_eq!(hall.error(0, SET_BITS, [segment(0, 1), 0, 0]), XbSgSd);
     assert_eq!(hall.error(0, SET_BITS, [file(0, 1), 0, 0]), XnoObj);
-    assert_eq!(hall.error(0, SET_BITS, [process(0, 1), 0, 0]), XnoObj);
+    assert_eq!(hall.error(0, SET_BITS, [process(1, 1), 0, 0]), XbPrSd);
     assert_eq!(hall.status(0, process(1, 1)), Err(XbPrSd));
     assert_eq!(hall.status(0, segment(0, 1)), Err(XbSgSd));
     assert_eq!(hall.status(0, file(0, 1)), Err(XnoObj));
@@ -88,7 +89,7 @@ fn r05_spawn() {
     assert_eq!(hall.error(0, SPAWN, [7, 8, 0]), XnoPriv);
     hall.done(0, CREATE, [420, 1, 0]);
     assert_eq!(hall.done(0, SPAWN, [7, 7, 9]), (process(1, 1), 0));
-    let mut expected = vec![1, 1, 7, 7, process(0, 1)];
+    let mut expected = vec![1, 1, 7, 7, process(0, 1), 0, 9];
     expected.resize(112, 0);
     assert_eq!(hall.process(1), expected);
     // Owner 0 may give any; the order is 4, 15, 27.
@@ -102,8 +103,8 @@ fn r05_spawn() {
 #[test]
 fn r06_release() {
     let mut hall = one_cell();
-    let child = hall.done(0, SPAWN, [7, 7, 0]).0;
-    let grandchild = hall.done(1, SPAWN, [7, 7, 0]).0;
+    let child = hall.done(0, SPAWN, [7, 7, 0o600]).0;
+    let grandchild = hall.done(1, SPAWN, [7, 7, 0o600]).0;
     let seid = hall.done(1, CREATE, [420, 1, 0]).0;
     hall.done(1, OPEN, [seid, 1, 0]);
     hall.done(0, OPEN, [seid, 1, 0]);
@@ -392,9 +393,9 @@ fn r19_r20_r24_setup() {
     }
     hall.store.fill(0x77);
     assert_eq!(setup(&mut hall.table, 2 * 64 * 512), XOK);
-    assert_eq!(hall.process(0)[..6], [1, 1, 3, 4, 0, 0]);
-    assert_eq!(hall.process(1)[..6], [1, 1, 65535, 65535, 0, 0]);
-    let rest: Vec<u32> = [&hall.table[records + 6..records + 112], &hall.table[records + 112 + 6..]].concat();
+    assert_eq!(hall.process(0)[..7], [1, 1, 3, 4, 0, 0, 438]);
+    assert_eq!(hall.process(1)[..7], [1, 1, 65535, 65535, 0, 0, 438]);
+    let rest: Vec<u32> = [&hall.table[records + 7..records + 112], &hall.table[records + 112 + 7..]].concat();
     assert!(rest.iter().all(|&word| word == 0), "every other record word is 0");
     assert!(hall.store.iter().all(|&byte| byte == 0x77), "the store isn't touched");
     assert!(hall.good());
@@ -469,7 +470,7 @@ fn r25_r26_replay() {
     assert_eq!(body(&[0, 16, 0, 0, 0, 12, 1, 2, 3]), "bad script\n", "the bytes are cut");
     // Hex after a successful 17; no hex and no space after refusals.
     let status = [&[0, 17, 0, 0, 0, 16][..], &[9; 16]].concat();
-    assert_eq!(body(&status), "1 XOK 0 0 04000000000000000000000000000000\n");
+    assert_eq!(body(&status), "1 XOK 0 0 04000000000001b60000000000000000\n");
     assert_eq!(body(&[&[0, 16, 0, 0, 0, 16][..], &[9; 16]].concat()), "1 XbNoMes 0 0\n");
     // A write and a read of the block; then the store of zeros beyond.
     let block = |code: u8, byte: u8| [&[0, code, 0, 0, 0, 128, 4][..], &[byte; 512]].concat();

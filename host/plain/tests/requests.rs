@@ -197,3 +197,92 @@ fn r14_shared_segments_are_fixed() {
     hall.done(0, SET_BITS, [own, 0o277, 0]);
     assert_eq!(hall.done(0, ACCESS, [1, 0, 0]), (128, 0), "judged anew, also here");
 }
+
+#[test]
+fn r09_bits_of_processes() {
+    let mut hall = Hall::two_levels();
+    assert_eq!(hall.process(0)[6], 438, "a first process");
+    for arguments in [[0, 0, 512], [0, 0, u32::MAX]] {
+        assert_eq!(hall.error(0, SPAWN, arguments), XbParam);
+    }
+    let child = hall.done(0, SPAWN, [5, 6, 511]).0;
+    assert_eq!(hall.process(1)[6], 511);
+    assert_eq!(hall.error(1, SPAWN, [0, 0, 512]), XbParam, "4 before 15");
+    assert_eq!(hall.error(1, SPAWN, [0, 0, 0]), XnoPriv);
+    hall.done(0, SPAWN, [0, 0, 0]);
+    assert_eq!(hall.process(2)[6], 0, "there is no default");
+    assert_eq!(hall.error(0, SPAWN, [0, 0, 512]), XbParam, "4 before 27");
+    assert_eq!(hall.status(0, child).unwrap()[6..8], [1, 0xff]);
+    hall.done(1, RELEASE, [0; 3]);
+    assert_eq!(hall.process(1)[..8], [0, 1, 0, 0, 0, 0, 0, 0]);
+    // Well formed: at most 511, and the word behind them is zero.
+    hall.process(0)[6] = 511;
+    assert!(hall.good());
+    hall.process(0)[6] = 512;
+    assert!(!hall.good());
+    hall.process(0)[6] = 0;
+    hall.process(0)[7] = 1;
+    assert!(!hall.good());
+    hall.process(0)[7] = 0;
+    hall.process(1)[6] = 1;
+    assert!(!hall.good(), "not live");
+}
+
+#[test]
+fn r10_posts_ask_the_receiver() {
+    // Owner 0 and group 0 post to owner 5 and group 0, then to owner 5 and group 6.
+    for (group, bits, error) in [
+        (0, 0o020, XOK),
+        (0, 0o757, XdapViol), // the group's bits hold, not those of all
+        (0, 0o602, XdapViol),
+        (6, 0o002, XOK),
+        (6, 0o775, XdapViol), // neither owner 0 nor a parent has a way round it
+    ] {
+        let mut hall = Hall::two_levels();
+        let child = hall.done(0, SPAWN, [5, group, bits]).0;
+        assert_eq!(hall.post(0, child, &[7; 12]), error, "{bits:o}");
+    }
+    // Oneself is judged too, by the owner's bits alone.
+    let mut hall = Hall::two_levels();
+    hall.done(0, SET_BITS, [0, 0o577, 0]);
+    assert_eq!(hall.post(0, 0, &[7; 12]), XdapViol);
+    hall.done(0, SET_BITS, [0, 0o200, 0]);
+    assert_eq!(hall.post(0, 0, &[7; 12]), XOK);
+    // 2 before 16 before 28, and judged at the post, not at the receive.
+    assert_eq!(hall.post(0, process(0, 2), &[7; 12]), XbPrSd);
+    for _ in 1..8 {
+        assert_eq!(hall.post(0, 0, &[7; 12]), XOK);
+    }
+    assert_eq!(hall.post(0, 0, &[7; 12]), XpostEh);
+    hall.done(0, SET_BITS, [0, 0, 0]);
+    assert_eq!(hall.post(0, 0, &[7; 12]), XdapViol);
+    assert!(hall.receive(0).is_ok(), "what was delivered stays");
+    // Upward it is dropped without a word.
+    hall.done(3, SET_BITS, [0, 0o400, 0]);
+    let before = hall.clone();
+    assert_eq!(hall.post(0, process(3, 1), &[7; 12]), XOK);
+    assert_eq!(hall, before);
+    hall.done(3, SET_BITS, [0, 0o200, 0]);
+    assert_eq!(hall.post(0, process(3, 1), &[7; 12]), XOK);
+    assert_eq!(hall.process(3)[5], 1, "owner 0 of another cell is the owner too");
+}
+
+#[test]
+fn r11_set_bits_of_a_process() {
+    let mut hall = Hall::two_levels();
+    let child = hall.done(0, SPAWN, [5, 5, 0]).0;
+    assert_eq!(hall.error(0, SET_BITS, [child, 512, 0]), XbParam);
+    assert_eq!(hall.error(0, SET_BITS, [process(9, 1), 0, 0]), XbPrSd);
+    assert_eq!(hall.error(0, SET_BITS, [process(3, 1), 0, 0]), XnoAcc);
+    assert_eq!(hall.error(3, SET_BITS, [process(0, 1), 0, 0]), XnoAcc, "a lower cell");
+    assert_eq!(hall.error(0, SET_BITS, [child + 1, 0, 0]), XbPrSd);
+    assert_eq!(hall.error(0, SET_BITS, [child, 0, 0]), XnoOwner);
+    hall.done(1, SET_BITS, [child, 0o666, 0]);
+    assert_eq!(hall.process(1)[..8], [1, 1, 5, 5, process(0, 1), 0, 0o666, 0]);
+    hall.done(1, SET_BITS, [0, 0o111, 0]);
+    assert_eq!(hall.process(1)[6], 0o111, "seid 0 is the caller");
+    // Nothing else asks them.
+    assert_eq!(hall.status(0, child).unwrap()[6..8], [0, 0o111]);
+    hall.done(0, SET_BITS, [0, 0, 0]);
+    hall.done(0, RELEASE, [0; 3]);
+}

@@ -3,7 +3,7 @@
 use crate::rng::Rng;
 use crate::tables::{VALID_MODES, World, bits, identity};
 use plain::table::*;
-use plain::{Kind, Request, Shape};
+use plain::{Kind, Request, Seid, Shape};
 
 #[derive(Clone, Debug, PartialEq, Eq)]
 pub struct Call {
@@ -83,7 +83,7 @@ struct Draw<'a> {
 impl Draw<'_> {
     fn arguments(&mut self, code: u32) -> [u32; 3] {
         let (a, b, c) = match code {
-            1 => (Some(self.own_identity(OWNER)), Some(self.own_identity(GROUP)), None),
+            1 => (Some(self.own_identity(OWNER)), Some(self.own_identity(GROUP)), Some(self.bits())),
             2 => (Some(self.other_process()), None, None),
             3 => (Some(self.segment_size()), Some(self.bits()), Some(self.rng.pick(&[0, 1, 1, 1, 1, 1, 2]))),
             4 => (Some(self.seid_or_held(Kind::Segment)), Some(self.access()), None),
@@ -97,8 +97,12 @@ impl Draw<'_> {
             9 => (Some(self.place(DESCRIPTORS)), None, None),
             10 | 11 => (Some(self.seid_or_held(Kind::File)), None, None),
             12 => {
-                let kind = self.rng.pick(&[Kind::File, Kind::Segment]);
-                (Some(self.seid_or_held(kind)), Some(self.bits()), None)
+                let object = match self.rng.below(5) {
+                    0 | 1 => self.seid_or_held(Kind::File),
+                    2 | 3 => self.seid_or_held(Kind::Segment),
+                    _ => self.seid(Kind::Process),
+                };
+                (Some(object), Some(self.bits()), None)
             }
             13 | 14 => (Some(self.place(DESCRIPTORS)), Some(self.block()), None),
             15 => (Some(self.receiver()), None, None),
@@ -232,14 +236,18 @@ impl Draw<'_> {
         }
     }
 
-    /// A seid, or one that the caller holds.
+    /// A seid; or one that the caller holds, or the present use of its slot.
     fn seid_or_held(&mut self, kind: Kind) -> u32 {
         let entries = if kind == Kind::File { DESCRIPTORS } else { DESIGNATORS };
         let used = self.used(entries);
-        if used.is_empty() || self.rng.chance(3, 4) {
+        if used.is_empty() || self.rng.chance(2, 3) {
             return self.seid(kind);
         }
-        self.world.entry(self.shape, self.process, entries, self.rng.pick(&used)).0
+        let held = self.world.entry(self.shape, self.process, entries, self.rng.pick(&used)).0;
+        match self.rng.chance(1, 3) {
+            true => self.world.seid(self.shape, kind, Seid::of(held).index),
+            false => held,
+        }
     }
 
     /// A slot's seid as it stands, mostly in the caller's cell; or something beside it.

@@ -195,8 +195,8 @@ fn processes(all: &mut All) {
         });
     };
     word("queue length out of range", QUEUED, &[9, 10, 16, u32::MAX], all);
-    word("first zero", 6, &[1, 65536, u32::MAX], all);
-    word("second zero", 7, &[1, 65536, u32::MAX], all);
+    word("bits out of range", PROCESS_BITS, &[512, 1023, 65536, u32::MAX], all);
+    word("the zero behind its bits", PROCESS_BITS + 1, &[1, 65536, u32::MAX], all);
     word("a page past the designators", MAP + 3, &[17, 18, 256, u32::MAX], all);
     add(all, "Process: a page of an empty designator", |rng, world, shape| {
         let (process, place) = empty(rng, world, shape, DESIGNATORS)?;

@@ -20,6 +20,8 @@ pub struct Met {
     pub no_caller: u64,
     /// Posts up that one run delivers and the other drops.
     pub posts_that_differ: u64,
+    /// Those of them where the receiver's bits forbid it in one run alone.
+    pub posts_that_differ_by_bits: u64,
     /// Opens and rendezvous by hidden callers in visible cells.
     pub hidden_holds: u64,
     /// Segments of visible cells that hidden callers map.
@@ -41,6 +43,7 @@ impl Met {
             self.hidden_done,
             self.no_caller,
             self.posts_that_differ,
+            self.posts_that_differ_by_bits,
             self.hidden_holds,
             self.hidden_maps,
             self.freed_under_hidden,
@@ -144,6 +147,14 @@ impl<M: Monitor> Run<'_, M> {
         Some(Call { request: Request { caller, code: 8, a: file, b: 15, c: 0 }, buffer: Vec::new() })
     }
 
+    /// Whether the bits of a receiver forbid the caller's post.
+    fn forbids(&self, caller: u32, receiver: u32) -> bool {
+        let record = |process: usize| &self.world.table[self.shape.record(Kind::Process, process)];
+        let (poster, receiver) = (record(caller as usize), record(Seid::of(receiver).index));
+        let same = |word: usize| poster[word] == receiver[word];
+        plain::granted(receiver[PROCESS_BITS], same(OWNER), same(GROUP)) & WRITE == 0
+    }
+
     fn queued(&self, receiver: u32) -> u32 {
         self.world.table[self.shape.at(Kind::Process, Seid::of(receiver).index) + QUEUED]
     }
@@ -216,6 +227,8 @@ fn visible_call<M: Monitor>(one: &mut Run<M>, other: &mut Run<M>, call: &Call, m
     if up && answer[0] == 0 {
         let grown = (one.queued(receiver) - before.0, other.queued(receiver) - before.1);
         met.posts_that_differ += u64::from(grown.0 != grown.1);
+        let forbids = [&*one, &*other].map(|run| run.forbids(call.request.caller, receiver));
+        met.posts_that_differ_by_bits += u64::from(grown.0 != grown.1 && forbids[0] != forbids[1]);
     }
     if answer[0] == 0 {
         met.freed_under_hidden += u64::from(frees && one.held_from_above().len() < held.len());

@@ -240,6 +240,7 @@ fn head(rng: &mut Rng, mood: &Mood, world: &mut World, shape: &Shape, kind: Kind
     record[GROUP] = identity(rng);
     match kind {
         Kind::Process => {
+            record[PROCESS_BITS] = if rng.chance(1, 2) { FIRST_BITS } else { bits(rng) };
             if rng.chance(2, 3) {
                 let run = shape.run(Kind::Process, shape.cell(kind, index));
                 let parent = run.start + rng.below(run.len());

@@ -25,10 +25,10 @@ pub const REFUSALS: [&[u32]; CODES + 1] = [
     &[10],
     &[12, 13, 14, 24],
     &[12, 13, 14, 24],
-    &[4, 11, 12, 13, 14, 33],
+    &[4, 2, 11, 12, 13, 14, 33],
     &[5, 10, 20, 12, 16, 22, 23],
     &[5, 10, 21, 16, 22],
-    &[5, 2, 13, 28],
+    &[5, 2, 13, 16, 28],
     &[5, 29],
     &[5, 12, 13, 2, 11],
     &[8, 9, 11],
@@ -59,6 +59,7 @@ pub const SITUATIONS: &[&str] = &[
     "release of a process with stale entries",
     "release of a process with messages",
     "rendezvous in a lower cell",
+    "rendezvous beside a stale designator of the same slot",
     "release of a segment: stale",
     "release of a segment: freed",
     "release of a segment: still referred to",
@@ -73,6 +74,8 @@ pub const SITUATIONS: &[&str] = &[
     "close of another cell's live file",
     "unlink frees the file",
     "unlink leaves an open file",
+    "set bits of the caller by seid 0",
+    "set bits of another process",
     "set bits of a segment that is not sharable",
     "set bits refused of a sharable segment that nobody else holds",
     "set bits refused of a sharable segment though they would not change",
@@ -81,10 +84,16 @@ pub const SITUATIONS: &[&str] = &[
     "write extends by one block",
     "write over a block",
     "post up: delivered",
+    "post up: dropped, bits forbid",
     "post up: dropped, queue full",
     "post up: dropped, not live",
     "post up: dropped, other serial",
     "post to oneself by seid 0",
+    "post to another owner's process of the cell",
+    "post refused to oneself by one's own bits",
+    "post refused to the owner though all may write",
+    "post refused by bits where the queue is full too",
+    "post refused to owner 0 by another's bits",
     "access limited by today's bits",
     "remap: neither",
     "remap: one comes in",
@@ -271,6 +280,11 @@ impl Scene<'_> {
                 let cell = self.shape.cell(Kind::Segment, Seid::of(request.a).index);
                 let lower = cell != self.shape.cell(Kind::Process, self.caller);
                 self.tally.met("rendezvous in a lower cell", lower);
+                let slot = (0..ENTRIES).any(|place| {
+                    let (held, _) = self.before.entry(self.shape, self.caller, DESIGNATORS, place);
+                    held >> 16 == request.a >> 16
+                });
+                self.tally.met("rendezvous beside a stale designator of the same slot", slot);
             }
             5 => self.give_up(Kind::Segment, request.a as usize),
             6 => {
@@ -288,8 +302,12 @@ impl Scene<'_> {
                 self.tally.met("unlink leaves an open file", last && open);
             }
             12 => {
-                let segment = Seid::of(request.a).class == Kind::Segment.class();
-                self.tally.met("set bits of a segment that is not sharable", segment);
+                let class = Seid::of(request.a).class;
+                let own = self.before.seid(self.shape, Kind::Process, self.caller);
+                let other = class == Kind::Process.class() && request.a != own;
+                self.tally.met("set bits of the caller by seid 0", request.a == 0);
+                self.tally.met("set bits of another process", other);
+                self.tally.met("set bits of a segment that is not sharable", class == Kind::Segment.class());
             }
             14 => {
                 let (seid, _) = self.before.entry(self.shape, self.caller, DESCRIPTORS, request.a as usize);
@@ -429,20 +447,46 @@ impl Scene<'_> {
         self.tally.met("exclusive open beside a reader in a higher cell", reader);
     }
 
+    /// Whether a process's bits forbid the caller to write to it.
+    fn forbids(&self, receiver: usize) -> bool {
+        let same = |word: usize| self.word(Kind::Process, receiver, word) == self.own_word(word);
+        let bits = self.word(Kind::Process, receiver, PROCESS_BITS);
+        plain::granted(bits, same(OWNER), same(GROUP)) & WRITE == 0
+    }
+
     fn post(&mut self, named: u32) {
         self.tally.met("post to oneself by seid 0", named == 0);
         let receiver = Seid::of(named).index;
         let cell = self.shape.cell(Kind::Process, self.caller);
-        if named == 0 || self.shape.cell(Kind::Process, receiver) == cell {
+        if named == 0 {
+            return;
+        }
+        if self.shape.cell(Kind::Process, receiver) == cell {
+            let other = self.word(Kind::Process, receiver, OWNER) != self.own_word(OWNER);
+            self.tally.met("post to another owner's process of the cell", other);
             return;
         }
         let live = self.before.live(self.shape, Kind::Process, receiver);
-        let same = self.before.seid(self.shape, Kind::Process, receiver) == named;
+        let there = live && self.before.seid(self.shape, Kind::Process, receiver) == named;
         let full = self.word(Kind::Process, receiver, QUEUED) as usize == QUEUE;
-        self.tally.met("post up: delivered", live && same && !full);
-        self.tally.met("post up: dropped, queue full", live && same && full);
+        let forbids = self.forbids(receiver);
+        self.tally.met("post up: delivered", there && !forbids && !full);
+        self.tally.met("post up: dropped, bits forbid", there && forbids && !full);
+        self.tally.met("post up: dropped, queue full", there && !forbids && full);
         self.tally.met("post up: dropped, not live", !live);
-        self.tally.met("post up: dropped, other serial", live && !same);
+        self.tally.met("post up: dropped, other serial", live && !there);
+    }
+
+    fn post_forbidden(&mut self, named: u32) {
+        let own = self.before.seid(self.shape, Kind::Process, self.caller);
+        let receiver = Seid::of(if named == 0 { own } else { named }).index;
+        let owner = self.word(Kind::Process, receiver, OWNER) == self.own_word(OWNER);
+        let all_may = self.word(Kind::Process, receiver, PROCESS_BITS) & 2 != 0;
+        let full = self.word(Kind::Process, receiver, QUEUED) as usize == QUEUE;
+        self.tally.met("post refused to oneself by one's own bits", receiver == self.caller);
+        self.tally.met("post refused to the owner though all may write", owner && all_may);
+        self.tally.met("post refused by bits where the queue is full too", full);
+        self.tally.met("post refused to owner 0 by another's bits", self.own_word(OWNER) == 0 && !owner);
     }
 
     fn refusal(&mut self, error: u32) {
@@ -467,6 +511,7 @@ impl Scene<'_> {
                     self.tally.met("remap refused: a used page", run.iter().any(used));
                 }
             }
+            (15, 16) => self.post_forbidden(request.a),
             (12, 33) => {
                 let segment = Seid::of(request.a).index;
                 let alone = self.word(Kind::Segment, segment, HOLDS) == 1;

@@ -1,6 +1,5 @@
 -- `mail::post` meets its contract: refused, delivered, or dropped without a word.
 use Rattle.calls.proofs.Posts.{room-told, Posted, posted, post-refused, post-delivered, post-dropped, post-done}
-use Rattle.calls.proofs.Posts.{room-told, post-refused, post-delivered, post-dropped, post-done}
 use lib.ListN.{length}
 use mathlib.Core.Logic.{⊎-elim}
 use mathlib.Core.Path.{_≡_, ap, _∙_}
@@ -9,22 +8,28 @@ use Rattle.calls.proofs.mail.post.Statement.{statement}
 use Rattle.calls.proofs.mail.post.Tie as tie
 
 -- what the code has seen, and the number that it has found
-abbrev seen : tie.After-or-refuse5 → tie.After-look
-seen c = c .before .before .before .before .before .before .before .before .before .before .before .before .before
+abbrev flowed : tie.After-or-refuse6 → tie.After-may-flow
+flowed c = c .before .before .before .before .before .before .before .before
 
-abbrev start : tie.After-or-refuse5 → tie.Start
+abbrev allowed : tie.After-or-refuse6 → tie.After-may-write
+allowed c = flowed c .before .before .before .before
+
+abbrev seen : tie.After-or-refuse6 → tie.After-look
+seen c = allowed c .before .before .before .before
+
+abbrev start : tie.After-or-refuse6 → tie.Start
 start c = seen c .before .before .before .before .before .before
 
-abbrev waited : tie.After-or-refuse5 → tie.After-wide
-waited c = c .before .before .before .before .before .before .before .before .before .before
+abbrev waited : tie.After-or-refuse6 → tie.After-wide
+waited c = allowed c .before
 
-judged : (c : tie.After-or-refuse5) → Posted (start c .args .t .now) (start c .args .n) (start c .args .c) (start c .args .a) (start c .args .buffer .now) (seen c .look .result)
-    (waited c .before .read .result) (waited c .wide .result) (c .or-refuse5 .result)
+judged : (c : tie.After-or-refuse6) → Posted (start c .args .t .now) (start c .args .n) (start c .args .c) (start c .args .a) (start c .args .buffer .now) (seen c .look .result)
+    (waited c .before .read .result) (waited c .wide .result) (c .or-refuse6 .result)
 judged c =
-    let flowed = c .before .before .before .before .before .before in
     posted (start c .pre .0) (start c .pre .1) _ _ (seen c .before .before .or-self .ensures) (seen c .look .ensures) (waited c .before .read .ensures) (waited c .wide .ensures)
-    (flowed .may-flow .ensures) (flowed .before .before .before .or-refuse .ensures) (flowed .before .or-refuse2 .ensures)
-    (c .before .before .before .before .before .or-refuse3 .ensures) (c .before .before .or-refuse4 .ensures) (c .or-refuse5 .ensures)
+    (allowed c .may-write .ensures) (flowed c .may-flow .ensures) (flowed c .before .before .before .or-refuse .ensures) (flowed c .before .or-refuse2 .ensures)
+    (c .before .before .before .before .before .before .before .or-refuse3 .ensures) (c .before .before .before .before .or-refuse4 .ensures)
+    (c .before .before .or-refuse5 .ensures) (c .or-refuse6 .ensures)
 
 or-self-requires : tie.Need-or-self-requires
 or-self-requires c κs = search needs
@@ -37,6 +42,9 @@ read-requires c κs = search needs
 
 wide-requires : tie.Need-wide-requires
 wide-requires c κs = search needs
+
+may-write-requires : tie.Need-may-write-requires
+may-write-requires c κs = search needs
 
 or-refuse-requires : tie.Need-or-refuse-requires
 or-refuse-requires c κs = search needs
@@ -56,6 +64,9 @@ or-refuse-requires-4 c κs = search needs
 or-refuse-requires-5 : tie.Need-or-refuse-requires-5
 or-refuse-requires-5 c κs = search needs
 
+or-refuse-requires-6 : tie.Need-or-refuse-requires-6
+or-refuse-requires-6 c κs = search needs
+
 refused-requires : tie.Need-refused-requires
 refused-requires c κs = search needs
 
@@ -67,13 +78,12 @@ returns c = post-refused (judged (c .before .before)) (c .before .if1 .taken) (c
 
 or-self-requires-2 : tie.Need-or-self-requires-2
 or-self-requires-2 c κs =
-    let after = c .before .before in
-    after .before .before .before .before .before .before .before .before .before .before .before .before .before .before .before .before .before .before .before .pre .0
+    start (c .before .before) .pre .0
 
 deliver-requires : tie.Need-deliver-requires
 deliver-requires c κs =
     let after = c .before .before .before .before .before .before in
-    (judged after .sound .known, room-told (seen after .look .result .present) (c .before .if2 .taken) (judged after .wide))
+    (judged after .sound .known, room-told (seen after .look .result .present) (allowed after .may-write .result) (c .before .if2 .taken) (judged after .wide))
 
 answered-requires : tie.Need-answered-requires
 answered-requires c κs = search needs
@@ -86,7 +96,7 @@ returns-2 c =
     let after = c .before .before .before .before .before .before in
     let p = judged after in
     let none = c .before .before .before .before .before .if1 .left in
-    let words = ⊎-elim (λ w. w .5 ∙ post-delivered p none (c .before .before .before .or-self2 .ensures) (w .0 .taken) (w .2 .ensures)) (λ w. w .1 ∙ post-dropped p none (w .0 .left)) (c .before .if2 .came) in
+    let words = ⊎-elim (λ w. w .5 ∙ post-delivered p none (allowed after .may-write .ensures) (c .before .before .before .or-self2 .ensures) (w .0 .taken) (w .2 .ensures)) (λ w. w .1 ∙ post-dropped p none (allowed after .may-write .ensures) (w .0 .left)) (c .before .if2 .came) in
     post-done p none words (c .answered .ensures)
 
 pub post-spec : {M : Type 1} → statement M
@@ -97,12 +107,14 @@ post-spec =
     look-requires
     read-requires
     wide-requires
+    may-write-requires
     or-refuse-requires
     or-refuse-requires-2
     may-flow-requires
     or-refuse-requires-3
     or-refuse-requires-4
     or-refuse-requires-5
+    or-refuse-requires-6
     refused-requires
     same-length
     returns

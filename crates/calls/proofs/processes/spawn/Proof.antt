@@ -6,7 +6,7 @@ use Prim.Native.Nat.{ℕ, _+_}
 use native.Mathlib.Omega.{arith}
 use lib.Dec.{ltb, eqb}
 use lib.ListN.{set}
-use Rattle.rules.specs.Layout.{maxOwner, process, configuration, cellOf, at, serial, owner, group, parent}
+use Rattle.rules.specs.Layout.{maxOwner, maxBits, process, configuration, cellOf, at, serial, owner, group, parent, bits}
 use Rattle.rules.specs.Seid.{class, orSelf, seidAt}
 use Rattle.rules.specs.Errors.{XbParam, XnoPriv, XnoProc}
 use Rattle.rules.specs.Rule.{Refusal, _⇒_, _≔_, firstRefusal, write}
@@ -18,6 +18,7 @@ use Rattle.layout.specs.Header.{recordOf, placeOf}
 use Rattle.calls.specs.declared.Caller.{Caller}
 use Rattle.calls.specs.declared.room.Slot.{Slot}
 use Rattle.calls.specs.World.{Sound, wordsOf}
+use Rattle.calls.specs.Refusing.{orRefuse}
 use Rattle.calls.specs.Left.{said, ruleAt}
 use Rattle.calls.specs.Seen.{slotFound}
 use Rattle.calls.specs.Entries.{fourAt}
@@ -32,15 +33,19 @@ use Rattle.calls.proofs.processes.spawn.Statement.{statement}
 use Rattle.calls.proofs.processes.spawn.Tie as tie
 
 -- the code's tests: u and v are the caller's owner and group, q the slot found
-abbrev tests : ℕ → ℕ → ℕ → ℕ → Slot → List Refusal
-tests a b u v q =
-    (ltb maxOwner a || ltb maxOwner b ⇒ XbParam) ∷ (not (eqb u 0) && (not (eqb a u) || not (eqb b v)) ⇒ XnoPriv) ∷ (q .none ⇒ XnoProc) ∷ []
+abbrev tests : ℕ → ℕ → ℕ → ℕ → ℕ → Slot → List Refusal
+tests a b c u v q =
+    (ltb maxOwner a || (ltb maxOwner b || ltb maxBits c) ⇒ XbParam) ∷ (not (eqb u 0) && (not (eqb a u) || not (eqb b v)) ⇒ XnoPriv) ∷ (q .none ⇒ XnoProc) ∷ []
 
-module _ {t : List ℕ} {n : Header} {p : Caller} (sound : Sound t n p) (a b : ℕ) (buffer : List ℕ) {u v : ℕ} {q : Slot}
+told : (a b c u v : ℕ) (q : Slot) {e₁ e₂ e₃ : ℕ} → e₁ ≡ orRefuse 0 (ltb maxOwner a || (ltb maxOwner b || ltb maxBits c)) XbParam
+    → e₂ ≡ orRefuse e₁ (not (eqb u 0) && (not (eqb a u) || not (eqb b v))) XnoPriv → e₃ ≡ orRefuse e₂ (q .none) XnoProc → e₃ ≡ firstRefusal (tests a b c u v q)
+told a b c u v q first second third = rw (third, second, first) (refusing-first (tests a b c u v q) refl)
+
+module _ {t : List ℕ} {n : Header} {p : Caller} (sound : Sound t n p) (a b c : ℕ) (buffer : List ℕ) {u v : ℕ} {q : Slot}
     (mine : u ≡ wordsOf t (at process (p .slot) owner))
     (ours : v ≡ wordsOf t (at process (p .slot) group)) (slot : q ≡ slotFound (configuration t) (wordsOf t) process (p .cell)) where
   -- the first of the code's refusals is the rule's
-  number : firstRefusal (tests a b u v q) ≡ firstRefusal (ruleAt t (λ h r. spawn h r (p .slot) a b buffer) .refusals)
+  number : firstRefusal (tests a b c u v q) ≡ firstRefusal (ruleAt t (λ h r. spawn h r (p .slot) a b c buffer) .refusals)
   unfolding spawn
   number = rw (slot, mine, ours, sound .home)
 
@@ -49,23 +54,49 @@ module _ {t : List ℕ} {n : Header} {p : Caller} (sound : Sound t n p) (a b : �
 
   -- where there is none, the seid answered and the words written are the rule's; x is the slot's serial
   module _ (room : q .none ≡ false) {x : ℕ} (old : x ≡ wordsOf t (at process (q .index) serial)) where
-    result : {s : ℕ} → s ≡ seidOf (class process) (q .index) (x + 1) → s ≡ ruleAt t (λ h r. spawn h r (p .slot) a b buffer) .effects .first
+    result : {s : ℕ} → s ≡ seidOf (class process) (q .index) (x + 1) → s ≡ ruleAt t (λ h r. spawn h r (p .slot) a b c buffer) .effects .first
     unfolding spawn
     result made = rw (← index) (new-seid sound process slot room old made)
 
-    words : {self place : ℕ} {t₁ t₂ : List ℕ} → self ≡ orSelf (wordsOf t) (p .slot) 0 → place ≡ recordOf n process (q .index)
+    words : {self place : ℕ} {t₁ t₂ t₃ : List ℕ} → self ≡ orSelf (wordsOf t) (p .slot) 0 → place ≡ recordOf n process (q .index)
         → t₁ ≡ fourAt t place 1 (x + 1) a b
         → t₂ ≡ set t₁ (placeOf n (at process (q .index) parent)) self
-        → t₂ ≡ write (configuration t) t (ruleAt t (λ h r. spawn h r (p .slot) a b buffer) .effects .words)
+        → t₃ ≡ set t₂ (placeOf n (at process (q .index) (bits process))) c
+        → t₃ ≡ write (configuration t) t (ruleAt t (λ h r. spawn h r (p .slot) a b c buffer) .effects .words)
     unfolding spawn orSelf
-    words {self} {place} {t₁} {t₂} me begin four fifth =
+    words {self} {place} {t₁} {t₂} {t₃} me begin four fifth sixth =
         let h : List ℕ = configuration t in
         rw (← index, ← old)
-        (fifth ∙ rw (four, spot (sound .known) (at process (q .index) parent), begin, begins (sound .known) process (q .index), me)
-        (sym (four-is h t process (q .index) 1 (x + 1) a b ((at process (q .index) parent ≔ seidAt (wordsOf t) process (p .slot)) ∷ []))))
+        (sixth
+        ∙ rw (fifth, four, spot (sound .known) (at process (q .index) parent), spot (sound .known) (at process (q .index) (bits process)), begin, begins (sound .known) process (q .index), me)
+        (sym (four-is h t process (q .index) 1 (x + 1) a b
+        ((at process (q .index) parent ≔ seidAt (wordsOf t) process (p .slot)) ∷ (at process (q .index) (bits process) ≔ c) ∷ []))))
+
+-- what the code has read, and the number that it has found
+abbrev ours : tie.After-or-refuse3 → tie.After-read2
+ours c = c .before .before .before
+
+abbrev mine : tie.After-or-refuse3 → tie.After-read
+mine c = ours c .before .before
 
 abbrev start : tie.After-or-refuse3 → tie.Start
-start c = c .before .before .before .before .before .before .before .before
+start c = mine c .before .before .before
+
+abbrev theTests : tie.After-or-refuse3 → List Refusal
+theTests c = tests (start c .args .a) (start c .args .b) (start c .args .bits) (mine c .read .result) (ours c .read2 .result) (start c .args .q)
+
+found : (c : tie.After-or-refuse3) → c .or-refuse3 .result ≡ firstRefusal (theTests c)
+found c =
+    told (start c .args .a) (start c .args .b) (start c .args .bits) (mine c .read .result) (ours c .read2 .result) (start c .args .q)
+    (c .before .before .or-refuse .ensures) (c .before .or-refuse2 .ensures) (c .or-refuse3 .ensures)
+
+counted : (c : tie.After-or-refuse3) (buffer : List ℕ) → c .or-refuse3 .result ≡ firstRefusal (ruleAt (start c .args .t .now)
+    (λ h r. spawn h r (start c .args .c .slot) (start c .args .a) (start c .args .b) (start c .args .bits) buffer) .refusals)
+counted c buffer = found c ∙ number (start c .pre .0) _ _ _ buffer (mine c .read .ensures) (ours c .read2 .ensures) (start c .pre .1)
+
+-- past them there is room
+room : (c : tie.After-or-self-arg) → start (c .before .before) .args .q .none ≡ false
+room c = clear-of (theTests (c .before .before)) refl (sym (found (c .before .before)) ∙ c .before .if1 .left) .1 .1 .0
 
 abbrev passed-by : tie.After-put-four → tie.After-or-self-arg
 passed-by c = c .before .before .before .before .before .before
@@ -73,29 +104,8 @@ passed-by c = c .before .before .before .before .before .before
 abbrev wrote : tie.After-write → tie.After-put-four
 wrote c = c .before .before .before .before
 
-found : (c : tie.After-or-refuse3) → (c .or-refuse3 .result) ≡ firstRefusal (tests
-    (c .before .before .before .before .before .before .before .before .args .a)
-    (c .before .before .before .before .before .before .before .before .args .b) (c .before .before .before .before .before .read .result)
-    (c .before .before .before .read2 .result) (c .before .before .before .before .before .before .before .before .args .q))
-found c = rw (c .or-refuse3 .ensures, c .before .or-refuse2 .ensures, c .before .before .or-refuse .ensures) (refusing-first (tests
-    (c .before .before .before .before .before .before .before .before .args .a)
-    (c .before .before .before .before .before .before .before .before .args .b) (c .before .before .before .before .before .read .result)
-    (c .before .before .before .read2 .result) (c .before .before .before .before .before .before .before .before .args .q)) refl)
-
-counted : (c : tie.After-or-refuse3) (buffer : List ℕ) → (c .or-refuse3 .result) ≡ firstRefusal (ruleAt (start c .args .t .now) (λ h r. spawn h r
-    (start c .args .c .slot) (start c .args .a) (start c .args .b) buffer) .refusals)
-counted c buffer = found c ∙ number (start c .pre .0) _ _ buffer (c .before .before .before .before .before .read .ensures)
-    (c .before .before .before .read2 .ensures) (start c .pre .1)
-
-passed : (c : tie.After-or-self-arg) → firstRefusal (tests (start (c .before .before) .args .a) (start (c .before .before) .args .b)
-    (c .before .before .before .before .before .before .before .read .result) (c .before .before .before .before .before .read2 .result) (start
-    (c .before .before) .args .q)) ≡ 0
-passed c = sym (found (c .before .before)) ∙ (c .before .if1 .left)
-
-room : (c : tie.After-or-self-arg) → (start (c .before .before) .args .q .none) ≡ false
-room c = clear-of (tests (start (c .before .before) .args .a) (start (c .before .before) .args .b)
-    (c .before .before .before .before .before .before .before .read .result) (c .before .before .before .before .before .read2 .result) (start
-    (c .before .before) .args .q)) refl (passed c) .1 .1 .0
+abbrev wrote2 : tie.After-write2 → tie.After-write
+wrote2 c = c .before .before .before .before
 
 read-requires : tie.Need-read-requires
 read-requires c κs = search needs
@@ -145,6 +155,9 @@ put-four-requires c κs = search needs
 write-requires : tie.Need-write-requires
 write-requires c κs = search needs
 
+write-requires-2 : tie.Need-write-requires-2
+write-requires-2 c κs = search needs
+
 seid-requires : tie.Need-seid-requires
 seid-requires c κs = search needs
 
@@ -156,26 +169,19 @@ same-length-2 c = search needs
 
 returns-2 : tie.Need-returns-2
 unfolding spawn
-returns-2 c = λ buffer. left-done _ (λ h r. spawn h r _ _ _ buffer) (counted (passed-by (wrote
-    (c .before .before .before .before)) .before .before) buffer) (passed-by (wrote (c .before .before .before .before)) .before .if1 .left)
-    ((c .answered .ensures) ∙ ap (λ (x : ℕ). said 0 x 0) (result (start (passed-by (wrote
-    (c .before .before .before .before)) .before .before) .pre .0) (start (passed-by (wrote
-    (c .before .before .before .before)) .before .before) .args .a) (start (passed-by (wrote
-    (c .before .before .before .before)) .before .before) .args .b) buffer (passed-by (wrote
-    (c .before .before .before .before)) .before .before .before .before .before .before .before .read .ensures) (passed-by (wrote
-    (c .before .before .before .before)) .before .before .before .before .before .read2 .ensures) (start (passed-by (wrote
-    (c .before .before .before .before)) .before .before) .pre .1) (room (passed-by (wrote (c .before .before .before .before)))) (wrote
-    (c .before .before .before .before) .before .before .before .read3 .ensures) (c .before .seid .ensures))) (words (start (passed-by (wrote
-    (c .before .before .before .before)) .before .before) .pre .0) (start (passed-by (wrote
-    (c .before .before .before .before)) .before .before) .args .a) (start (passed-by (wrote
-    (c .before .before .before .before)) .before .before) .args .b) buffer (passed-by (wrote
-    (c .before .before .before .before)) .before .before .before .before .before .before .before .read .ensures) (passed-by (wrote
-    (c .before .before .before .before)) .before .before .before .before .before .read2 .ensures) (start (passed-by (wrote
-    (c .before .before .before .before)) .before .before) .pre .1) (room (passed-by (wrote (c .before .before .before .before)))) (wrote
-    (c .before .before .before .before) .before .before .before .read3 .ensures) (wrote
-    (c .before .before .before .before) .before .before .before .before .before .or-self .ensures) (wrote
-    (c .before .before .before .before) .before .before .record-at .ensures .0) (wrote (c .before .before .before .before) .put-four .ensures)
-    (c .before .before .before .before .write .ensures))
+returns-2 c =
+    let last = c .before .before .before .before in
+    let parented = wrote2 last in
+    let four = wrote parented in
+    let past = passed-by four in
+    let j = past .before .before in
+    let old = four .before .before .before .read3 .ensures in
+    λ buffer. left-done _ (λ h r. spawn h r _ _ _ _ buffer) (counted j buffer) (past .before .if1 .left)
+    (c .answered .ensures ∙ ap (λ (x : ℕ). said 0 x 0) (result (start j .pre .0) (start j .args .a) (start j .args .b) (start j .args .bits) buffer (mine j .read .ensures)
+    (ours j .read2 .ensures) (start j .pre .1) (room past) old (c .before .seid .ensures)))
+    (words (start j .pre .0) (start j .args .a) (start j .args .b) (start j .args .bits) buffer (mine j .read .ensures) (ours j .read2 .ensures) (start j .pre .1) (room past) old
+    (four .before .before .before .before .before .or-self .ensures) (four .before .before .record-at .ensures .0) (four .put-four .ensures) (parented .write .ensures)
+    (last .write2 .ensures))
 
 pub spawn-spec : {M : Type 1} → statement M
 spawn-spec =
@@ -195,6 +201,7 @@ spawn-spec =
     record-at-requires
     put-four-requires
     write-requires
+    write-requires-2
     seid-requires
     answered-requires
     same-length-2

@@ -1,6 +1,8 @@
 -- `status::status_of` meets its contract: refused, or the sixteen bytes of the object that is seen.
 use Rattle.calls.proofs.Statuses.{Judged, judged-by, class-small, in-cells, status-refused, status-done}
+use Rattle.calls.proofs.Names.{bits-small}
 use Rattle.layout.specs.Kinds.{kindOf}
+use mathlib.Core.Path.{_∙_}
 use borrow.Author.Needs.{needs}
 use Rattle.calls.proofs.status.status_of.Statement.{statement}
 use Rattle.calls.proofs.status.status_of.Tie as tie
@@ -37,16 +39,22 @@ read-requires c κs = search needs
 read-requires-2 : tie.Need-read-requires-2
 read-requires-2 c κs = search needs
 
-told-bits-requires : tie.Need-told-bits-requires
-told-bits-requires c κs = search needs
+bits-word-requires : tie.Need-bits-word-requires
+bits-word-requires c κs = search needs
+
+read-requires-3 : tie.Need-read-requires-3
+read-requires-3 c κs =
+    let after = c .before .before .before .before in
+    (start after .pre .0 .known, bits-small (kindOf (start after .args .kind)) (c .bits-word .ensures))
 
 class-requires : tie.Need-class-requires
 class-requires c κs = search needs
 
 tell-requires : tie.Need-tell-requires
 tell-requires c κs =
-    let after = c .before .before .before .before .before .before in
-    (start after .pre .0 .known .conf, class-small (kindOf (start after .args .kind)) (c .before .class .ensures), in-cells (judged after) (c .before .before .before .before .before .if1 .left))
+    let past = c .before .before .before .before .before .before in
+    let after = past .before in
+    (start after .pre .0 .known .conf, class-small (kindOf (start after .args .kind)) (c .before .class .ensures), in-cells (judged after) (past .if1 .left))
 
 answered-requires : tie.Need-answered-requires
 answered-requires c κs = search needs
@@ -56,9 +64,12 @@ same-length c = search needs
 
 returns-2 : tie.Need-returns-2
 returns-2 c =
-    let told = c .before .before .before .before .before .before in
-    let after = told .before .before .before .before in
-    status-done (judged after) (told .before .before .before .if1 .left) (c .before .before .before .before .before .class .ensures) (told .before .before .read .ensures) (told .before .read2 .ensures) (told .told-bits .ensures) (c .before .before .before .tell .ensures) (c .answered .ensures)
+    let told = c .before .before .before in
+    let bits = told .before .before .before in
+    let group = bits .before .before in
+    let past = group .before .before in
+    status-done (judged (past .before)) (past .if1 .left) (told .before .before .class .ensures) (group .before .read .ensures) (group .read2 .ensures)
+    (bits .read3 .ensures ∙ rw (bits .before .bits-word .ensures)) (told .tell .ensures) (c .answered .ensures)
 
 pub status-of-spec : {M : Type 1} → statement M
 status-of-spec =
@@ -71,7 +82,8 @@ status-of-spec =
     returns
     read-requires
     read-requires-2
-    told-bits-requires
+    bits-word-requires
+    read-requires-3
     class-requires
     tell-requires
     answered-requires

@@ -5,7 +5,7 @@ use mathlib.Core.Bool.{_&&_}
 use Prim.Native.Nat.{ℕ, _+_, _≤_, _<_}
 use lib.ListN.{length}
 use lib.Dec.{leb, eqb}
-use Rattle.rules.specs.Layout.{maxCells, recordWords, process, segment, file, queue, zero6, zero7, cellOf, configuration, at, rd, live}
+use Rattle.rules.specs.Layout.{maxCells, maxBits, recordWords, process, segment, file, queue, bits, zero7, cellOf, configuration, at, rd, live}
 use Rattle.laws.proofs.Tests.{and-both}
 use Rattle.table.proofs.Config.{slots-read}
 use Rattle.table.proofs.Holders.{record-word, cell-few}
@@ -140,7 +140,7 @@ returns c =
     ∙ live-process t n (s .pre .0 .0) p _ lies _ _ _ _ _ _ _ _
     (m .before .before .before .before .before .before .before .before .before .before .before .before .before .parent-ok .ensures)
     (ap (λ (x : ℕ). leb x 8) (m .before .before .before .before .before .before .before .before .before .before .before .wide .ensures ∙ record-word t n (s .pre .0 .0) process p queue _ lies))
-    (ap (λ (x : ℕ). eqb x 0) (record-word t n (s .pre .0 .0) process p zero6 _ lies))
+    (ap (λ (x : ℕ). leb x maxBits) (record-word t n (s .pre .0 .0) process p (bits process) _ lies))
     (ap (λ (x : ℕ). eqb x 0) (record-word t n (s .pre .0 .0) process p zero7 _ lies))
     (m .before .before .before .before .before .before .before .descriptors-ok .ensures .0 ∙ files)
     held

@@ -55,6 +55,22 @@ slice-write-t-4 c =
     let l : a + 3 < length t = omega arith in
     lt-length-set (set (set t (a + 0) 1) (a + 1) 1) (a + 2) (c .args .cell-owner) (lt-length-set (set t (a + 0) 1) (a + 1) 1 (lt-length-set t (a + 0) 1 l))
 
+add-t-5 : tie.Need-add-t-5
+add-t-5 c = search needs
+
+mul-t-5 : tie.Need-mul-t-5
+mul-t-5 c = search needs
+
+slice-write-t-5 : tie.Need-slice-write-t-5
+slice-write-t-5 c =
+    let t = c .args .t .now in
+    let a = c .args .at in
+    let l : a + 6 < length t = omega arith in
+    let second = set (set t (a + 0) 1) (a + 1) 1 in
+    let third = set second (a + 2) (c .args .cell-owner) in
+    lt-length-set third (a + 3) (c .args .cell-group)
+    (lt-length-set second (a + 2) (c .args .cell-owner) (lt-length-set (set t (a + 0) 1) (a + 1) 1 (lt-length-set t (a + 0) 1 l)))
+
 same-length : tie.Need-same-length
 same-length c = search needs
 
@@ -77,5 +93,8 @@ begin-spec =
     add-t-4
     mul-t-4
     slice-write-t-4
+    add-t-5
+    mul-t-5
+    slice-write-t-5
     same-length
     returns)
