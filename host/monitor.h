@@ -84,7 +84,7 @@ enum monitor_error {
 
 /* Limits: cells, slots of each kind, blocks of a file. */
 #define MONITOR_MAX_CELLS 16
-#define MONITOR_MAX_SLOTS 64
+#define MONITOR_MAX_SLOTS 256
 #define MONITOR_MAX_BLOCKS 64
 
 /* Words of the parts of a table: header, cells, then the records of processes, segments and files. */

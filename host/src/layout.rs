@@ -4,7 +4,7 @@
 /// Cells, at most.
 pub const MAX_CELLS: usize = 16;
 /// Slots of each kind, at most.
-pub const MAX_SLOTS: usize = 64;
+pub const MAX_SLOTS: usize = 256;
 /// Blocks of a file, at most.
 pub const MAX_BLOCKS: usize = 64;
 

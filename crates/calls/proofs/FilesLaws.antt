@@ -8,7 +8,7 @@ use native.Mathlib.Decide.{ℕ-discrete}
 use lib.Dec.{eqb, leb, ltb}
 use lib.ListN.{getD, set}
 use borrow.Author.Tests.{eq-eqb, ne-eqb, eqb-true}
-use Rattle.rules.specs.Layout.{maxBits, maxLinks, maxSerial, Kind, process, segment, file, configuration, slots, blocks, cellOf, Addr, at, offset, entries, heldAt, usedAt, cellWord, cellSlotsWord, live, serial, owner, group, bits, links, size, opens, recordWords}
+use Rattle.rules.specs.Layout.{maxSlots, maxBits, maxLinks, maxSerial, Kind, process, segment, file, configuration, slots, blocks, cellOf, Addr, at, offset, entries, heldAt, usedAt, cellWord, cellSlotsWord, live, serial, owner, group, bits, links, size, opens, recordWords}
 use Rattle.rules.specs.Seid.{class, classOf, seid, indexOf, isSeid, formed, orSelf}
 use Rattle.rules.specs.Modes.{validModes, reads, writes, clash}
 use Rattle.rules.specs.Rights.{lacks}
@@ -284,7 +284,7 @@ module _ {t : List ℕ} {n : Header} {c : Caller} (sound : Sound t n c) (a b : �
         let clear = clear-of (openTests f b ++ (f .own && clashes (configuration t) (wordsOf t) (c .cell) s b ⇒ 19) ∷ (leb entries d ⇒ 25) ∷ []) refl (sym open-found ∙ none) in
         form-past (sound .known) (c .slot) file s seen (clear .1 .0)
 
-    pub open-fits : e₃ ≡ 0 → {object : ℕ} → object ≡ recordOf n file (f .slot) → getD t (object + opens) 0 ≤ 1024
+    pub open-fits : e₃ ≡ 0 → {object : ℕ} → object ≡ recordOf n file (f .slot) → getD t (object + opens) 0 ≤ maxSlots * entries
     open-fits none oe = one-fits sound file (f .slot) refl (slot-in (sound .known) (c .slot) file s seen (open-form none)) oe
 
     pub open-words : e₃ ≡ 0 → {place object : ℕ} → place ≡ recordOf n process (c .slot) + heldAt file d → object ≡ recordOf n file (f .slot)

@@ -2,7 +2,7 @@
 use mathlib.Core.Path.{_≡_, refl, sym, _∙_}
 use mathlib.Core.Bool.{Bool, true, false, cond}
 use mathlib.Core.List.{List, [], _∷_, _++_}
-use Prim.Native.Nat.{ℕ, _+_, _≤_, _<_}
+use Prim.Native.Nat.{ℕ, _+_, _*_, _≤_, _<_}
 use native.Mathlib.Omega.{arith}
 use native.Mathlib.Nat.{mul-le-mul-right}
 use lib.ListN.{getD, set}
@@ -25,19 +25,19 @@ use Rattle.calls.proofs.Given.{along, beyond, begins, used-next}
 
 -- ---- how many holders an object has at most
 
-own-few : (h : List ℕ) (r : Addr → ℕ) (k : Kind) (i : ℕ) → slots h process ≤ maxSlots → ownEntries h r k i ≤ 1024
+own-few : (h : List ℕ) (r : Addr → ℕ) (k : Kind) (i : ℕ) → slots h process ≤ maxSlots → ownEntries h r k i ≤ maxSlots * entries
 unfolding ownEntries
 own-few h r k i l =
     omega (arith, sum-le (slots h process) (λ p. countBelow entries (ownEntry h r k i p)) entries (λ p m. count-le entries (ownEntry h r k i p)), mul-le-mul-right entries l)
 
 module _ {t : List ℕ} {n : Header} {c : Caller} (sound : Sound t n c) where
-  few-holders : (k : Kind) (i : ℕ) → holdable k ≡ true → i < slots (configuration t) k → wordsOf t (at k i (holders k)) ≤ 1024
+  few-holders : (k : Kind) (i : ℕ) → holdable k ≡ true → i < slots (configuration t) k → wordsOf t (at k i (holders k)) ≤ maxSlots * entries
   few-holders process i th l = both-ways false th refl
   few-holders segment i th l = omega (arith, references-counted (configuration t) (wordsOf t) (sound .records) i l, own-few (configuration t) (wordsOf t) segment i (shape (sound .known) .few process))
   few-holders file i th l = omega (arith, opens-counted (configuration t) (wordsOf t) (sound .records) i l, own-few (configuration t) (wordsOf t) file i (shape (sound .known) .few process))
 
   -- the count as the code reads it, where the object's record begins at a place
-  pub one-fits : (k : Kind) (i : ℕ) {object : ℕ} → holdable k ≡ true → i < slots (configuration t) k → object ≡ recordOf n k i → getD t (object + holders k) 0 ≤ 1024
+  pub one-fits : (k : Kind) (i : ℕ) {object : ℕ} → holdable k ≡ true → i < slots (configuration t) k → object ≡ recordOf n k i → getD t (object + holders k) 0 ≤ maxSlots * entries
   unfolding rd
   one-fits k i {object} th l oe =
       let e : offset (configuration t) (at k i (holders k)) ≡ object + holders k = omega (arith, begins (sound .known) k i) in

@@ -13,19 +13,19 @@ use rules::CELL_WORDS;
 use rules::FILE_WORDS;
 use rules::HEADER_WORDS;
 use rules::MAX_CELLS;
-use rules::MAX_SLOTS;
 use rules::PROCESS_WORDS;
 use rules::SEGMENT_WORDS;
 use session::MAX_BUFFER;
 use session::MAX_REPLAY_BLOCKS;
+use session::MAX_REPLAY_SLOTS;
 use session::Session;
 
 // Room for the largest table that replay takes, for its store, and for the bytes of a call.
 const TABLE_WORDS: usize = HEADER_WORDS
     + CELL_WORDS * MAX_CELLS
-    + PROCESS_WORDS * MAX_SLOTS
-    + SEGMENT_WORDS * MAX_SLOTS
-    + FILE_WORDS * MAX_SLOTS;
+    + PROCESS_WORDS * MAX_REPLAY_SLOTS
+    + SEGMENT_WORDS * MAX_REPLAY_SLOTS
+    + FILE_WORDS * MAX_REPLAY_SLOTS;
 
 const STORE_BYTES: usize = MAX_REPLAY_BLOCKS * BLOCK_BYTES;
 

@@ -94,6 +94,9 @@ pub record Judged : Type 0 where
   pub level-moved : right (butSecurity 2) ≡ true
   pub levels-equal : right (butSecurity 1) ≡ false
   pub no-flow : right (butSecurity 0) ≡ false
+  -- a hall has 256 slots of a kind at the most
+  pub hall : test (headerOk (16 ∷ 256 ∷ 256 ∷ 256 ∷ 64 ∷ 0 ∷ 0 ∷ 0 ∷ [])) ≡ true
+  pub hall-over : test (headerOk (16 ∷ 256 ∷ 256 ∷ 257 ∷ 64 ∷ 0 ∷ 0 ∷ 0 ∷ [])) ≡ false
   pub word-too-many : right (used ++ 0 ∷ []) ≡ false
   pub byte-too-many : test (wellFormed used (bytes + 1)) ≡ false
 
@@ -123,6 +126,8 @@ judged =
       level-moved = refl;
       levels-equal = refl;
       no-flow = refl;
+      hall = refl;
+      hall-over = refl;
       word-too-many = refl;
       byte-too-many = refl;
     }

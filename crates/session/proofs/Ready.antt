@@ -8,22 +8,24 @@ use native.Mathlib.Nat.{mul-assoc}
 use lib.ListN.{length, getD, take, replicate, length-append, length-replicate, length-take}
 use lib.Seq.{getD-take, take-take, take-all, length-take-le, length-sets}
 use Rattle.rules.specs.Claim.{_&_, Holds, test}
-use Rattle.rules.specs.Layout.{maxCells, maxSlots, blockBytes, process, segment, file, headerWords, cellWords, recordWords, cells, slots, blocks, configuration, tableWords, storeBytes}
+use Rattle.rules.specs.Layout.{maxCells, blockBytes, process, segment, file, headerWords, cellWords, recordWords, cells, slots, blocks, configuration, tableWords, storeBytes}
 use Rattle.rules.specs.WellFormed.{configured, lengthsExact}
 use Rattle.rules.specs.SetUp.{canSetUp, firstProcesses, freshTable, setUpAnswer, setUpTable}
 use Rattle.rules.specs.Step.{State}
-use Rattle.rules.specs.Replay.{maxReplayBlocks, replayable, startOf}
+use Rattle.rules.specs.Replay.{maxReplayBlocks, maxReplaySlots, replayable, startOf}
 use Rattle.laws.proofs.Tests.{split, same-test}
 use Rattle.laws.proofs.Claims.{holds, tested}
 use Rattle.laws.proofs.Places.{conf-cells, conf-slots, conf-blocks}
 use Rattle.laws.proofs.Written.{length-write}
 use Rattle.laws.proofs.Shape.{Shape, shape-of}
 use Rattle.output.proofs.Laws.{take-sets}
-use Rattle.session.specs.Turn.{wordsOf, bytesOf, accepts, tableReady, storeReady}
+use Rattle.session.specs.Turn.{wordsAsked, wordsOf, bytesOf, accepts, tableReady, storeReady}
 
 -- room for the largest table and store that replay takes
 abbrev pub mostWords : ℕ
-mostWords = headerWords + cellWords * maxCells + recordWords process * maxSlots + recordWords segment * maxSlots + recordWords file * maxSlots
+mostWords =
+    headerWords + cellWords * maxCells + recordWords process * maxReplaySlots + recordWords segment * maxReplaySlots
+    + recordWords file * maxReplaySlots
 
 abbrev pub mostBytes : ℕ
 mostBytes = maxReplayBlocks * blockBytes
@@ -55,16 +57,30 @@ module _ (t st : List ℕ) (few : getD t 0 0 ≤ maxCells) (long : mostWords ≤
       let n : getD (take (wordsOf t) t) 0 0 ≡ getD t 0 0 = getD-take (wordsOf t) t 0 0 (omega (arith, enough)) in
       ap (λ (c : ℕ). take (headerWords + cellWords * c) (take (wordsOf t) t)) n ∙ take-take (headerWords + cellWords * getD t 0 0) (wordsOf t) t enough
 
-  -- a good configuration has room
-  words-fit : Shape h → wordsOf t ≡ tableWords h
-  words-fit s =
+  -- replay's own limit
+  pub record FewSlots : Type 0 where
+    pub processes : slots h process ≤ maxReplaySlots
+    pub segments : slots h segment ≤ maxReplaySlots
+    pub files : slots h file ≤ maxReplaySlots
+
+  -- a good configuration of few slots has room, and one that has room has few
+  words-fit : Shape h → FewSlots → wordsOf t ≡ tableWords h
+  words-fit s x =
       let c : cells t ≤ maxCells = rw (conf-cells t) at (s .few-cells) in
-      let p : slots t process ≤ maxSlots = rw (conf-slots t process) at (s .few process) in
-      let g : slots t segment ≤ maxSlots = rw (conf-slots t segment) at (s .few segment) in
-      let f : slots t file ≤ maxSlots = rw (conf-slots t file) at (s .few file) in
+      let p : slots t process ≤ maxReplaySlots = rw (conf-slots t process) at (x .processes) in
+      let g : slots t segment ≤ maxReplaySlots = rw (conf-slots t segment) at (x .segments) in
+      let f : slots t file ≤ maxReplaySlots = rw (conf-slots t file) at (x .files) in
       let w = same-words in
-      let m : tableWords t ≤ length t = omega arith in
+      let m : wordsAsked t ≤ length t = omega arith in
       omega arith
+
+  few-of-words : wordsOf t ≡ tableWords h → FewSlots
+  few-of-words e =
+      let w = same-words in
+      let p = conf-slots t process in
+      let g = conf-slots t segment in
+      let f = conf-slots t file in
+      record { processes = omega arith; segments = omega arith; files = omega arith }
 
   -- and so have few blocks
   file-blocks : slots t file * blocks t * blockBytes ≡ storeBytes h
@@ -83,19 +99,21 @@ module _ (t st : List ℕ) (few : getD t 0 0 ≤ maxCells) (long : mostWords ≤
   can-set-up : Bool
   can-set-up = test (canSetUp (take (wordsOf t) t) (bytesOf t st))
 
-  set-up-holds : can-set-up ≡ true → Holds (configured h) × (bytesOf t st ≡ storeBytes h)
+  words-lent : length (take (wordsOf t) t) ≡ wordsOf t
+  words-lent = length-take-le (wordsOf t) t (omega arith)
+
+  set-up-holds : can-set-up ≡ true → Holds (configured h) × ((wordsOf t ≡ tableWords h) × (bytesOf t st ≡ storeBytes h))
   unfolding can-set-up canSetUp lengthsExact
   set-up-holds e =
       let w = holds (configured h & lengthsExact h (length (take (wordsOf t) t)) (bytesOf t st))
       (ap (λ (c : List ℕ). test (configured c & lengthsExact c (length (take (wordsOf t) t)) (bytesOf t st))) (sym same-configuration) ∙ e) in
-      (w .0, w .1 .1)
+      (w .0, (sym words-lent ∙ w .1 .0, w .1 .1))
 
-  set-up-can : Holds (configured h) → slots h file * blocks h ≤ maxReplayBlocks → can-set-up ≡ true
+  set-up-can : Holds (configured h) → slots h file * blocks h ≤ maxReplayBlocks → FewSlots → can-set-up ≡ true
   unfolding can-set-up canSetUp lengthsExact
-  set-up-can c b =
-      let n : length (take (wordsOf t) t) ≡ wordsOf t = length-take-le (wordsOf t) t (omega arith) in
+  set-up-can c b x =
       rw same-configuration
-      (tested (configured h & lengthsExact h (length (take (wordsOf t) t)) (bytesOf t st)) (c, (n ∙ words-fit (shape-of h c), bytes-fit b)))
+      (tested (configured h & lengthsExact h (length (take (wordsOf t) t)) (bytesOf t st)) (c, (words-lent ∙ words-fit (shape-of h c) x, bytes-fit b)))
 
   answer-of : accepts t st ≡ can-set-up
   unfolding accepts setUpAnswer can-set-up
@@ -107,8 +125,11 @@ module _ (t st : List ℕ) (few : getD t 0 0 ≤ maxCells) (long : mostWords ≤
   accepts-replayable =
       answer-of
       ∙ same-test can-set-up (test (replayable h))
-      (λ e. let w = set-up-holds e in tested (replayable h) (w .0, few-of-fit (w .1)))
-      (λ e. let w = holds (replayable h) e in set-up-can (w .0) (w .1))
+      (λ e.
+      let w = set-up-holds e in
+      let x = few-of-words (w .1 .0) in
+      tested (replayable h) (w .0, (few-of-fit (w .1 .1), (x .processes, (x .segments, x .files)))))
+      (λ e. let w = holds (replayable h) e in set-up-can (w .0) (w .1 .0) (record { processes = w .1 .1 .0; segments = w .1 .1 .1 .0; files = w .1 .1 .1 .1 }))
 
   -- and then the table and the store are those that the rules begin with
   short : length h ≤ tableWords h
@@ -130,12 +151,12 @@ module _ (t st : List ℕ) (few : getD t 0 0 ≤ maxCells) (long : mostWords ≤
     table-begins : take (wordsOf t) (tableReady t st) ≡ freshTable h
     unfolding setUpTable can-set-up
     table-begins =
-        let w : wordsOf t ≡ tableWords h = words-fit (shape-of h (set-up-holds set-up-yes .0)) in
+        let w : wordsOf t ≡ tableWords h = set-up-holds set-up-yes .1 .0 in
         rw (set-up-yes, same-configuration) (take-sets t (freshTable h) (wordsOf t) (length-fresh ∙ sym w) (omega arith))
 
     store-begins : take (bytesOf t st) (storeReady st) ≡ replicate (storeBytes h) 0
     store-begins =
-        ap (take (bytesOf t st)) zeros ∙ take-replicate 0 (bytesOf t st) (length st) (omega arith) ∙ ap (λ (n : ℕ). replicate n 0) (set-up-holds set-up-yes .1)
+        ap (take (bytesOf t st)) zeros ∙ take-replicate 0 (bytesOf t st) (length st) (omega arith) ∙ ap (λ (n : ℕ). replicate n 0) (set-up-holds set-up-yes .1 .1)
       where
         zeros : storeReady st ≡ replicate (length st) 0
         zeros =

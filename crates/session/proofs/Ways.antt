@@ -9,7 +9,7 @@ use native.Mathlib.Decide.{decLe}
 use lib.Dec.{eqb}
 use lib.ListN.{length, getD, take, drop, length-append, length-drop}
 use lib.Seq.{sets, sets-eq, take-all, take-at, drop-at, length-take-le}
-use Rattle.rules.specs.Layout.{blockBytes, file, slots, blocks, tableWords}
+use Rattle.rules.specs.Layout.{blockBytes, file, slots, blocks}
 use Rattle.rules.specs.Errors.{XOK, ascii}
 use Rattle.rules.specs.SetUp.{setUpAnswer, setUpTable}
 use Rattle.rules.specs.Step.{Call, Answer, Outcome, answer, step}
@@ -28,7 +28,7 @@ use Rattle.script.specs.Advance.{Advanced, advance, Advances}
 use Rattle.session.specs.declared.Session.{Session}
 use Rattle.session.specs.declared.Stepped.{Stepped}
 use Rattle.session.specs.declared.Setup.{Setup}
-use Rattle.session.specs.Turn.{onward, faultText, finishText, Turn, wordsOf, bytesOf, accepts, storeReady, outcomeOf, oneMore, acted, turn, Written, Prepared, Begun, Ran, Acts, Turned}
+use Rattle.session.specs.Turn.{onward, faultText, finishText, Turn, wordsAsked, wordsOf, bytesOf, accepts, storeReady, outcomeOf, oneMore, acted, turn, Written, Prepared, Begun, Ran, Acts, Turned}
 
 -- ---- text that is written, and short enough for a line
 pub nothing : (o : List ℕ) (at : ℕ) → Written o at [] at o
@@ -110,7 +110,7 @@ pub product-fits : (a b : ℕ) → a < 2 ^ 32 → b < 2 ^ 32 → a * b < 2 ^ 64
 product-fits a b h k = let m : a * b ≤ 4294967295 * 4294967295 = mul-le-mul {n₂ = 4294967295} {m₂ = 4294967295} (omega arith) (omega arith) in omega arith
 
 -- ---- the configuration is set up
-pub prepared : (t st : List ℕ) (tw w fb q m a : ℕ) (new st′ : List ℕ) → tw ≡ tableWords t → w ≡ min tw (length t) → fb ≡ slots t file * blocks t → q ≡ min fb maxReplayBlocks
+pub prepared : (t st : List ℕ) (tw w fb q m a : ℕ) (new st′ : List ℕ) → tw ≡ wordsAsked t → w ≡ min tw (length t) → fb ≡ slots t file * blocks t → q ≡ min fb maxReplayBlocks
     → m ≡ min (q * blockBytes) (length st) → st′ ≡ storeReady st → a ≡ setUpAnswer (take w t) m → new ≡ setUpTable (take w t) m → length new ≡ length (take w t)
     → Prepared t st (record { words = w; bytes = m; answer = a }) (new ++ drop w t) st′
 prepared t st tw w fb q m a new st′ e₁ e₂ e₃ e₄ e₅ e₆ e₇ e₈ n =

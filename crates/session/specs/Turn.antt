@@ -7,11 +7,11 @@ use Prim.Native.Nat.{ℕ, _+_, _*_, _%_, _^_, _≤_, min}
 use lib.Dec.{eqb}
 use lib.ListN.{length, getD, take, replicate}
 use lib.Seq.{sets}
-use Rattle.rules.specs.Layout.{blockBytes, file, slots, blocks, tableWords}
+use Rattle.rules.specs.Layout.{blockBytes, process, segment, file, headerWords, cellWords, recordWords, cells, slots, blocks}
 use Rattle.rules.specs.Errors.{XOK}
 use Rattle.rules.specs.SetUp.{setUpAnswer, setUpTable}
 use Rattle.rules.specs.Step.{Outcome, step}
-use Rattle.rules.specs.Replay.{headerNumbers, maxReplayBlocks, maxBuffer, callOf, line, heading, badConfiguration, badScript}
+use Rattle.rules.specs.Replay.{headerNumbers, maxReplayBlocks, maxReplaySlots, maxBuffer, callOf, line, heading, badConfiguration, badScript}
 use Rattle.script.specs.declared.Reader.{Reader}
 use Rattle.script.specs.declared.What.{What}
 use Rattle.script.specs.declared.What.the-variants.{More, Configuration, Call, Fault}
@@ -58,8 +58,14 @@ pub record Turn : Type 0 where
 -- ---- the configuration is whole: it stands at the front of the table t
 
 -- how much of the lent table and store it takes; "Files x B at most 64", so no more of the store than that many blocks is ever in use
+-- (02, CR 5: "the replay program keeps its own limit of 64 slots of each kind": no more of the table is asked for, so that set-up, which wants the length exact, refuses a larger hall)
+abbrev pub wordsAsked : List ℕ → ℕ
+wordsAsked t =
+    headerWords + cellWords * cells t + recordWords process * min (slots t process) maxReplaySlots + recordWords segment * min (slots t segment) maxReplaySlots
+    + recordWords file * min (slots t file) maxReplaySlots
+
 abbrev pub wordsOf : List ℕ → ℕ
-wordsOf t = min (tableWords t) (length t)
+wordsOf t = min (wordsAsked t) (length t)
 
 abbrev pub bytesOf : List ℕ → List ℕ → ℕ
 bytesOf t st = min (min (slots t file * blocks t) maxReplayBlocks * blockBytes) (length st)

@@ -4,9 +4,9 @@ ghost use mathlib.Core.Bool.{cond};
 ghost use mathlib.Core.Path.{_≡_};
 ghost use Prim.Native.Nat.{_*_, max, min};
 ghost use lib.ListN.{length, drop};
-ghost use Rattle.rules.specs.Layout.{file, slots, blocks, tableWords};
+ghost use Rattle.rules.specs.Layout.{file, slots, blocks};
 ghost use Rattle.rules.specs.Replay.{heading, badConfiguration};
-ghost use Rattle.session.specs.Turn.{newSession, onward, blankTable, faultText, finishText, outcomeOf, turn, Written, Prepared, Begun, Ran, Acts, Turned};
+ghost use Rattle.session.specs.Turn.{newSession, onward, wordsAsked, blankTable, faultText, finishText, outcomeOf, turn, Written, Prepared, Begun, Ran, Acts, Turned};
 ghost use Rattle.session.specs.Play.{play, Played};
 use rules::BLOCK_BYTES;
 use rules::BLOCKS;
@@ -66,6 +66,8 @@ pub const MAX_BUFFER: usize = 512;
 
 pub const MAX_REPLAY_BLOCKS: usize = 64;
 
+pub const MAX_REPLAY_SLOTS: usize = 64;
+
 // Any line has room in this.
 const LINE_BYTES: usize = 1200;
 
@@ -121,14 +123,16 @@ pub fn finish(x: Session, out: &mut [u8]) -> usize
     put_fault(out, 0, reader.is_calling())
 }
 
-// How many words a table with this header has.
+// How many words a table with this header has, if it has no more slots of a kind than replay takes. With more it is given too few, and set-up refuses it.
 fn table_words(table: &[u32]) -> usize
-    ensures { λ r. ⌜ r ≡ tableWords (now (table .entry)) ⌝ }
+    ensures { λ r. ⌜ r ≡ wordsAsked (now (table .entry)) ⌝ }
 {
     let cells = CELL_WORDS * words::wide(words::word(table, 0));
-    let processes = PROCESS_WORDS * words::wide(words::word(table, PROCESSES));
-    let segments = SEGMENT_WORDS * words::wide(words::word(table, SEGMENTS));
-    let files = FILE_WORDS * words::wide(words::word(table, FILES));
+    let processes = PROCESS_WORDS
+        * least(words::wide(words::word(table, PROCESSES)), MAX_REPLAY_SLOTS);
+    let segments = SEGMENT_WORDS
+        * least(words::wide(words::word(table, SEGMENTS)), MAX_REPLAY_SLOTS);
+    let files = FILE_WORDS * least(words::wide(words::word(table, FILES)), MAX_REPLAY_SLOTS);
     HEADER_WORDS + cells + processes + segments + files
 }
 

@@ -33,11 +33,12 @@ fn main() {
     println!(
         "Ratios of proved to plain time: median of the rounds, with quartiles. Times of the plain monitor for context."
     );
-    let tables = [("big", big()), ("small", small())];
+    let tables = [("largest", largest()), ("big", big()), ("small", small())];
     if wanted("check") {
         heading("The check alone");
-        for (name, worlds) in [("big", in_turn(16, 4, 64)), ("small", in_turn(2, 2, 1))] {
-            line(&format!("eight {name} tables in turn, in use"), check(&worlds));
+        let [largest, big] = [in_turn(16, 16, 64), in_turn(16, 4, 64)];
+        for (name, worlds) in [("largest", &largest), ("big", &big), ("small", &in_turn(2, 2, 1))] {
+            line(&format!("eight {name} tables in turn, in use"), check(worlds));
         }
         for (name, world) in &tables {
             line(&format!("{name} table, in use"), check(std::slice::from_ref(world)));
@@ -45,9 +46,10 @@ fn main() {
         for (name, world) in &tables {
             line(&format!("{name} table, after set-up"), check(&[after_setup(world)]));
         }
+        growth(&big, &largest[..2]);
     }
     if wanted("single") {
-        for (name, world) in &tables {
+        for (name, world) in &tables[1..] {
             single_calls(name, world);
         }
     }
@@ -64,6 +66,11 @@ fn main() {
     if wanted("replay") {
         replay();
     }
+}
+
+/// 16 cells, 256 slots of each kind, B 64; every cell flows to those after it.
+fn largest() -> World {
+    busy(16, 16, 64).next().expect("there is one for each seed")
 }
 
 /// 16 cells, 64 slots of each kind, B 64; every cell flows to those after it.
@@ -166,22 +173,39 @@ fn line(name: &str, ratio: Ratio) {
 
 // The check and single calls.
 
-/// The check of these tables, one after the other; a repetition is all of them.
+/// The check of a table beside a store of that length, by one of the two monitors.
+type Judge = fn(&[u32], usize) -> bool;
+
+fn plainly_well_formed(table: &[u32], bytes: usize) -> bool {
+    plain::check(table, bytes).is_some()
+}
+
+/// Checks these tables, one after the other; a repetition is all of them.
+fn checks(worlds: &[World], well_formed: Judge) -> impl Fn(u32) -> Duration + Copy {
+    move |n| {
+        timed(n, || {
+            for world in worlds {
+                assert!(well_formed(std::hint::black_box(&world.table), world.store.len()));
+            }
+        })
+    }
+}
+
 fn check(worlds: &[World]) -> Ratio {
-    let all = |right: fn(&[u32], usize) -> bool| {
-        move |n| {
-            timed(n, || {
-                for world in worlds {
-                    assert!(right(std::hint::black_box(&world.table), world.store.len()));
-                }
-            })
-        }
-    };
-    let proved = all(monitor::well_formed);
-    let plain = all(|table, bytes| plain::check(table, bytes).is_some());
+    let (proved, plain) = (checks(worlds, monitor::well_formed), checks(worlds, plainly_well_formed));
     let n = repetitions(plain);
     let Ratio { median, low, high, plain } = ratio(ROUNDS, n, proved, plain);
     Ratio { median, low, high, plain: plain / worlds.len() as u32 }
+}
+
+/// The check of two tables, to that of eight with a quarter of the slots, which are as many in all: 1 is linear growth.
+fn growth(eight: &[World], two: &[World]) {
+    println!("\n| two largest tables in turn, to eight big ones | ratio | quartiles | the eight |\n|-|-:|-:|-:|");
+    let judges: [(&str, Judge); 2] = [("proved", monitor::well_formed), ("plain", plainly_well_formed)];
+    for (name, well_formed) in judges {
+        let (two, eight) = (checks(two, well_formed), checks(eight, well_formed));
+        line(name, ratio(ROUNDS, repetitions(eight), two, eight));
+    }
 }
 
 fn single_calls(name: &str, world: &World) {

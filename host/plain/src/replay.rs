@@ -2,11 +2,11 @@
 
 use crate::calls::{Request, call};
 use crate::errors::Error::XOK;
-use crate::table::{
-    BLOCK_BYTES, CELL_WORDS, FILE_WORDS, HEADER_WORDS, MAX_CELLS, MAX_SLOTS, PROCESS_WORDS, SEGMENT_WORDS, setup,
-};
+use crate::table::{BLOCK_BYTES, CELL_WORDS, FILE_WORDS, HEADER_WORDS, MAX_CELLS, PROCESS_WORDS, SEGMENT_WORDS, setup};
 use std::io::Write;
 
+/// Replay's own limits: slots of each kind in all, and blocks of the whole store.
+const MAX_REPLAY_SLOTS: u32 = 64;
 const MAX_STORE_BLOCKS: u32 = 64;
 const MAX_BUFFER: usize = 512;
 
@@ -38,7 +38,7 @@ fn configure(input: &mut &[u8]) -> Option<(Vec<u32>, Vec<u8>)> {
     let [cells, processes, segments, files, blocks, ..] = table[..] else {
         return None;
     };
-    let small = |count| count as usize <= MAX_SLOTS;
+    let small = |count| count <= MAX_REPLAY_SLOTS;
     let sizes_good = cells as usize <= MAX_CELLS && small(processes) && small(segments) && small(files);
     if !sizes_good || files.checked_mul(blocks).is_none_or(|all| all > MAX_STORE_BLOCKS) {
         return None;

@@ -5,7 +5,7 @@ use crate::seid::{Kind, Seid};
 use std::ops::Range;
 
 pub const MAX_CELLS: usize = 16;
-pub const MAX_SLOTS: usize = 64;
+pub const MAX_SLOTS: usize = 256;
 pub const MAX_BLOCKS: u32 = 64;
 pub const MAX_SERIAL: u32 = 65535;
 pub const MAX_ID: u32 = 65535;
@@ -79,7 +79,7 @@ pub struct Slots {
     record_words: usize,
     cell_of: [u8; MAX_SLOTS],
     /// Cell c owns the slots starts[c]..starts[c + 1].
-    starts: [u8; MAX_CELLS + 1],
+    starts: [u16; MAX_CELLS + 1],
 }
 
 /// What the header and the cell words say: sizes, places, and which cell may flow to which.
@@ -167,7 +167,7 @@ impl Shape {
             }
             let end = start + count as usize;
             slots.cell_of[start..end].fill(c as u8);
-            slots.starts[c + 1] = end as u8;
+            slots.starts[c + 1] = end as u16;
         }
         Some(())
     }
@@ -311,7 +311,7 @@ impl Pass<'_> {
 
     fn designators(&mut self, words: &[u32], cell: usize) -> bool {
         let (entries, _) = words.as_chunks();
-        let mut seen = 0u64; // the slots met so far: only a slot met twice can be a seid met twice
+        let mut seen = [0u64; MAX_SLOTS / 64]; // the slots met so far: only a slot met twice can be a seid met twice
         entries.iter().enumerate().all(|(i, &[seid, access])| {
             if seid == 0 {
                 return access == 0;
@@ -319,9 +319,9 @@ impl Pass<'_> {
             let Some(held) = self.held_object(Kind::Segment, seid, cell) else {
                 return false;
             };
-            let slot = 1 << held.index;
-            let twice = seen & slot != 0 && entries[..i].iter().any(|&[earlier, _]| earlier == seid);
-            seen |= slot;
+            let (word, slot) = (held.index / 64, 1 << (held.index % 64));
+            let twice = seen[word] & slot != 0 && entries[..i].iter().any(|&[earlier, _]| earlier == seid);
+            seen[word] |= slot;
             !twice && access & !(READ | WRITE) == 0 && (held.own || access & WRITE == 0)
         })
     }

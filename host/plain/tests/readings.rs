@@ -409,9 +409,9 @@ fn r19_r20_r24_setup() {
     };
     for (word, values) in [
         (0, &[0, 1, 3, 17][..]),
-        (1, &[0, 2, 4, 65]),
-        (2, &[0, 2, 65]),
-        (3, &[1, 3, 65]),
+        (1, &[0, 2, 4, 257]),
+        (2, &[0, 2, 257]),
+        (3, &[1, 3, 257]),
         (4, &[0, 63, 65]),
         (5, &[1]),
         (6, &[1]),
@@ -486,4 +486,10 @@ fn r25_r26_replay() {
     assert_eq!(many(1, 65), bad);
     assert_eq!(many(0, 65), bad);
     assert_eq!(many(65, 1), bad);
+    // 64 slots of a kind are as many as replay takes, though set-up takes more.
+    let slots =
+        |processes: u8, segments: u8| replay(&[1, processes, segments, 1, 1, 0, 0, 0, processes, segments, 1, 0, 0]);
+    assert_eq!(slots(64, 64), heading);
+    assert_eq!(slots(65, 64), bad);
+    assert_eq!(slots(64, 65), bad);
 }

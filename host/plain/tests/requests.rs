@@ -286,3 +286,41 @@ fn r11_set_bits_of_a_process() {
     hall.done(0, SET_BITS, [0, 0, 0]);
     hall.done(0, RELEASE, [0; 3]);
 }
+
+#[test]
+fn r12_a_bigger_hall() {
+    // One cell with all 256 of each kind: the last slots are used as any.
+    let mut hall = Hall::new(&[[0, 0, 0, 256, 256, 256, 0, 0]], 1);
+    for index in 0..255 {
+        hall.process(index)[1] = 9;
+        hall.segment(index)[1] = 9;
+        hall.file(index)[1] = 9;
+    }
+    assert_eq!(hall.done(0, SPAWN, [0, 0, 0o600]).0, process(255, 1));
+    assert_eq!(hall.done(255, BUILD, [512, 0o600, 1]).0, segment(255, 1));
+    assert_eq!(hall.done(255, CREATE, [0o600, 3, 0]).0, file(255, 1));
+    assert_eq!(hall.write(255, 0, 0, 7), XOK);
+    assert_eq!(hall.store[255 * 512..], [7; 512]);
+    assert_eq!(hall.done(0, OPEN, [file(255, 1), 1, 0]), (0, 0));
+    assert_eq!(hall.done(0, RENDEZVOUS, [segment(255, 1), 256, 0]), (0, 0));
+    assert_eq!(hall.post(0, process(255, 1), &[7; 12]), XOK);
+    assert_eq!(hall.error(256, STATUS, [0; 3]), XbPrSd);
+    // One designator of slot 191 and one of slot 255 are two.
+    hall.segment(191).copy_from_slice(&[1, 9, 0, 0, 0, 0, 512, 1]);
+    hall.process(0)[42..44].copy_from_slice(&[segment(191, 9), 0]);
+    assert!(hall.good());
+    // The last cell of many.
+    let cells: Vec<Cell> = (0..16).map(|cell| [cell, 0, 0, 16, 16, 16, 0, 0]).collect();
+    let mut hall = Hall::new(&cells, 2);
+    assert_eq!(hall.status(240, 0).unwrap()[1], 15);
+    hall.process(241)[1] = 65535;
+    assert_eq!(hall.done(240, SPAWN, [0, 0, 0]).0, process(242, 1));
+    // One more is too many, in a table that is right for it.
+    for kind in 0..3 {
+        let mut cell = [0, 0, 0, 1, 1, 1, 0, 0];
+        cell[3 + kind] = 257;
+        let mut hall = Hall::unset(&[cell], 1);
+        assert_eq!(plain::setup(&mut hall.table, hall.store.len()), XbParam);
+        assert!(!hall.good());
+    }
+}

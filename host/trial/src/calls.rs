@@ -18,7 +18,8 @@ pub fn caller(rng: &mut Rng, world: &World, shape: &Shape, allowed: impl Fn(usiz
     if slots.is_empty() {
         return None;
     }
-    let mut slot = rng.pick(&slots);
+    let last = slots[slots.len() - 1];
+    let mut slot = if rng.chance(1, 32) { last } else { rng.pick(&slots) };
     if !rng.chance(1, 32) {
         for _ in 0..8 {
             if world.live(shape, Kind::Process, slot) {
@@ -33,16 +34,46 @@ pub fn caller(rng: &mut Rng, world: &World, shape: &Shape, allowed: impl Fn(usiz
 /// A caller number beyond the table: it is in no cell.
 pub fn no_caller(rng: &mut Rng, shape: &Shape) -> u32 {
     let count = shape.count(Kind::Process) as u32;
-    rng.pick(&[count, count + 1, 64, 65, 255, 256, 65536, u32::MAX])
+    rng.pick(&[0, 1, 64, 65, 255, 256, 257, 65536, u32::MAX]).max(count)
 }
 
 /// A call by any process.
 pub fn any(rng: &mut Rng, world: &World, shape: &Shape) -> Call {
+    if rng.chance(1, 8)
+        && let Some(call) = at_the_top(rng, world, shape)
+    {
+        return call;
+    }
     let caller = match rng.chance(1, 200) {
         true => no_caller(rng, shape),
         false => caller(rng, world, shape, |_| true).expect("there is a process slot"),
     };
     by(rng, world, shape, caller)
+}
+
+/// A call that makes or uses the last slot of a kind that has as many as there can be, by a process of its cell.
+fn at_the_top(rng: &mut Rng, world: &World, shape: &Shape) -> Option<Call> {
+    let full: Vec<Kind> = Kind::ALL.into_iter().filter(|&kind| shape.count(kind) == MAX_SLOTS).collect();
+    if full.is_empty() {
+        return None;
+    }
+    let kind = rng.pick(&full);
+    let last = world.seid(shape, kind, MAX_SLOTS - 1);
+    let cell = shape.cell(kind, MAX_SLOTS - 1);
+    let caller = caller(rng, world, shape, |other| other == cell)?;
+    let own = |word: usize| world.table[shape.at(Kind::Process, caller as usize) + word];
+    if kind == Kind::Process && rng.chance(1, 4) {
+        return Some(by(rng, world, shape, MAX_SLOTS as u32 - 1));
+    }
+    let (code, [a, b, c], length) = match (kind, rng.chance(1, 2)) {
+        (Kind::Process, true) => (1, [own(OWNER), own(GROUP), FIRST_BITS], 0),
+        (Kind::Process, false) => (15, [last, 0, 0], 12),
+        (Kind::Segment, true) => (3, [512, 0o666, 1], 0),
+        (Kind::Segment, false) => (4, [last, 256, 0], 0),
+        (Kind::File, true) => (7, [0o666, 3, 0], 0),
+        (Kind::File, false) => (8, [last, 1, 0], 0),
+    };
+    Some(Call { request: Request { caller, code, a, b, c }, buffer: vec![7; length] })
 }
 
 /// A call by the caller given.
@@ -236,17 +267,20 @@ impl Draw<'_> {
         }
     }
 
-    /// A seid; or one that the caller holds, or the present use of its slot.
+    /// A seid; or one that the caller holds, or the present use of a slot of which it holds an older one.
     fn seid_or_held(&mut self, kind: Kind) -> u32 {
         let entries = if kind == Kind::File { DESCRIPTORS } else { DESIGNATORS };
         let used = self.used(entries);
         if used.is_empty() || self.rng.chance(2, 3) {
             return self.seid(kind);
         }
-        let held = self.world.entry(self.shape, self.process, entries, self.rng.pick(&used)).0;
-        match self.rng.chance(1, 3) {
-            true => self.world.seid(self.shape, kind, Seid::of(held).index),
-            false => held,
+        let held: Vec<u32> =
+            used.iter().map(|&place| self.world.entry(self.shape, self.process, entries, place).0).collect();
+        let stale = held.iter().copied().filter(|&seid| self.world.stale(self.shape, kind, seid));
+        let stale: Vec<u32> = stale.collect();
+        match stale.is_empty() || self.rng.chance(1, 2) {
+            true => self.rng.pick(&held),
+            false => self.world.seid(self.shape, kind, Seid::of(self.rng.pick(&stale)).index),
         }
     }
 
@@ -260,7 +294,11 @@ impl Draw<'_> {
         let mut index = 0;
         for _ in 0..3 {
             let near = !run.is_empty() && self.rng.chance(5, 8);
-            index = if near { run.start + self.rng.below(run.len()) } else { self.rng.below(count) };
+            index = match self.rng.chance(1, 32) {
+                true => count - 1,
+                false if near => run.start + self.rng.below(run.len()),
+                false => self.rng.below(count),
+            };
             if self.world.live(self.shape, kind, index) {
                 break;
             }

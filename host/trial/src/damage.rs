@@ -95,9 +95,16 @@ fn slot(rng: &mut Rng, world: &World, shape: &Shape, kind: Kind, live: bool) -> 
 
 fn header(all: &mut All) {
     put(all, "cells out of range", &[0, 17, u32::MAX], |_, _, _| Some(0));
-    put(all, "processes out of range", &[0, 65, u32::MAX], |_, _, _| Some(1));
-    put(all, "segments out of range", &[65, u32::MAX], |_, _, _| Some(2));
-    put(all, "files out of range", &[65, u32::MAX], |_, _, _| Some(3));
+    put(all, "processes out of range", &[0, 257, u32::MAX], |_, _, _| Some(1));
+    put(all, "segments out of range", &[257, u32::MAX], |_, _, _| Some(2));
+    put(all, "files out of range", &[257, u32::MAX], |_, _, _| Some(3));
+    add(all, "one slot more than there can be, in a table that is right for it", |rng, world, _| {
+        let kind = rng.below(3);
+        let mut words = vec![1, 1, 1, 1, 1, 0, 0, 0, 0, 0, 0, 1, 1, 1, 0, 0];
+        (words[1 + kind], words[11 + kind]) = (257, 257);
+        *world = World::configured(&words);
+        Some(())
+    });
     put(all, "blocks out of range", &[0, 65, u32::MAX], |_, _, _| Some(4));
     put(all, "header zeros", &[1, 65536, u32::MAX], |rng, _, _| Some(5 + rng.below(3)));
     put(all, "security or integrity out of range", &[16, 255, u32::MAX], |rng, _, shape| {
@@ -219,7 +226,7 @@ fn processes(all: &mut All) {
         });
     };
     parent("class", all, |rng, _, process| Some(rng.pick(&[0, 3, 5, 129, 132]) << 24 | (process as u32) << 16 | 1));
-    parent("index", all, |rng, shape, _| Some(Kind::Process.seid(rng.pick(&[shape.count(Kind::Process), 255]), 1)));
+    parent("index", all, |rng, shape, _| past_the_slots(rng, shape, Kind::Process));
     parent("serial 0", all, |_, _, process| Some(Kind::Process.seid(process, 0)));
     parent("another cell", all, |rng, shape, process| {
         let cell = shape.cell(Kind::Process, process);
@@ -259,6 +266,12 @@ fn elsewhere(rng: &mut Rng, world: &World, shape: &Shape, kind: Kind, process: u
     )
 }
 
+/// A seid whose index is past the slots of its kind; there is none where all 256 are.
+fn past_the_slots(rng: &mut Rng, shape: &Shape, kind: Kind) -> Option<u32> {
+    let count = shape.count(kind);
+    (count < MAX_SLOTS).then(|| kind.seid(rng.pick(&[count, MAX_SLOTS - 1]), 1))
+}
+
 /// A seid that breaks what every held seid must be, for a holder: by class, index, serial or level.
 type BadSeid = fn(&mut Rng, &World, &Shape, Kind, usize) -> Option<u32>;
 
@@ -269,7 +282,7 @@ const BAD_SEIDS: [(&str, BadSeid); 5] = [
         let class = rng.pick(&[3, 4, 5, 6, 129, 128, 1]);
         (class != kind.class()).then_some(seid & 0x00ff_ffff | class << 24)
     }),
-    ("index", |rng, _, shape, kind, _| Some(kind.seid(rng.pick(&[shape.count(kind), 255]), 1))),
+    ("index", |rng, _, shape, kind, _| past_the_slots(rng, shape, kind)),
     ("serial 0", |rng, world, shape, kind, process| {
         Some(kind.seid(elsewhere(rng, world, shape, kind, process, true)?, 0))
     }),

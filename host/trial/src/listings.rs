@@ -71,7 +71,7 @@ impl<M: Monitor> Program<'_, M> {
     pub fn listings_agree(&self, rng: &mut Rng, rounds: u64) {
         let (mut configurations, mut faults, mut whole) = (0, 0, 0);
         for round in 0..rounds {
-            let limits = tables::limits(rng);
+            let limits = tables::replay_limits(rng);
             let calls = match round % 50 {
                 0 => 5_000,
                 1..10 => 300,

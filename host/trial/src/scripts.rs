@@ -100,8 +100,16 @@ pub fn damage(rng: &mut Rng, script: &mut Script) {
 pub fn bad_configuration(rng: &mut Rng, limits: Limits) -> Script {
     let mut words = tables::configuration(rng, limits);
     let cells = words[0] as usize;
-    match rng.below(4) {
+    match rng.below(5) {
         0 if cells > 1 => words.copy_within(8..11, 16), // two cells of one level
+        2 => {
+            // As many slots of a kind as replay takes, or one more, which set-up would take: the first cell has what the others lack.
+            let kind = rng.below(3);
+            let others: u32 = (1..cells).map(|cell| words[8 + 8 * cell + 3 + kind]).sum();
+            words[1 + kind] = rng.pick(&[64, 65, 65, 256]);
+            words[11 + kind] = words[1 + kind].saturating_sub(others);
+            words[4] = 1; // so that the store is no larger than it may be, as far as can be
+        }
         1 => {
             // Files x B about 64; all files in the first cell, so that nothing else is wrong.
             (words[3], words[4]) =

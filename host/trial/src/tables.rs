@@ -70,16 +70,30 @@ pub struct Limits {
 
 pub const SMALL: Limits = Limits { cells: 3, slots: 6, blocks: 3, store_blocks: 8 };
 pub const MIDDLE: Limits = Limits { cells: 6, slots: 20, blocks: 4, store_blocks: 32 };
+/// As large as replay takes.
 pub const LARGE: Limits = Limits { cells: 16, slots: 64, blocks: 64, store_blocks: 64 };
+/// As many slots as there can be; the store would take longer to compare than it is worth.
+pub const HUGE: Limits = Limits { cells: 16, slots: MAX_SLOTS, blocks: 2, store_blocks: 2 * MAX_SLOTS };
 
 /// Mostly small tables, so that many calls are made; some of full size.
 pub fn limits(rng: &mut Rng) -> Limits {
+    if rng.chance(1, 28) { HUGE } else { replay_limits(rng) }
+}
+
+/// The same, for tables that replay takes.
+pub fn replay_limits(rng: &mut Rng) -> Limits {
     rng.pick(&[SMALL, SMALL, SMALL, SMALL, SMALL, MIDDLE, MIDDLE, MIDDLE, LARGE])
+}
+
+/// Whether a kind has as many slots as there can be.
+pub fn full(shape: &Shape) -> bool {
+    Kind::ALL.into_iter().any(|kind| shape.count(kind) == MAX_SLOTS)
 }
 
 /// Good header and cell words.
 pub fn configuration(rng: &mut Rng, limits: Limits) -> Vec<u32> {
-    let cells = 1 + rng.below(limits.cells);
+    let often = if limits.slots == MAX_SLOTS { 5 } else { 1 }; // of eight
+    let cells = if rng.chance(often, 8) { 1 } else { 1 + rng.below(limits.cells) };
     let mut levels: Vec<Level> = Vec::new();
     let spread = rng.below(3);
     while levels.len() < cells {
@@ -89,9 +103,12 @@ pub fn configuration(rng: &mut Rng, limits: Limits) -> Vec<u32> {
         }
     }
     let blocks = 1 + rng.below(limits.blocks);
-    let processes = cells + rng.below(limits.slots - cells + 1);
-    let segments = rng.below(limits.slots + 1);
-    let files = rng.below(limits.slots.min(limits.store_blocks / blocks) + 1);
+    // Now and then as many as there can be.
+    let mut count =
+        |least: usize, most: usize| if rng.chance(1, 6) { most } else { least + rng.below(most - least + 1) };
+    let processes = count(cells, limits.slots);
+    let segments = count(0, limits.slots);
+    let files = count(0, limits.slots.min(limits.store_blocks / blocks));
     let mut words: Vec<u32> = [cells, processes, segments, files, blocks, 0, 0, 0].map(|n| n as u32).to_vec();
     // One process slot for each cell; all others, and the segments and files, go to random cells.
     let mut slots = vec![[1u32, 0, 0]; cells];
@@ -155,7 +172,7 @@ pub fn fresh(rng: &mut Rng, limits: Limits) -> World {
 pub fn busy(rng: &mut Rng, configuration: &[u32]) -> World {
     let mut world = World::configured(configuration);
     let shape = world.shape();
-    let mood = Mood { live: 6, entries: 4, top_serials: false, quiet_files: 0 };
+    let mood = Mood { live: 6, entries: 4, top_serials: false, quiet_files: 0, last_unused: false };
     fill_in_mood(rng, &mood, &mut world, &shape, |_| true);
     world
 }
@@ -168,6 +185,7 @@ pub fn fill(rng: &mut Rng, world: &mut World, shape: &Shape, chosen: impl Fn(usi
         entries: rng.pick(&[1, 3, 5, 8]),
         top_serials: rng.chance(1, 4),
         quiet_files: rng.draw() & rng.draw(),
+        last_unused: if full(shape) { rng.chance(3, 4) } else { rng.chance(1, 3) },
     };
     fill_in_mood(rng, &mood, world, shape, chosen);
 }
@@ -204,13 +222,15 @@ struct Mood {
     /// Of eight entries, how many are used.
     entries: usize,
     top_serials: bool,
-    /// One bit for each file slot.
+    /// One bit for each file slot, over and over.
     quiet_files: u64,
+    /// The last slot of each cell was never used, all others were: it is the next to be taken.
+    last_unused: bool,
 }
 
 impl Mood {
     fn quiet(&self, file: usize) -> bool {
-        self.quiet_files >> file & 1 == 1
+        self.quiet_files >> (file % 64) & 1 == 1
     }
 }
 
@@ -228,8 +248,13 @@ fn serial(rng: &mut Rng, mood: &Mood, live: bool) -> u32 {
 
 /// A record but for what it holds and who holds it.
 fn head(rng: &mut Rng, mood: &Mood, world: &mut World, shape: &Shape, kind: Kind, index: usize) {
-    let live = rng.chance(mood.live, 8);
-    let serial = serial(rng, mood, live);
+    let last = mood.last_unused && shape.run(kind, shape.cell(kind, index)).end == index + 1;
+    let live = rng.chance(mood.live, 8) && !last;
+    let serial = match serial(rng, mood, live) {
+        _ if last => 0,
+        0 if mood.last_unused => 1,
+        serial => serial,
+    };
     let record = &mut world.table[shape.record(kind, index)];
     record[SERIAL] = serial;
     if !live {

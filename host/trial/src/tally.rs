@@ -110,6 +110,13 @@ pub const SITUATIONS: &[&str] = &[
     "release of a segment: its pages are emptied",
     "release of a process with a map",
     "access of a page limited by today's bits",
+    "a call by process 255",
+    "spawn takes slot 255",
+    "build takes slot 255",
+    "create takes slot 255",
+    "open of file 255",
+    "a post to process 255",
+    "a creating call in a cell with all 256 slots of the kind",
 ];
 
 pub struct Tally {
@@ -261,10 +268,19 @@ impl Scene<'_> {
         self.tally.met(worn_more, free.iter().any(|free| lower(free) && free.1 > serial && free.1 < MAX_SERIAL));
         self.tally.met(equal, free.iter().any(|free| free.1 == serial));
         self.tally.met(reached, serial + 1 == MAX_SERIAL);
+        let whole = self.shape.run(kind, self.shape.cell(kind, taken)).len() == MAX_SLOTS;
+        let last = match kind {
+            Kind::Process => "spawn takes slot 255",
+            Kind::Segment => "build takes slot 255",
+            Kind::File => "create takes slot 255",
+        };
+        self.tally.met(last, taken == MAX_SLOTS - 1);
+        self.tally.met("a creating call in a cell with all 256 slots of the kind", whole);
     }
 
     fn success(&mut self, first: u32, _second: u32) {
         let request = self.call.request;
+        self.tally.met("a call by process 255", self.caller == MAX_SLOTS - 1);
         match request.code {
             1 => {
                 let other_owner = request.a != self.own_word(OWNER);
@@ -432,6 +448,7 @@ impl Scene<'_> {
     }
 
     fn open(&mut self, file: u32, modes: u32) {
+        self.tally.met("open of file 255", Seid::of(file).index == MAX_SLOTS - 1);
         let cell = self.shape.cell(Kind::File, Seid::of(file).index);
         let higher = cell != self.shape.cell(Kind::Process, self.caller);
         let held = |process: usize, by: fn(u32) -> bool| {
@@ -457,6 +474,7 @@ impl Scene<'_> {
     fn post(&mut self, named: u32) {
         self.tally.met("post to oneself by seid 0", named == 0);
         let receiver = Seid::of(named).index;
+        self.tally.met("a post to process 255", named != 0 && receiver == MAX_SLOTS - 1);
         let cell = self.shape.cell(Kind::Process, self.caller);
         if named == 0 {
             return;

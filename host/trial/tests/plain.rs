@@ -12,7 +12,7 @@ fn calls_keep_tables_well_formed() {
     let mut tally = Tally::default();
     tally.bad_table(); // is tried below
     let mut made = 0;
-    while made < trial::setting("TRIAL_CALLS", 300_000) {
+    while made < trial::setting("TRIAL_CALLS", 500_000) {
         let limits = tables::limits(&mut rng);
         let mut world = match rng.chance(1, 4) {
             true => tables::fresh(&mut rng, limits),

@@ -19,6 +19,9 @@ word-requires-2 c κs = search needs
 wide-requires-2 : tie.Need-wide-requires-2
 wide-requires-2 c κs = search needs
 
+least-requires : tie.Need-least-requires
+least-requires c κs = search needs
+
 mul-processes : tie.Need-mul-processes
 mul-processes c = search needs
 
@@ -28,6 +31,9 @@ word-requires-3 c κs = search needs
 wide-requires-3 : tie.Need-wide-requires-3
 wide-requires-3 c κs = search needs
 
+least-requires-2 : tie.Need-least-requires-2
+least-requires-2 c κs = search needs
+
 mul-segments : tie.Need-mul-segments
 mul-segments c = search needs
 
@@ -36,6 +42,9 @@ word-requires-4 c κs = search needs
 
 wide-requires-4 : tie.Need-wide-requires-4
 wide-requires-4 c κs = search needs
+
+least-requires-3 : tie.Need-least-requires-3
+least-requires-3 c κs = search needs
 
 mul-files : tie.Need-mul-files
 mul-files c = search needs
@@ -54,7 +63,23 @@ add-result-4 c = search needs
 
 returns : tie.Need-returns
 unfolding cells slots
-returns c = rw (c .wide4 .ensures, c .before .word4 .ensures, c .before .before .wide3 .ensures, c .before .before .before .word3 .ensures, c .before .before .before .before .wide2 .ensures, c .before .before .before .before .before .word2 .ensures, c .before .before .before .before .before .before .wide .ensures, c .before .before .before .before .before .before .before .word .ensures)
+returns c =
+    let segments = c .before .before .before in
+    let processes = segments .before .before .before in
+    let first = processes .before .before .before in
+    rw (
+      c .least3 .ensures,
+      c .before .wide4 .ensures,
+      c .before .before .word4 .ensures,
+      segments .least2 .ensures,
+      segments .before .wide3 .ensures,
+      segments .before .before .word3 .ensures,
+      processes .least .ensures,
+      processes .before .wide2 .ensures,
+      processes .before .before .word2 .ensures,
+      first .wide .ensures,
+      first .before .word .ensures,
+    )
 
 pub table-words-spec : {M : Type 1} → statement M
 table-words-spec =
@@ -65,12 +90,15 @@ table-words-spec =
     mul-cells
     word-requires-2
     wide-requires-2
+    least-requires
     mul-processes
     word-requires-3
     wide-requires-3
+    least-requires-2
     mul-segments
     word-requires-4
     wide-requires-4
+    least-requires-3
     mul-files
     add-result
     add-result-2
