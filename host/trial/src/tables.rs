@@ -104,8 +104,9 @@ pub fn configuration(rng: &mut Rng, limits: Limits) -> Vec<u32> {
     }
     let blocks = 1 + rng.below(limits.blocks);
     // Now and then as many as there can be.
+    let most_often = if limits.slots == MAX_SLOTS { 3 } else { 1 }; // of six
     let mut count =
-        |least: usize, most: usize| if rng.chance(1, 6) { most } else { least + rng.below(most - least + 1) };
+        |least: usize, most: usize| if rng.chance(most_often, 6) { most } else { least + rng.below(most - least + 1) };
     let processes = count(cells, limits.slots);
     let segments = count(0, limits.slots);
     let files = count(0, limits.slots.min(limits.store_blocks / blocks));
@@ -324,10 +325,14 @@ fn holdings(rng: &mut Rng, mood: &Mood, world: &mut World, shape: &Shape, proces
             world.set_entry(shape, process, DESCRIPTORS, place, (seid, modes));
         }
         if !segments.is_empty() && (full || rng.chance(mood.entries, 8)) {
-            // The first of some draws that is not held already.
+            // The first of some draws that is not held already; now and then it is 64 slots from the last one that is.
+            let (last, _) = world.entry(shape, process, DESIGNATORS, place.saturating_sub(1));
+            let apart = Seid::of(last).index ^ 64;
+            let apart = segments.contains(&apart).then_some(apart);
             let seid = (0..8)
                 .map(|_| {
-                    let segment = rng.pick(&segments);
+                    let drawn = rng.pick(&segments);
+                    let segment = apart.filter(|_| rng.chance(1, 4)).unwrap_or(drawn);
                     held(rng, world, shape, Kind::Segment, segment, cell)
                 })
                 .find(|&seid| (0..place).all(|earlier| world.entry(shape, process, DESIGNATORS, earlier).0 != seid));
