@@ -78,11 +78,11 @@ fn count(t: &[u32]) -> u32
     }
 }
 
-// Each cell's level, read once.
-fn levels(t: &[u32], n: u32) -> [Level; MAX_CELLS]
-    requires { ⌜ n ≡ min (getD (now t) 0 0) maxCells ⌝ }
+// Each cell's level, read once; past the last cell they read as 0.
+pub fn levels(t: &[u32]) -> [Level; MAX_CELLS]
     ensures { λ r. ⌜ r ≡ tabFrom 0 maxCells (λ c. codeLevel (levelOf (configuration (now (t .entry))) c)) ⌝ }
 {
+    let n = count(t);
     let mut all = [Level {
         security: 0,
         integrity: 0,
@@ -96,12 +96,13 @@ fn levels(t: &[u32], n: u32) -> [Level; MAX_CELLS]
     all
 }
 
-// Which cell may flow to which: made at the start of a call and handed round whole.
+// Which cell may flow to which: made at the start of a call and handed round whole. "Reading needs flow from object to process": row c says of each cell whether it
+// may read what c holds.
 pub fn flow_matrix(t: &[u32]) -> [[bool; MAX_CELLS]; MAX_CELLS]
     ensures { λ r. ⌜ r ≡ flowMatrix (configuration (now (t .entry))) ⌝ }
 {
     let cells = count(t);
-    let all = levels(t, cells);
+    let all = levels(t);
     let n = cells as usize;
     let mut m = [[false; MAX_CELLS]; MAX_CELLS];
     let mut c = 0;
@@ -110,7 +111,7 @@ pub fn flow_matrix(t: &[u32]) -> [[bool; MAX_CELLS]; MAX_CELLS]
         let mut d = 0;
         while d < n {
             let level = all[d];
-            m[c][d] = from.flows_to(level);
+            m[c][d] = level.flows_from(from);
             d += 1;
         }
         c += 1;

@@ -21,6 +21,9 @@ Level-flows-from = (λ κs a. tt, λ κs a z z′ w w′ p q. (one p q, refl))
 pub level-at : Exact code.level_at.Kinds.ps code.level_at.Kinds.r code.level_at.Reads.Asked code.level_at.Reads.Learnt
 level-at = (λ κs a. tt, λ κs a z z′ w w′ p q. (one-level (one p q), refl))
 
+pub levels : Exact code.levels.Kinds.ps code.levels.Kinds.r code.levels.Reads.Asked code.levels.Reads.Learnt
+levels = (λ κs a. tt, λ κs a z z′ w w′ p q. (one p q, refl))
+
 pub flow-matrix : Exact code.flow_matrix.Kinds.ps code.flow_matrix.Kinds.r code.flow_matrix.Reads.Asked code.flow_matrix.Reads.Learnt
 flow-matrix = (λ κs a. tt, λ κs a z z′ w w′ p q. (one p q, refl))
 

@@ -1,6 +1,6 @@
 -- A live process: its parent, its designators, its messages, its pages.
 use mathlib.Core.Path.{_≡_, refl, sym, _∙_}
-use mathlib.Core.Bool.{Bool, true, false, _&&_, _||_, not}
+use mathlib.Core.Bool.{Bool, true, false, _&&_, _||_, not, and-assoc}
 use mathlib.Core.List.{List}
 use Prim.Native.Nat.{ℕ, _-_, _≤_, _<_}
 use native.Mathlib.Omega.{arith}
@@ -79,10 +79,6 @@ module _ (r : Addr → ℕ) (p g : ℕ) where
 -- the entries of process p for objects of kind k
 abbrev pub entriesOk : List ℕ → (Addr → ℕ) → Kind → ℕ → Claim
 entriesOk h r k p = each entries (λ d. entryOk h r k (cellOf h process p) (r (at process p (heldAt k d))) (r (at process p (usedAt k d))))
-
-and-assoc : (a b c : Bool) → (a && b) && c ≡ a && (b && c)
-and-assoc true b c = refl
-and-assoc false b c = refl
 
 module _ (t : List ℕ) (n : Header) (shaped : Shaped t n) (p place : ℕ) (lies : RecordAt n process p place) where
   pages-read : test (each pages (pageOk (recordAt t place) 0)) ≡ test (each pages (pageOk (rd (configuration t) t) p))

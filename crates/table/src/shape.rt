@@ -1,12 +1,10 @@
 // The table's shape: its header, its lengths and its cells. Set-up judges this much and no more.
 ghost use mathlib.Core.Path.{_≡_};
-ghost use mathlib.Core.Bool.{not};
 ghost use Prim.Native.Nat.{_+_, _*_, _≤_, _<_};
 ghost use lib.ListN.{length, getD};
-ghost use Rattle.rules.specs.Words.{allBelow, sumBelow};
+ghost use Rattle.rules.specs.Words.{sumBelow};
 ghost use Rattle.rules.specs.Claim.{test, each, _&_};
-ghost use Rattle.rules.specs.Level.{equals};
-ghost use Rattle.rules.specs.Layout.{headerWords, cellWords, cells, cellWord, levelOf, configuration};
+ghost use Rattle.rules.specs.Layout.{headerWords, cellWords, cells, cellWord, configuration};
 ghost use Rattle.rules.specs.WellFormed.{headerOk, cellOk, levelsDistinct, sumsMatch, lengthsExact};
 ghost use Rattle.rules.specs.SetUp.{canSetUp};
 ghost use Rattle.table.specs.Shape.{IsHeader, Small, Framed};
@@ -26,12 +24,10 @@ use rules::MAX_OWNER;
 use rules::MAX_SLOTS;
 use words::wide;
 
-// The words of a cell's level.
+// The two categories of a cell's level.
 const SECURITY: usize = 0;
 
 const INTEGRITY: usize = 1;
-
-const COMPARTMENTS: usize = 2;
 
 fn header_ok(t: &[u32], n: Header) -> bool
     requires { ⌜ (headerWords ≤ length (now t)) × IsHeader (now t) n ⌝ }
@@ -74,35 +70,19 @@ fn cells_ok(t: &[u32], n: Header) -> bool
     ok
 }
 
-fn same_level(t: &[u32], c: usize, d: usize) -> bool
-    requires { ⌜ (c < d) × (d < getD (now t) 0 0) × (headerWords + cellWords * d + cellWords ≤ length (now t)) ⌝ }
-    ensures { λ r. ⌜ r ≡ equals (levelOf (configuration (now (t .entry))) c) (levelOf (configuration (now (t .entry))) d) ⌝ }
-{
-    let a = HEADER_WORDS + CELL_WORDS * c;
-    let b = HEADER_WORDS + CELL_WORDS * d;
-    (t[a + SECURITY] == t[b + SECURITY])
-        & ((t[a + INTEGRITY] == t[b + INTEGRITY]) & (t[a + COMPARTMENTS] == t[b + COMPARTMENTS]))
-}
-
-// Whether no cell before d has d's level.
-fn level_fresh(t: &[u32], d: usize) -> bool
-    requires { ⌜ (d < getD (now t) 0 0) × (headerWords + cellWords * d + cellWords ≤ length (now t)) ⌝ }
-    ensures { λ r. ⌜ r ≡ allBelow d (λ c. not (equals (levelOf (configuration (now (t .entry))) c) (levelOf (configuration (now (t .entry))) d))) ⌝ }
-{
-    let mut ok = true;
-    for c in 0..d {
-        ok = ok & !same_level(t, c, d);
-    }
-    ok
-}
-
+// Whether no two cells have one level: each is compared with those before it.
 fn levels_distinct(t: &[u32], n: Header) -> bool
     requires { ⌜ Framed (now t) n ⌝ }
     ensures { λ r. ⌜ r ≡ test (levelsDistinct (configuration (now (t .entry)))) ⌝ }
 {
+    let all = levels::levels(t);
     let mut ok = true;
     for d in 0..wide(n.cells) {
-        ok = ok & level_fresh(t, d);
+        let mine = all[d];
+        for c in 0..d {
+            let other = all[c];
+            ok = ok & !other.equals(mine);
+        }
     }
     ok
 }

@@ -49,8 +49,8 @@ mul-level c = search needs
 array-copy-out-level : tie.Need-array-copy-out-level Inv-loop2 μ-loop2 Inv-loop μ-loop
 array-copy-out-level c = search needs
 
-flows-to-requires : tie.Need-flows-to-requires Inv-loop2 μ-loop2 Inv-loop μ-loop
-flows-to-requires c κs = search needs
+flows-from-requires : tie.Need-flows-from-requires Inv-loop2 μ-loop2 Inv-loop μ-loop
+flows-from-requires c κs = search needs
 
 mul-m : tie.Need-mul-m Inv-loop2 μ-loop2 Inv-loop μ-loop
 mul-m c = search needs
@@ -68,7 +68,7 @@ loop2-less : tie.Need-loop2-less Inv-loop2 μ-loop2 Inv-loop μ-loop
 loop2-less c = search needs
 
 loop2-again : tie.Need-loop2-again Inv-loop2 μ-loop2 Inv-loop μ-loop
-loop2-again c = (omega arith, row-more _ _ (c .before .before .before .before .before .before .before .levels .result) _ _ _ _ (omega arith) (omega arith) (c .before .before .before .loop2 .inv .1) (c .flows-to .ensures))
+loop2-again c = (omega arith, row-more _ _ (c .before .before .before .before .before .before .before .levels .result) _ _ _ _ (omega arith) (omega arith) (c .before .before .before .loop2 .inv .1) (c .flows-from .ensures))
 
 add-c : tie.Need-add-c Inv-loop2 μ-loop2 Inv-loop μ-loop
 add-c c = search needs
@@ -99,7 +99,7 @@ flow-matrix-spec =
     loop2-holds
     mul-level
     array-copy-out-level
-    flows-to-requires
+    flows-from-requires
     mul-m
     index-1-m
     index-2-m

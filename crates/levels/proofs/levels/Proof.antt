@@ -17,6 +17,9 @@ Inv-loop t n all₀ c₀ all c = (c ≤ n) × (all ≡ tabFrom 0 maxCells (upTo 
 abbrev μ-loop : tie.MeasureT-loop
 μ-loop t n all₀ c₀ all c = n - c
 
+count-requires : tie.Need-count-requires Inv-loop μ-loop
+count-requires c κs = search needs
+
 loop-holds : tie.Need-loop-holds Inv-loop μ-loop
 unfolding tabFrom
 loop-holds c = (omega arith, refl)
@@ -42,13 +45,13 @@ loop-less c = search needs
 loop-again : tie.Need-loop-again Inv-loop μ-loop
 loop-again c = (
   omega arith,
-  upTo-more nil (levelIn (c .before .before .before .before .args .t .now)) maxCells _ _ _ (omega arith)
+  upTo-more nil (levelIn (c .before .before .before .before .before .args .t .now)) maxCells _ _ _ (omega arith)
       (c .before .before .loop .inv .1)
       (ap codeLevel (c .level-at .ensures)),
 )
 
 returns : tie.Need-returns Inv-loop μ-loop
-returns c = levels-all _ _ _ _ (c .before .before .before .pre) (c .loop-test .left) (c .before .loop .inv .1)
+returns c = levels-all _ _ _ _ (c .before .before .count .ensures) (c .loop-test .left) (c .before .loop .inv .1)
 
 pub levels-spec : {M : Type 1} → statement M
 levels-spec =
@@ -56,6 +59,7 @@ levels-spec =
     (tie.spec
     Inv-loop
     μ-loop
+    count-requires
     loop-holds
     level-at-requires
     cast-all

@@ -1,56 +1,134 @@
--- `shape::levels_distinct` meets its contract: `ok` says that every cell passed has a level of its own.
+-- `shape::levels_distinct` meets its contract: `ok` says that every cell passed has a level of its own, and that this one differs from those before it that are passed.
 use native.Mathlib.Omega.{arith}
-use mathlib.Core.Path.{_≡_, sym, _∙_}
-use mathlib.Core.Bool.{not}
-use Prim.Native.Nat.{_≤_, _-_}
+use mathlib.Core.Path.{_≡_, sym, ap, ap₂, _∙_}
+use mathlib.Core.Bool.{Bool, _&&_, not}
+use mathlib.Core.List.{List}
+use Prim.Native.Nat.{ℕ, _≤_, _<_, _-_}
+use lib.ListN.{getD}
 use Rattle.rules.specs.Words.{allBelow}
 use Rattle.rules.specs.Level.{equals}
-use Rattle.rules.specs.Layout.{cells, levelOf, configuration}
+use Rattle.rules.specs.Layout.{maxCells, cells, levelOf, configuration}
 use Rattle.rules.specs.WellFormed.{levelsDistinct}
-use Rattle.table.proofs.Loops.{all-first, all-next, all-last}
+use Rattle.laws.proofs.Fill.{tab-at}
+use Rattle.levels.specs.declared.Level.{Level}
+use Rattle.levels.specs.Rule.{ruleLevel}
+use Rattle.table.proofs.Loops.{all-first, all-last, pairsBelow, pair-first, pair-next, pair-last}
 use Rattle.table.proofs.Config.{cells-read}
 use borrow.Author.Needs.{needs}
 use Rattle.table.proofs.shape.levels_distinct.Statement.{statement}
 use Rattle.table.proofs.shape.levels_distinct.Tie as tie
 
+-- the level of cell c is not that of cell d
+abbrev differ : List ℕ → ℕ → ℕ → Bool
+differ t d c = not (equals (levelOf (configuration t) c) (levelOf (configuration t) d))
+
+abbrev Inv-loop2 : tie.InvT-loop2
+Inv-loop2 t all ok₀ d mine c₀ d-end ok c = (c ≤ d) × (ok ≡ pairsBelow (differ t) d && allBelow c (differ t d))
+
+abbrev μ-loop2 : tie.MeasureT-loop2
+μ-loop2 t all ok₀ d mine c₀ d-end ok c = d - c
+
 abbrev Inv-loop : tie.InvT-loop
-Inv-loop t ok₀ d₀ d-end ok d = (d ≤ d-end) × (d-end ≡ cells (configuration t)) × (ok ≡ allBelow d (λ d. allBelow d (λ c. not (equals (levelOf (configuration t) c) (levelOf (configuration t) d)))))
+Inv-loop t all ok₀ d₀ d-end ok d = (d ≤ d-end) × (d-end ≡ cells (configuration t)) × (d-end ≤ maxCells) × (ok ≡ pairsBelow (differ t) d)
 
 abbrev μ-loop : tie.MeasureT-loop
-μ-loop t ok₀ d₀ d-end ok d = d-end - d
+μ-loop t all ok₀ d₀ d-end ok d = d-end - d
 
-wide-requires : tie.Need-wide-requires Inv-loop μ-loop
+-- the level that was read is the cell's
+level-is : (c : tie.After-levels Inv-loop2 μ-loop2 Inv-loop μ-loop) (i : ℕ) (none : Level) → i < maxCells
+    → ruleLevel (getD (c .levels .result) i none) ≡ levelOf (configuration (c .before .before .args .t .now)) i
+level-is c i none l = ap (λ (l : List Level). ruleLevel (getD l i none)) (c .levels .ensures) ∙ ap ruleLevel (tab-at maxCells _ i none l)
+
+levels-requires : tie.Need-levels-requires Inv-loop2 μ-loop2 Inv-loop μ-loop
+levels-requires c κs = search needs
+
+wide-requires : tie.Need-wide-requires Inv-loop2 μ-loop2 Inv-loop μ-loop
 wide-requires c κs = search needs
 
-loop-holds : tie.Need-loop-holds Inv-loop μ-loop
-loop-holds c = (search needs, c .wide .ensures ∙ sym (cells-read _ _ (c .before .before .pre .header)), all-first _)
+loop-holds : tie.Need-loop-holds Inv-loop2 μ-loop2 Inv-loop μ-loop
+loop-holds c =
+    let framed = c .before .before .before .pre in (
+      search needs,
+      c .wide .ensures ∙ sym (cells-read _ _ (framed .header)),
+      omega (arith, c .wide .ensures, framed .small .few-cells),
+      all-first _,
+    )
 
-level-fresh-requires : tie.Need-level-fresh-requires Inv-loop μ-loop
-level-fresh-requires c κs =
-    (omega (arith, c .before .before .wide .ensures, c .loop-test .taken, c .before .before .before .before .pre .header .cells-is), omega (arith, c .before .before .wide .ensures, c .loop-test .taken, c .before .before .before .before .pre .exact))
+mul-mine : tie.Need-mul-mine Inv-loop2 μ-loop2 Inv-loop μ-loop
+mul-mine c = omega (arith, c .before .loop .inv .2, c .loop-test .taken)
 
-add-d : tie.Need-add-d Inv-loop μ-loop
+array-copy-out-mine : tie.Need-array-copy-out-mine Inv-loop2 μ-loop2 Inv-loop μ-loop
+array-copy-out-mine c = omega (arith, c .before .loop .inv .2, c .loop-test .taken)
+
+loop2-holds : tie.Need-loop2-holds Inv-loop2 μ-loop2 Inv-loop μ-loop
+loop2-holds c = (search needs, pair-first (differ (c .before .before .before .before .before .before .args .t .now)) _ (c .before .before .loop .inv .3))
+
+mul-other : tie.Need-mul-other Inv-loop2 μ-loop2 Inv-loop μ-loop
+mul-other c = omega (arith, c .before .before .before .before .loop .inv .2, c .before .before .before .loop-test .taken, c .loop2-test .taken)
+
+array-copy-out-other : tie.Need-array-copy-out-other Inv-loop2 μ-loop2 Inv-loop μ-loop
+array-copy-out-other c = omega (arith, c .before .before .before .before .loop .inv .2, c .before .before .before .loop-test .taken, c .loop2-test .taken)
+
+equals-requires : tie.Need-equals-requires Inv-loop2 μ-loop2 Inv-loop μ-loop
+equals-requires c κs = search needs
+
+add-c : tie.Need-add-c Inv-loop2 μ-loop2 Inv-loop μ-loop
+add-c c = search needs
+
+loop2-less : tie.Need-loop2-less Inv-loop2 μ-loop2 Inv-loop μ-loop
+loop2-less c = search needs
+
+loop2-again : tie.Need-loop2-again Inv-loop2 μ-loop2 Inv-loop μ-loop
+loop2-again c =
+    let at-loop2 = c .before .before .before in let at-loop = at-loop2 .before .before .before in let at-levels = at-loop .before .before in
+    let d = at-loop .loop .d in
+    let i = at-loop2 .loop2 .c in
+    let low : d < maxCells = omega (arith, at-loop .loop .inv .2, at-loop2 .before .before .loop-test .taken) in
+    let lower : i < maxCells = omega (arith, c .before .before .loop2-test .taken, low) in (
+      search needs,
+      pair-next (differ (at-levels .before .before .args .t .now)) d i (at-loop2 .loop2 .inv .1)
+          (ap not (c .equals .ensures ∙ ap₂ equals (level-is at-levels i _ lower) (level-is at-levels d _ low))),
+    )
+
+add-d : tie.Need-add-d Inv-loop2 μ-loop2 Inv-loop μ-loop
 add-d c = search needs
 
-loop-less : tie.Need-loop-less Inv-loop μ-loop
+loop-less : tie.Need-loop-less Inv-loop2 μ-loop2 Inv-loop μ-loop
 loop-less c = search needs
 
-loop-again : tie.Need-loop-again Inv-loop μ-loop
-loop-again c = (search needs, search needs, all-next _ (c .before .before .loop .inv .2) (c .level-fresh .ensures))
+loop-again : tie.Need-loop-again Inv-loop2 μ-loop2 Inv-loop μ-loop
+loop-again c =
+    let at-loop = c .before .before .before .before in (
+      search needs,
+      search needs,
+      search needs,
+      pair-last (differ (at-loop .before .before .before .before .args .t .now)) _ _ (c .before .loop2 .inv .1) (c .before .loop2 .inv .0) (c .loop2-test .left),
+    )
 
-returns : tie.Need-returns Inv-loop μ-loop
+returns : tie.Need-returns Inv-loop2 μ-loop2 Inv-loop μ-loop
 unfolding levelsDistinct
-returns c = all-last _ (c .before .loop .inv .2) (c .before .loop .inv .0) (c .loop-test .left) (c .before .loop .inv .1)
+returns c = all-last _ (c .before .loop .inv .3) (c .before .loop .inv .0) (c .loop-test .left) (c .before .loop .inv .1)
 
 pub levels-distinct-spec : {M : Type 1} → statement M
 levels-distinct-spec =
     tie.close
     (tie.spec
+    Inv-loop2
+    μ-loop2
     Inv-loop
     μ-loop
+    levels-requires
     wide-requires
     loop-holds
-    level-fresh-requires
+    mul-mine
+    array-copy-out-mine
+    loop2-holds
+    mul-other
+    array-copy-out-other
+    equals-requires
+    add-c
+    loop2-less
+    loop2-again
     add-d
     loop-less
     loop-again
