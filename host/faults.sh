@@ -32,8 +32,8 @@ names=("$@")
 
 ./stand-in.sh "$work/sound" || exit 2
 failed=0
-for trial in differential secrecy replay; do
-    TRIAL_CALLS=20000 TRIAL_RUNS=300 TRIAL_SCRIPTS=100 try sound "$trial"
+for trial in differential secrecy images replay; do
+    TRIAL_CALLS=20000 TRIAL_RUNS=300 TRIAL_SCRIPTS=100 TRIAL_IMAGES=20 try sound "$trial"
     [ $? = 0 ] || { echo "the sound stand-in fails $trial: see host/$work/sound/$trial.log"; exit 1; }
 done
 

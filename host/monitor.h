@@ -4,8 +4,8 @@
  * Lent memory. A table is one array of 32-bit words, a store one array of bytes; document 01 gives their layout, and
  * MONITOR_TABLE_WORDS and MONITOR_STORE_BYTES their lengths. The host owns them and lends them for the length of a call: the library
  * keeps nothing, takes no memory and prints nothing. Any lengths and any contents may be given: what is not a well-formed table is
- * refused. A pointer must be good for the length beside it; with length 0 it must still not be NULL. Table, store and buffer must
- * not overlap.
+ * refused. A pointer must be good for the length beside it; with length 0 it must still not be NULL. Table, store, and buffer or image
+ * must not overlap.
  *
  * Threads. The library has no state of its own, so calls on different tables may be made at once. Two calls at once on one table are
  * the host's fault: it must keep them apart, by a lock or by having one thread make them.
@@ -110,6 +110,9 @@ enum monitor_error {
      MONITOR_SEGMENT_WORDS * (size_t)(segments) + MONITOR_FILE_WORDS * (size_t)(files))
 #define MONITOR_STORE_BYTES(files, blocks) ((size_t)(files) * (size_t)(blocks) * MONITOR_BLOCK_BYTES)
 
+/* No image is longer: a word takes up to five bytes. monitor_image_length tells the exact length. */
+#define MONITOR_IMAGE_BYTES(words, bytes) (5 * (size_t)(words) + (size_t)(bytes))
+
 /* Identifiers: a class (process, segment or file), a slot and a serial that counts the slot's uses. 0 is the caller. */
 #define MONITOR_CLASS_PROCESS 4
 #define MONITOR_CLASS_SEGMENT 5
@@ -136,6 +139,28 @@ uint32_t monitor_check(const uint32_t *table, size_t words, size_t store_bytes);
 monitor_answer monitor_call(uint32_t *table, size_t words, uint8_t *store, size_t bytes,
                             uint32_t caller, uint32_t code, uint32_t a, uint32_t b, uint32_t c,
                             uint8_t *buffer, size_t length);
+
+/*
+ * The evening image: every word of the table in seven-bit groups, the low group first and the high bit on all but the last, then the
+ * store's bytes. Its exact length; 0 if the table is bad.
+ */
+size_t monitor_image_length(const uint32_t *table, size_t words, size_t store_bytes);
+
+/*
+ * Writes the image to the front of `out`; what is past it stays. 0; or 1 for a bad table, then 5 if `length` is too short, and `out`
+ * stays as it was.
+ */
+uint32_t monitor_image(const uint32_t *table, size_t words, const uint8_t *store, size_t bytes, uint8_t *out, size_t length);
+
+/*
+ * The morning reload: table and store as the image has them, whatever stood there; `length` is the image's own. 0; or 4 for an image
+ * that is cut, has bytes over, breaks the number form, is not well formed, or is of other lengths than the table and the store lent,
+ * and nothing is touched. The words are judged on the stack before the table is written: 4 bytes for each word of the largest table,
+ * 4 * MONITOR_TABLE_WORDS(MONITOR_MAX_CELLS, MONITOR_MAX_SLOTS, MONITOR_MAX_SLOTS, MONITOR_MAX_SLOTS), and a little more.
+ *
+ * A reload is no call: it takes history back. Identifiers are single, and nothing flows down, between reloads only.
+ */
+uint32_t monitor_reload(uint32_t *table, size_t words, uint8_t *store, size_t bytes, const uint8_t *image, size_t length);
 
 /* The name of an error number, as the documents spell it and replay writes it; "?" if there is none. */
 static inline const char *monitor_error_name(uint32_t error)

@@ -13,7 +13,9 @@ if [ $# -gt 0 ]; then
     export MONITOR_LIB_DIR=$folder MONITOR_REPLAY=$folder/replay LD_LIBRARY_PATH=$folder
 fi
 cargo test --release --offline --locked
-cargo run --release --offline --locked --quiet --example night_log | diff - examples/night_log.txt
+for example in night_log sunday; do
+    cargo run --release --offline --locked --quiet --example "$example" | diff - "examples/$example.txt"
+done
 RUSTDOCFLAGS="-D warnings" cargo doc --offline --locked --quiet --no-deps --package monitor
 ./faults.sh --drawn 15
 echo "host: all tests passed"

@@ -51,6 +51,11 @@ pub const fn store_bytes(files: usize, blocks: usize) -> usize {
     files * blocks * BLOCK_BYTES
 }
 
+/// No image of a table of that many words and a store of that many bytes is longer: a word takes up to five bytes.
+pub const fn image_bytes(words: usize, bytes: usize) -> usize {
+    5 * words + bytes
+}
+
 /// Words of the header.
 pub mod header {
     /// The number of cells.

@@ -21,8 +21,8 @@
 //! # Ok::<(), Error>(())
 //! ```
 //!
-//! [`setup`], [`well_formed`] and [`call`] are the library's functions over slices, for hosts that keep their own memory or hand
-//! calls through by their numbers:
+//! [`setup`], [`well_formed`], [`call`], [`image`] and [`reload`] are the library's functions over slices, for hosts that keep their
+//! own memory or hand calls through by their numbers:
 //!
 //! ```
 //! use monitor::{Cell, Code, Error, Hall};
@@ -55,7 +55,7 @@ pub use code::Code;
 pub use error::Error;
 pub use hall::{Cell, Hall, Level};
 pub use owner::{Caller, Descriptor, Designator, Monitor, Page};
-pub use raw::{Answer, call, setup, well_formed};
+pub use raw::{Answer, call, image, image_length, reload, setup, well_formed};
 pub use rights::{Access, Bits, Modes};
 pub use seid::{Kind, Seid};
 pub use told::{Message, Status};

@@ -63,7 +63,7 @@ pub struct Page(pub u32);
 ///
 /// # Memory
 ///
-/// Set-up allocates the table and the store; no call allocates.
+/// Set-up allocates the table and the store, and [`image`](Monitor::image) its bytes; no call allocates.
 #[derive(Clone, PartialEq, Eq)]
 pub struct Monitor {
     table: Box<[u32]>,
@@ -112,6 +112,36 @@ impl Monitor {
     /// Whether the table is well formed. After set-up and calls alone it always is.
     pub fn well_formed(&self) -> bool {
         raw::well_formed(&self.table, self.store.len())
+    }
+
+    /// The image of table and store: the bytes to keep over a Sunday, as many as [`image_length`](crate::image_length) says. Refused
+    /// with XbTab only if the table was changed by hand.
+    ///
+    /// ```
+    /// use monitor::{Cell, Error, Hall, Monitor};
+    ///
+    /// let hall = Hall { blocks: 1, cells: vec![Cell { processes: 1, files: 1, ..Cell::default() }] };
+    /// let evening = Monitor::set_up(&hall)?;
+    /// let mut image = evening.image()?;
+    /// let mut morning = Monitor::set_up(&hall)?;
+    /// morning.reload(&image)?;
+    /// assert_eq!(morning, evening);
+    /// image.pop();
+    /// assert_eq!(morning.reload(&image), Err(Error::XbParam));
+    /// # Ok::<(), Error>(())
+    /// ```
+    pub fn image(&self) -> Result<Vec<u8>, Error> {
+        let length = raw::image_length(&self.table, self.store.len()).ok_or(Error::XbTab)?;
+        let mut bytes = vec![0; length];
+        raw::image(&self.table, &self.store, &mut bytes)?;
+        Ok(bytes)
+    }
+
+    /// Table and store as an image has them; an image that is not one of a hall of these lengths is refused with XbParam, and
+    /// nothing is touched. A reload is no call: it takes history back, so an identifier that was handed out since the image may be
+    /// handed out again.
+    pub fn reload(&mut self, image: &[u8]) -> Result<(), Error> {
+        raw::reload(&mut self.table, &mut self.store, image)
     }
 
     /// Any call, by its numbers: for hosts that hand calls through.

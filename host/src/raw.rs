@@ -22,6 +22,23 @@ mod c {
             buffer: *mut u8,
             length: usize,
         ) -> Answer;
+        pub fn monitor_image_length(table: *const u32, words: usize, store_bytes: usize) -> usize;
+        pub fn monitor_image(
+            table: *const u32,
+            words: usize,
+            store: *const u8,
+            bytes: usize,
+            out: *mut u8,
+            length: usize,
+        ) -> u32;
+        pub fn monitor_reload(
+            table: *mut u32,
+            words: usize,
+            store: *mut u8,
+            bytes: usize,
+            image: *const u8,
+            length: usize,
+        ) -> u32;
     }
 }
 
@@ -83,4 +100,33 @@ pub fn call(
             buffer.len(),
         )
     }
+}
+
+/// The length of the image of a table and a store of that length; None if the table is not well formed.
+pub fn image_length(table: &[u32], store_bytes: usize) -> Option<usize> {
+    // SAFETY: pointer and length are those of a slice; the library only reads it.
+    let length = unsafe { c::monitor_image_length(table.as_ptr(), table.len(), store_bytes) };
+    (length != 0).then_some(length)
+}
+
+/// Writes the image of table and store to the front of `out`; what is past its length stays. A bad table is refused with XbTab,
+/// then an `out` that is too short with XbSz, and `out` stays as it was.
+pub fn image(table: &[u32], store: &[u8], out: &mut [u8]) -> Result<(), Error> {
+    // SAFETY: the pointers and lengths are those of three slices, of which the library only reads two; the third is lent to this
+    // call alone, so it overlaps neither. Any lengths and contents are allowed.
+    Error::told(unsafe {
+        c::monitor_image(table.as_ptr(), table.len(), store.as_ptr(), store.len(), out.as_mut_ptr(), out.len())
+    })
+}
+
+/// Table and store as an image has them. One that is cut, has bytes over, breaks the number form, is not well formed, or is of
+/// other lengths than the slices, is refused with XbParam, and nothing is touched.
+///
+/// A reload is no call: it takes history back. What is promised of identifiers and of levels holds between reloads.
+pub fn reload(table: &mut [u32], store: &mut [u8], image: &[u8]) -> Result<(), Error> {
+    // SAFETY: the pointers and lengths are those of three slices, of which the library only reads the last; the others are lent to
+    // this call alone, so none overlaps another. Any lengths and contents are allowed.
+    Error::told(unsafe {
+        c::monitor_reload(table.as_mut_ptr(), table.len(), store.as_mut_ptr(), store.len(), image.as_ptr(), image.len())
+    })
 }

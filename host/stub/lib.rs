@@ -1,7 +1,7 @@
-//! A stand-in for the proved library: the plain monitor behind the three C functions. It serves to try out the tests themselves,
+//! A stand-in for the proved library: the plain monitor behind the C functions. It serves to try out the tests themselves,
 //! sound and with faults put in (see faults.sh); it is no part of what is delivered.
 
-use plain::{Request, call, check, setup};
+use plain::{Request, call, check, image, image_length, reload, setup};
 use std::slice::{from_raw_parts, from_raw_parts_mut};
 
 #[repr(C)]
@@ -46,4 +46,41 @@ pub unsafe extern "C" fn monitor_call(
     };
     let answer = call(table, store, &Request { caller, code, a, b, c }, buffer);
     Answer { error: answer.error as u32, first: answer.first, second: answer.second }
+}
+
+/// # Safety
+/// As monitor.h says.
+#[unsafe(no_mangle)]
+pub unsafe extern "C" fn monitor_image_length(table: *const u32, words: usize, store_bytes: usize) -> usize {
+    image_length(unsafe { from_raw_parts(table, words) }, store_bytes)
+}
+
+/// # Safety
+/// As monitor.h says.
+#[unsafe(no_mangle)]
+pub unsafe extern "C" fn monitor_image(
+    table: *const u32,
+    words: usize,
+    store: *const u8,
+    bytes: usize,
+    out: *mut u8,
+    length: usize,
+) -> u32 {
+    let (table, store) = unsafe { (from_raw_parts(table, words), from_raw_parts(store, bytes)) };
+    image(table, store, unsafe { from_raw_parts_mut(out, length) }) as u32
+}
+
+/// # Safety
+/// As monitor.h says.
+#[unsafe(no_mangle)]
+pub unsafe extern "C" fn monitor_reload(
+    table: *mut u32,
+    words: usize,
+    store: *mut u8,
+    bytes: usize,
+    image: *const u8,
+    length: usize,
+) -> u32 {
+    let (table, store) = unsafe { (from_raw_parts_mut(table, words), from_raw_parts_mut(store, bytes)) };
+    reload(table, store, unsafe { from_raw_parts(image, length) }) as u32
 }

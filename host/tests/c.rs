@@ -44,6 +44,23 @@ fn first_call_in_cpp() {
     assert_eq!(run("g++", &words, &here().join("c/first_call.c"), "first_call_cpp"), FIRST_CALL);
 }
 
+const SUNDAY: &str = "with a byte less: XbSz
+written: XOK
+create a file: XOK, seid 2164260865
+cut: XbParam
+reload: XOK
+create a file: XOK, seid 2164260865
+";
+
+#[test]
+fn sunday_in_c99_and_cpp() {
+    let source = here().join("c/sunday.c");
+    let length = table_words(1, 1, 0, 1) + store_bytes(1, 1) + 1; // every word of this hall is below 128, but 438, the first process's bits
+    let expected = format!("the image has {length} bytes\n{SUNDAY}");
+    assert_eq!(run("gcc", &["-std=c99"], &source, "sunday"), expected);
+    assert_eq!(run("g++", &["-std=c++11", "-x", "c++"], &source, "sunday_cpp"), expected);
+}
+
 /// A name in capitals with words parted: `CreateFile` is CREATE_FILE.
 fn capitals(name: &str) -> String {
     let mut out = String::new();
@@ -120,6 +137,7 @@ int main(void)
         printf(\"%s\\n\", monitor_error_name(error));
     printf(\"%zu %zu\\n\", MONITOR_TABLE_WORDS(3, 5, 7, 11), MONITOR_STORE_BYTES(11, 13));
     printf(\"%lu\\n\", (unsigned long)MONITOR_SEID(MONITOR_CLASS_FILE, 2, 65535));
+    printf(\"%zu\\n\", MONITOR_IMAGE_BYTES(7, 11));
     return 0;
 }
 ";
@@ -132,5 +150,6 @@ int main(void)
     let mut expected: String = (0..64).map(|number| name(number).to_string() + "\n").collect();
     expected += &format!("{} {}\n", table_words(3, 5, 7, 11), store_bytes(11, 13));
     expected += &format!("{}\n", u32::from(monitor::Seid::new(Kind::File, 2, 65535)));
+    expected += &format!("{}\n", image_bytes(7, 11));
     assert_eq!(told, expected);
 }

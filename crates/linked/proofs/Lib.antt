@@ -1,3 +1,4 @@
 -- What is so of the code that a host links.
 pub mod Made
 pub mod Demand3
+pub mod Image

@@ -5,6 +5,7 @@ ghost use Rattle.rules.specs.Claim.{test};
 ghost use Rattle.rules.specs.WellFormed.{wellFormed};
 ghost use Rattle.rules.specs.SetUp.{setUpAnswer, setUpTable};
 ghost use Rattle.rules.specs.Step.{step};
+ghost use Rattle.rules.specs.Image.{imageLength, imageAnswer, imageOut, reloadAnswer, reloadTable, reloadStore};
 ghost use Rattle.calls.specs.Did.{Did, stateOf, callOf};
 use calls::Answer;
 
@@ -44,4 +45,28 @@ pub extern "C" fn monitor_call(
     ensures { λ r. ⌜ Did (step (stateOf (now (table .entry)) (now (store .entry))) (callOf caller code a b c (now (buffer .entry)))) r (now (table .exit)) (now (store .exit)) (now (buffer .exit)) ⌝ }
 {
     calls::call(table, store, caller, code, a, b, c, buffer)
+}
+
+#[no_mangle]
+pub extern "C" fn monitor_image_length(table: &[u32], store_bytes: usize) -> usize
+    ensures { λ r. ⌜ r ≡ imageLength (now (table .entry)) «store_bytes» ⌝ }
+{
+    image::image_length(table, store_bytes)
+}
+
+#[no_mangle]
+pub extern "C" fn monitor_image(table: &[u32], store: &[u8], out: &mut [u8]) -> u32
+    ensures { λ r. ⌜ r ≡ imageAnswer (now (table .entry)) (now (store .entry)) (now (out .entry)) ⌝ }
+    ensures { λ _. ⌜ now (out .exit) ≡ imageOut (now (table .entry)) (now (store .entry)) (now (out .entry)) ⌝ }
+{
+    image::image(table, store, out)
+}
+
+#[no_mangle]
+pub extern "C" fn monitor_reload(table: &mut [u32], store: &mut [u8], image: &[u8]) -> u32
+    ensures { λ r. ⌜ r ≡ reloadAnswer (now (table .entry)) (now (store .entry)) (now (image .entry)) ⌝ }
+    ensures { λ _. ⌜ now (table .exit) ≡ reloadTable (now (table .entry)) (now (store .entry)) (now (image .entry)) ⌝ }
+    ensures { λ _. ⌜ now (store .exit) ≡ reloadStore (now (table .entry)) (now (store .entry)) (now (image .entry)) ⌝ }
+{
+    image::reload(table, store, image)
 }

@@ -11,6 +11,7 @@ pub mod Numerals
 pub mod Text
 pub mod Script
 pub mod Table
+pub mod Image
 pub mod Calls
 pub mod Monitor
 pub mod Session

@@ -18,3 +18,4 @@ pub mod Shared
 pub mod Single
 pub mod Gone
 pub mod Edges
+pub mod Image

@@ -4,7 +4,7 @@
 //! the median of the rounds with its quartiles. Single calls include the whole-table check, as document 01 has it. The words that a
 //! successful call changes are put back after each call, in both alike and inside the time measured. Buffers are not cleared.
 //!
-//!   cargo run --release --bin bench [check|single|creation|mixed|replay]..
+//!   cargo run --release --bin bench [check|single|creation|mixed|image|replay]..
 
 use monitor::Code;
 use monitor::layout::MAX_SLOTS;
@@ -62,6 +62,16 @@ fn main() {
         for (name, world) in &tables {
             line(&format!("{name} table"), mixed(world));
         }
+    }
+    if wanted("image") {
+        heading("Image and reload, against the plain one");
+        for (name, world) in &tables {
+            line(&format!("image, {name} table"), image(world));
+            line(&format!("reload, {name} table"), reload(world));
+        }
+        heading("Image and reload of the largest hall, against a copy of the store");
+        line("image", ratio_of(image_of(&tables[0].1, monitor_image), copied(&tables[0].1)));
+        line("reload", ratio_of(reload_of(&tables[0].1, monitor_reload), copied(&tables[0].1)));
     }
     if wanted("replay") {
         replay();
@@ -318,6 +328,71 @@ fn beyond(world: &World, call: &Call) -> Ratio {
     let n = repetitions(&mut plain);
     let over = |call: Duration, check: Duration| call.saturating_sub(check).max(Duration::from_nanos(1));
     ratio(ROUNDS, n, |n| over(proved(n), proved_check(n)), |n| over(plain(n), plain_check(n)))
+}
+
+// Images.
+
+/// Writes an image; whether it did.
+type WriteImage = fn(&[u32], &[u8], &mut [u8]) -> bool;
+/// Takes an image back; whether it did.
+type TakeImage = fn(&mut [u32], &mut [u8], &[u8]) -> bool;
+
+fn monitor_image(table: &[u32], store: &[u8], out: &mut [u8]) -> bool {
+    monitor::image(table, store, out).is_ok()
+}
+
+fn plain_image(table: &[u32], store: &[u8], out: &mut [u8]) -> bool {
+    plain::image(table, store, out) == plain::Error::XOK
+}
+
+fn monitor_reload(table: &mut [u32], store: &mut [u8], image: &[u8]) -> bool {
+    monitor::reload(table, store, image).is_ok()
+}
+
+fn plain_reload(table: &mut [u32], store: &mut [u8], image: &[u8]) -> bool {
+    plain::reload(table, store, image) == plain::Error::XOK
+}
+
+/// The bytes of a world's image, to be written over or read.
+fn image_bytes(world: &World) -> Vec<u8> {
+    let mut bytes = vec![0; plain::image_length(&world.table, world.store.len())];
+    assert!(plain_image(&world.table, &world.store, &mut bytes));
+    bytes
+}
+
+fn image_of(world: &World, write: WriteImage) -> impl FnMut(u32) -> Duration {
+    let (world, mut out) = (world.clone(), image_bytes(world));
+    move |n| timed(n, || assert!(write(std::hint::black_box(&world.table), &world.store, &mut out)))
+}
+
+fn reload_of(world: &World, take: TakeImage) -> impl FnMut(u32) -> Duration {
+    let (mut world, image) = (world.clone(), image_bytes(world));
+    move |n| timed(n, || assert!(take(&mut world.table, &mut world.store, std::hint::black_box(&image))))
+}
+
+/// The store copied to other memory.
+fn copied(world: &World) -> impl FnMut(u32) -> Duration {
+    let (store, mut out) = (world.store.clone(), world.store.clone());
+    move |n| {
+        timed(n, || {
+            out.copy_from_slice(std::hint::black_box(&store));
+            std::hint::black_box(&mut out);
+        })
+    }
+}
+
+/// Blocks of the one and the other, as many repetitions as fill a block of the second.
+fn ratio_of(one: impl FnMut(u32) -> Duration, mut other: impl FnMut(u32) -> Duration) -> Ratio {
+    let n = repetitions(&mut other);
+    ratio(ROUNDS, n, one, other)
+}
+
+fn image(world: &World) -> Ratio {
+    ratio_of(image_of(world, monitor_image), image_of(world, plain_image))
+}
+
+fn reload(world: &World) -> Ratio {
+    ratio_of(reload_of(world, monitor_reload), reload_of(world, plain_reload))
 }
 
 // Many calls.

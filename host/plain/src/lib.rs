@@ -6,12 +6,14 @@
 
 mod calls;
 mod errors;
+mod image;
 mod replay;
 mod seid;
 pub mod table;
 
 pub use calls::{Answer, Request, call, clash, granted, valid_modes};
 pub use errors::Error;
+pub use image::{image, image_length, reload};
 pub use replay::{number, replay};
 pub use seid::{Kind, Seid};
 pub use table::{Level, Shape, check, setup};

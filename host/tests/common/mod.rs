@@ -19,6 +19,18 @@ impl Monitor for Archive {
         [answer.error, answer.first, answer.second]
     }
 
+    fn image_length(&self, table: &[u32], store_bytes: usize) -> usize {
+        monitor::image_length(table, store_bytes).unwrap_or(0)
+    }
+
+    fn image(&self, table: &[u32], store: &[u8], out: &mut [u8]) -> u32 {
+        monitor::image(table, store, out).map_or_else(|error| error.number(), |()| 0)
+    }
+
+    fn reload(&self, table: &mut [u32], store: &mut [u8], image: &[u8]) -> u32 {
+        monitor::reload(table, store, image).map_or_else(|error| error.number(), |()| 0)
+    }
+
     fn name(&self, code: u32) -> Option<String> {
         Some(monitor::Code::of(code)?.name().to_string())
     }

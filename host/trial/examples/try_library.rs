@@ -1,7 +1,7 @@
 //! Tries a library and a replay program that stand in a folder, as stand-in.sh leaves them, by the trials that the tests make on the
 //! proved ones. It serves to try the trials themselves: faults.sh plants faults and expects them to be found.
 //!
-//!   try_library FOLDER (differential | secrecy | replay)
+//!   try_library FOLDER (differential | secrecy | images | replay)
 //!
 //! It ends with 0 if the trial found nothing, with 101 if it did, and with 2 if there is nothing to try.
 
@@ -10,6 +10,7 @@ use std::ffi::{CString, c_char, c_int, c_void};
 use std::path::{Path, PathBuf};
 use std::process::exit;
 use trial::differ::Differ;
+use trial::images::Images;
 use trial::listings::Program;
 use trial::{Monitor, Plain, Rng, secrecy, setting, tables};
 
@@ -29,6 +30,9 @@ struct Answer {
 
 type Setup = unsafe extern "C" fn(*mut u32, usize, usize) -> u32;
 type Check = unsafe extern "C" fn(*const u32, usize, usize) -> u32;
+type ImageLength = unsafe extern "C" fn(*const u32, usize, usize) -> usize;
+type Image = unsafe extern "C" fn(*const u32, usize, *const u8, usize, *mut u8, usize) -> u32;
+type Reload = unsafe extern "C" fn(*mut u32, usize, *mut u8, usize, *const u8, usize) -> u32;
 #[rustfmt::skip]
 type Call = unsafe extern "C" fn(*mut u32, usize, *mut u8, usize, u32, u32, u32, u32, u32, *mut u8, usize) -> Answer;
 
@@ -37,6 +41,9 @@ struct Library {
     setup: Setup,
     check: Check,
     call: Call,
+    image_length: ImageLength,
+    image: Image,
+    reload: Reload,
 }
 
 impl Library {
@@ -53,12 +60,16 @@ impl Library {
             found
         };
         let (setup, check, call) = (find("monitor_setup"), find("monitor_check"), find("monitor_call"));
+        let (length, image, reload) = (find("monitor_image_length"), find("monitor_image"), find("monitor_reload"));
         // SAFETY: the functions have the types of monitor.h.
         unsafe {
             Library {
                 setup: std::mem::transmute::<*mut c_void, Setup>(setup),
                 check: std::mem::transmute::<*mut c_void, Check>(check),
                 call: std::mem::transmute::<*mut c_void, Call>(call),
+                image_length: std::mem::transmute::<*mut c_void, ImageLength>(length),
+                image: std::mem::transmute::<*mut c_void, Image>(image),
+                reload: std::mem::transmute::<*mut c_void, Reload>(reload),
             }
         }
     }
@@ -84,6 +95,22 @@ impl Monitor for Library {
             unsafe { (self.call)(table, words, store, bytes, caller, code, a, b, c, buffer, length) };
         [error, first, second]
     }
+
+    fn image_length(&self, table: &[u32], store_bytes: usize) -> usize {
+        // SAFETY: as above.
+        unsafe { (self.image_length)(table.as_ptr(), table.len(), store_bytes) }
+    }
+
+    fn image(&self, table: &[u32], store: &[u8], out: &mut [u8]) -> u32 {
+        // SAFETY: as above.
+        unsafe { (self.image)(table.as_ptr(), table.len(), store.as_ptr(), store.len(), out.as_mut_ptr(), out.len()) }
+    }
+
+    fn reload(&self, table: &mut [u32], store: &mut [u8], image: &[u8]) -> u32 {
+        let (words, bytes) = (table.len(), store.len());
+        // SAFETY: as above.
+        unsafe { (self.reload)(table.as_mut_ptr(), words, store.as_mut_ptr(), bytes, image.as_ptr(), image.len()) }
+    }
 }
 
 fn nothing_to_try(why: &str) -> ! {
@@ -94,7 +121,7 @@ fn nothing_to_try(why: &str) -> ! {
 fn main() {
     let words: Vec<String> = env::args().skip(1).collect();
     let [folder, trial] = &words[..] else {
-        nothing_to_try("try_library FOLDER (differential | secrecy | replay)");
+        nothing_to_try("try_library FOLDER (differential | secrecy | images | replay)");
     };
     let folder = PathBuf::from(folder);
     let library = || Library::load(&folder.join("libmonitor.so"));
@@ -108,6 +135,7 @@ fn main() {
                 secrecy::pair_of_runs(&library, &mut rng, limits, 40, &mut met);
             }
         }
+        "images" => Images::new(&library(), rng).everything(setting("TRIAL_IMAGES", 60)),
         "replay" => {
             let program = folder.join("replay");
             if !program.exists() {

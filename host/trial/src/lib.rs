@@ -4,6 +4,7 @@
 pub mod calls;
 pub mod damage;
 pub mod differ;
+pub mod images;
 pub mod listings;
 pub mod rng;
 pub mod scripts;
@@ -22,6 +23,10 @@ pub trait Monitor {
     fn check(&self, table: &[u32], store_bytes: usize) -> u32;
     /// Error, first and second.
     fn call(&self, table: &mut [u32], store: &mut [u8], request: &plain::Request, buffer: &mut [u8]) -> [u32; 3];
+
+    fn image_length(&self, table: &[u32], store_bytes: usize) -> usize;
+    fn image(&self, table: &[u32], store: &[u8], out: &mut [u8]) -> u32;
+    fn reload(&self, table: &mut [u32], store: &mut [u8], image: &[u8]) -> u32;
 
     /// A call's name in scripts, if it has one.
     fn name(&self, _code: u32) -> Option<String> {
@@ -49,6 +54,18 @@ impl Monitor for Plain {
     fn call(&self, table: &mut [u32], store: &mut [u8], request: &plain::Request, buffer: &mut [u8]) -> [u32; 3] {
         let answer = plain::call(table, store, request, buffer);
         [answer.error as u32, answer.first, answer.second]
+    }
+
+    fn image_length(&self, table: &[u32], store_bytes: usize) -> usize {
+        plain::image_length(table, store_bytes)
+    }
+
+    fn image(&self, table: &[u32], store: &[u8], out: &mut [u8]) -> u32 {
+        plain::image(table, store, out) as u32
+    }
+
+    fn reload(&self, table: &mut [u32], store: &mut [u8], image: &[u8]) -> u32 {
+        plain::reload(table, store, image) as u32
     }
 }
 

@@ -2,6 +2,7 @@
 
 use plain::Kind;
 use plain::table::{BITS, LIVE, MAP, PAGES, SERIAL, SHARABLE};
+use trial::images::Images;
 use trial::tally::Tally;
 use trial::{Monitor, Plain, Rng, World, calls, damage, secrecy, tables};
 
@@ -86,4 +87,13 @@ fn nothing_flows_down() {
     }
     println!("{met:#?}");
     met.assert_complete();
+}
+
+/// Images of random halls, whole and damaged: what is taken, and what every reload must keep.
+#[test]
+fn images() {
+    let mut images = Images::new(&Plain, Rng::for_trial("images", 4));
+    images.everything(trial::setting("TRIAL_IMAGES", 40));
+    println!("{}", images.met);
+    images.met.assert_complete();
 }

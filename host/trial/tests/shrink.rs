@@ -32,6 +32,18 @@ impl Monitor for Faulty {
         answer
     }
 
+    fn image_length(&self, table: &[u32], store_bytes: usize) -> usize {
+        Plain.image_length(table, store_bytes)
+    }
+
+    fn image(&self, table: &[u32], store: &[u8], out: &mut [u8]) -> u32 {
+        Plain.image(table, store, out)
+    }
+
+    fn reload(&self, table: &mut [u32], store: &mut [u8], image: &[u8]) -> u32 {
+        Plain.reload(table, store, image)
+    }
+
     fn name(&self, code: u32) -> Option<String> {
         (code == 10).then(|| "link".to_string())
     }

@@ -1,0 +1,3 @@
+-- The image's words for its code.
+pub mod Largest
+pub mod Reading

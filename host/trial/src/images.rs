@@ -1,0 +1,241 @@
+//! Images: what a monitor writes in the evening and takes in the morning, against the plain one; whole images, and damaged ones.
+
+use crate::damage;
+use crate::rng::Rng;
+use crate::tables::{self, World};
+use crate::{Monitor, Plain};
+use plain::table::{CELL_WORDS, HEADER_WORDS};
+use std::collections::BTreeMap;
+use std::fmt;
+
+/// An image no longer than this is damaged at every byte, and cut at every length; a longer one at some.
+const SMALL: usize = 1_500;
+const SOME: usize = 40;
+
+pub struct Images<'a, M> {
+    pub monitor: &'a M,
+    pub rng: Rng,
+    pub met: Met,
+}
+
+/// How many reloads were taken and refused, by what was done to the image.
+#[derive(Default)]
+pub struct Met(BTreeMap<&'static str, [u64; 2]>);
+
+/// What must have been met at the end: some taken, some refused.
+const WANTED: [(&str, [bool; 2]); 11] = [
+    ("whole", [true, false]),
+    ("a byte changed", [true, true]),
+    ("cut", [false, true]),
+    ("bytes over", [false, true]),
+    ("a byte put in", [false, true]),
+    ("a longer form", [false, true]),
+    ("a longer form, and a byte less", [false, true]),
+    ("a number too large", [false, true]),
+    ("not well formed", [false, true]),
+    ("another hall of the same lengths", [true, false]),
+    ("a hall of other lengths", [false, true]),
+];
+
+impl Met {
+    pub fn assert_complete(&self) {
+        assert_eq!(self.0.len(), WANTED.len(), "another damage was tried than is listed");
+        for (name, wanted) in WANTED {
+            let met = self.0.get(name).copied().unwrap_or_default();
+            assert_eq!(met.map(|count| count > 0), wanted, "{name}: {} taken, {} refused", met[0], met[1]);
+        }
+    }
+}
+
+impl fmt::Display for Met {
+    fn fmt(&self, f: &mut fmt::Formatter) -> fmt::Result {
+        for (name, [taken, refused]) in &self.0 {
+            writeln!(f, "{name}: {taken} taken, {refused} refused")?;
+        }
+        Ok(())
+    }
+}
+
+/// A number in seven-bit groups; with `longer`, one group too many.
+fn number(value: u32, longer: bool) -> Vec<u8> {
+    let mut bytes = Vec::new();
+    let mut rest = value;
+    while rest > 127 {
+        bytes.push((rest & 127 | 128) as u8);
+        rest >>= 7;
+    }
+    bytes.push(rest as u8);
+    if longer {
+        *bytes.last_mut().expect("there is a group") |= 128;
+        bytes.push(0);
+    }
+    bytes
+}
+
+/// The bytes of any table and store, with something done to the number at one place.
+fn bytes(world: &World, at: usize, number_there: impl Fn(u32) -> Vec<u8>) -> Vec<u8> {
+    let words = world.table.iter().enumerate();
+    let mut all: Vec<u8> =
+        words.flat_map(|(i, &word)| if i == at { number_there(word) } else { number(word, false) }).collect();
+    all.extend(&world.store);
+    all
+}
+
+fn plain_bytes(world: &World) -> Vec<u8> {
+    bytes(world, usize::MAX, |word| number(word, false))
+}
+
+impl<'a, M: Monitor> Images<'a, M> {
+    pub fn new(monitor: &'a M, rng: Rng) -> Self {
+        Images { monitor, rng, met: Met::default() }
+    }
+
+    /// All trials, on so many halls.
+    pub fn everything(&mut self, halls: u64) {
+        for _ in 0..halls {
+            let limits = tables::limits(&mut self.rng);
+            let world = match self.rng.chance(1, 4) {
+                true => tables::fresh(&mut self.rng, limits),
+                false => tables::well_formed(&mut self.rng, limits),
+            };
+            let image = self.written(&world);
+            self.reload("whole", &world, &image);
+            self.damaged_bytes(&world, &image);
+            self.damaged_numbers(&world);
+            self.other_halls(&world, limits);
+            self.bad_table(&world);
+        }
+    }
+
+    /// The image: the words, then the store; its length; and what becomes of buffers of other lengths.
+    fn written(&mut self, world: &World) -> Vec<u8> {
+        let image = plain_bytes(world);
+        let length = self.monitor.image_length(&world.table, world.store.len());
+        assert_eq!(length, image.len(), "another length was told");
+        for room in [0, length - 1, length, length + 1, length + 100] {
+            let (mut ours, mut theirs) = self.written_twice(world, room);
+            let fits = room >= length;
+            assert_eq!((ours.0, theirs.0), if fits { (0, 0) } else { (5, 5) }, "room for {room} of {length} bytes");
+            assert!(ours.1 == theirs.1, "another image, with room for {room} of {length} bytes");
+            if fits {
+                assert!(ours.1.drain(..length).eq(image.iter().copied()), "no image");
+                theirs.1.drain(..length);
+                assert!(ours.1 == theirs.1, "the rest of the buffer was changed");
+            }
+        }
+        image
+    }
+
+    /// Both images of one world, into buffers that have the same bytes in them.
+    fn written_twice(&mut self, world: &World, room: usize) -> ((u32, Vec<u8>), (u32, Vec<u8>)) {
+        let mut noise = vec![0; room];
+        self.rng.bytes(&mut noise);
+        let (mut ours, mut theirs) = (noise.clone(), noise.clone());
+        let answer = self.monitor.image(&world.table, &world.store, &mut ours);
+        let expected = Plain.image(&world.table, &world.store, &mut theirs);
+        if answer != 0 {
+            assert!(ours == noise, "a refusal changed the buffer");
+        }
+        ((answer, ours), (expected, theirs))
+    }
+
+    /// A table that may be bad: the length is 0, and a bad table is refused before a short buffer.
+    fn bad_table(&mut self, world: &World) {
+        let mut bad = world.clone();
+        damage::random(&mut self.rng, &mut bad, &world.shape());
+        let length = self.monitor.image_length(&bad.table, bad.store.len());
+        assert_eq!(length, Plain.image_length(&bad.table, bad.store.len()), "another length was told");
+        for room in [0, plain_bytes(&bad).len()] {
+            let (ours, theirs) = self.written_twice(&bad, room);
+            assert!(ours == theirs, "a bad table's image");
+            assert_eq!(ours.0 == 1, length == 0);
+        }
+    }
+
+    /// Reloads into a table and a store of other contents and the world's lengths.
+    fn reload(&mut self, name: &'static str, world: &World, image: &[u8]) {
+        let mut lent = World { table: vec![self.rng.word(); world.table.len()], store: vec![0; world.store.len()] };
+        let some = lent.store.len().min(64);
+        self.rng.bytes(&mut lent.store[..some]);
+        let (mut ours, mut theirs) = (lent.clone(), lent.clone());
+        let answer = self.monitor.reload(&mut ours.table, &mut ours.store, image);
+        let expected = Plain.reload(&mut theirs.table, &mut theirs.store, image);
+        assert_eq!(answer, expected, "{name}: another answer");
+        assert!(ours == theirs, "{name}: another table or store");
+        if answer == 0 {
+            let mut again = vec![0; image.len()];
+            let length = self.monitor.image_length(&ours.table, ours.store.len());
+            let written = self.monitor.image(&ours.table, &ours.store, &mut again);
+            assert_eq!((length, written), (image.len(), 0), "{name}: taken, but has no image of that length");
+            assert!(again == image, "{name}: taken, but its image is another");
+        } else {
+            assert_eq!(answer, 4, "{name}");
+            assert!(ours == lent, "{name}: a refusal touched something");
+        }
+        self.met.0.entry(name).or_default()[usize::from(answer != 0)] += 1;
+    }
+
+    /// Every place of a small image, or some.
+    fn places(&mut self, length: usize) -> Vec<usize> {
+        match length <= SMALL {
+            true => (0..length).collect(),
+            false => (0..SOME).map(|_| self.rng.below(length)).collect(),
+        }
+    }
+
+    fn damaged_bytes(&mut self, world: &World, image: &[u8]) {
+        for at in self.places(image.len()) {
+            let mut other = image.to_vec();
+            other[at] ^= self.rng.pick(&[1, 2, 128, 127, 255]);
+            self.reload("a byte changed", world, &other);
+            self.reload("cut", world, &image[..at]);
+        }
+        for over in [1, 2, 512] {
+            let mut other = image.to_vec();
+            other.resize(image.len() + over, self.rng.word() as u8);
+            self.reload("bytes over", world, &other);
+        }
+        let mut other = image.to_vec();
+        other.insert(self.rng.below(image.len()), self.rng.pick(&[0, 1, 127]));
+        self.reload("a byte put in", world, &other);
+    }
+
+    /// Numbers in another form, and numbers that make no well-formed table.
+    fn damaged_numbers(&mut self, world: &World) {
+        for at in self.places(world.table.len()) {
+            let mut longer = bytes(world, at, |word| number(word, true));
+            self.reload("a longer form", world, &longer);
+            if longer.pop().is_some() && !world.store.is_empty() {
+                self.reload("a longer form, and a byte less", world, &longer);
+            }
+            let last = self.rng.between(16, 127) as u8;
+            let large = bytes(world, at, |_| vec![128, 128, 128, 128, last]);
+            self.reload("a number too large", world, &large);
+        }
+        let shape = world.shape();
+        let damages = damage::named();
+        for _ in 0..8 {
+            let mut bad = world.clone();
+            let damage = &damages[self.rng.below(damages.len())];
+            let lengths = (bad.table.len(), bad.store.len());
+            let done = (damage.apply)(&mut self.rng, &mut bad, &shape).is_some();
+            if done && (bad.table.len(), bad.store.len()) == lengths {
+                self.reload("not well formed", world, &plain_bytes(&bad));
+            }
+        }
+    }
+
+    /// The image of another hall is taken where both lengths are the same, and only there.
+    fn other_halls(&mut self, world: &World, limits: tables::Limits) {
+        let mut words = world.table[..HEADER_WORDS + CELL_WORDS * world.shape().cells].to_vec();
+        for cell in words[HEADER_WORDS..].chunks_mut(CELL_WORDS) {
+            (cell[6], cell[7]) = (tables::identity(&mut self.rng), tables::identity(&mut self.rng));
+        }
+        let other = tables::busy(&mut self.rng, &words);
+        self.reload("another hall of the same lengths", world, &plain_bytes(&other));
+        let other = tables::well_formed(&mut self.rng, limits);
+        if (other.table.len(), other.store.len()) != (world.table.len(), world.store.len()) {
+            self.reload("a hall of other lengths", world, &plain_bytes(&other));
+        }
+    }
+}
