@@ -7,7 +7,7 @@
 set -uo pipefail
 cd "$(dirname "$0")"
 work=target/stand-in
-export OPT_LEVEL=1 CODEGEN_UNITS=16 TRIAL_CALLS=${TRIAL_CALLS:-400000} TRIAL_RUNS=${TRIAL_RUNS:-3000} TRIAL_SCRIPTS=${TRIAL_SCRIPTS:-800}
+export OPT_LEVEL=1 CODEGEN_UNITS=16 TRIAL_CALLS=${TRIAL_CALLS:-400000} TRIAL_RUNS=${TRIAL_RUNS:-3000} TRIAL_SCRIPTS=${TRIAL_SCRIPTS:-800} TRIAL_TRAYS=${TRIAL_TRAYS:-1500}
 
 cargo build --release --offline --locked --quiet --package trial --example try_library || exit 2
 program=${CARGO_TARGET_DIR:-target}/release/examples/try_library
@@ -32,8 +32,8 @@ names=("$@")
 
 ./stand-in.sh "$work/sound" || exit 2
 failed=0
-for trial in differential secrecy images replay; do
-    TRIAL_CALLS=20000 TRIAL_RUNS=300 TRIAL_SCRIPTS=100 TRIAL_IMAGES=20 try sound "$trial"
+for trial in differential secrecy trays images replay; do
+    TRIAL_CALLS=20000 TRIAL_RUNS=300 TRIAL_SCRIPTS=100 TRIAL_TRAYS=300 TRIAL_IMAGES=20 try sound "$trial"
     [ $? = 0 ] || { echo "the sound stand-in fails $trial: see host/$work/sound/$trial.log"; exit 1; }
 done
 

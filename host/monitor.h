@@ -141,6 +141,26 @@ monitor_answer monitor_call(uint32_t *table, size_t words, uint8_t *store, size_
                             uint8_t *buffer, size_t length);
 
 /*
+ * A call by the tray: its numbers, its buffer as a part of the bytes that are lent with the tray (offset and length), and room for its answer.
+ */
+typedef struct {
+    uint32_t caller, code, a, b, c, offset, length;
+    monitor_answer answer;
+} monitor_record;
+
+/* The most records of a tray. */
+#define MONITOR_TRAY_RECORDS 1024
+
+/*
+ * Runs the records in order, on a table that is judged once; each answer is written into its record. 0; or 4 for a tray that is too long, then 1
+ * for a table that is not well formed, and nothing is changed, records included. A part that does not lie inside the bytes answers 5 in its
+ * record, after 2 and 3 and before the call's own list, also for a call that looks at no buffer, and the tray goes on. Parts may overlap: a
+ * record sees what those before it wrote.
+ */
+uint32_t monitor_tray(uint32_t *table, size_t words, uint8_t *store, size_t bytes,
+                      monitor_record *records, size_t count, uint8_t *buffers, size_t length);
+
+/*
  * The evening image: every word of the table in seven-bit groups, the low group first and the high bit on all but the last, then the
  * store's bytes. Its exact length; 0 if the table is bad.
  */

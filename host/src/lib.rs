@@ -21,7 +21,7 @@
 //! # Ok::<(), Error>(())
 //! ```
 //!
-//! [`setup`], [`well_formed`], [`call`], [`image`] and [`reload`] are the library's functions over slices, for hosts that keep their
+//! [`setup`], [`well_formed`], [`call`], [`tray`], [`image`] and [`reload`] are the library's functions over slices, for hosts that keep their
 //! own memory or hand calls through by their numbers:
 //!
 //! ```
@@ -35,6 +35,26 @@
 //! assert_eq!((answer.error, answer.first, answer.second), (0, 2164260865, 0));
 //! let answer = monitor::call(&mut table, &mut store, 0, create, [0o644, 3, 0], &mut []);
 //! assert_eq!(answer.result(), Err(Error::XnoSpace));
+//! # Ok::<(), Error>(())
+//! ```
+//!
+//! Calls by the tray are judged once and run in order; each finds its buffer as a part of one slice:
+//!
+//! ```
+//! use monitor::{Bits, Caller, Cell, Code, Error, Hall, Modes, Monitor, Record};
+//!
+//! let mut monitor = Monitor::set_up(&Hall { blocks: 1, cells: vec![Cell { processes: 1, files: 1, ..Cell::default() }] })?;
+//! let ask = |code: Code, a, b, offset, length| Record { code: code.number(), a, b, offset, length, ..Record::default() };
+//! let mut night = [
+//!     ask(Code::CreateFile, 0o644, 3, 0, 0),
+//!     ask(Code::WriteBlock, 0, 0, 0, 512),
+//!     ask(Code::ReadBlock, 0, 0, 512, 512),
+//!     ask(Code::Close, 0, 0, 1024, 1), // one byte past the end
+//! ];
+//! let mut bytes = [[b'*'; 512], [0; 512]].concat();
+//! monitor.tray(&mut night, &mut bytes)?;
+//! assert_eq!(night.map(|record| record.answer.error), [0, 0, 0, Error::XbSz.number()]);
+//! assert_eq!(bytes, [b'*'; 1024]);
 //! # Ok::<(), Error>(())
 //! ```
 
@@ -55,7 +75,7 @@ pub use code::Code;
 pub use error::Error;
 pub use hall::{Cell, Hall, Level};
 pub use owner::{Caller, Descriptor, Designator, Monitor, Page};
-pub use raw::{Answer, call, image, image_length, reload, setup, well_formed};
+pub use raw::{Answer, Record, TRAY_RECORDS, call, image, image_length, reload, setup, tray, well_formed};
 pub use rights::{Access, Bits, Modes};
 pub use seid::{Kind, Seid};
 pub use told::{Message, Status};

@@ -4,7 +4,7 @@ use crate::code::Code;
 use crate::error::Error;
 use crate::hall::Hall;
 use crate::layout::{BLOCK_BYTES, ENTRIES, MESSAGE_BYTES, STATUS_BYTES, TEXT_BYTES};
-use crate::raw::{self, Answer};
+use crate::raw::{self, Answer, Record};
 use crate::rights::{Access, Bits, Modes};
 use crate::seid::Seid;
 use crate::told::{Message, Status};
@@ -112,6 +112,12 @@ impl Monitor {
     /// Whether the table is well formed. After set-up and calls alone it always is.
     pub fn well_formed(&self) -> bool {
         raw::well_formed(&self.table, self.store.len())
+    }
+
+    /// Calls by the tray: the table is judged once, and the records are run in order, as [`tray`](crate::tray) says. It is as if each
+    /// were made by [`call`](Monitor::call) on its part of the bytes.
+    pub fn tray(&mut self, records: &mut [Record], buffers: &mut [u8]) -> Result<(), Error> {
+        raw::tray(&mut self.table, &mut self.store, records, buffers)
     }
 
     /// The image of table and store: the bytes to keep over a Sunday, as many as [`image_length`](crate::image_length) says. Refused

@@ -4,7 +4,7 @@ use crate::error::Error;
 
 /// The C boundary, as in monitor.h. Nothing compares these declarations with the library: the tests do.
 mod c {
-    use super::Answer;
+    use super::{Answer, Record};
 
     unsafe extern "C" {
         pub fn monitor_setup(table: *mut u32, words: usize, store_bytes: usize) -> u32;
@@ -22,6 +22,16 @@ mod c {
             buffer: *mut u8,
             length: usize,
         ) -> Answer;
+        pub fn monitor_tray(
+            table: *mut u32,
+            words: usize,
+            store: *mut u8,
+            bytes: usize,
+            records: *mut Record,
+            count: usize,
+            buffers: *mut u8,
+            length: usize,
+        ) -> u32;
         pub fn monitor_image_length(table: *const u32, words: usize, store_bytes: usize) -> usize;
         pub fn monitor_image(
             table: *const u32,
@@ -52,6 +62,29 @@ pub struct Answer {
     pub first: u32,
     /// The second result; 0 in a refusal.
     pub second: u32,
+}
+
+/// A call by the tray, as it goes over the boundary: its numbers, its buffer as a part of the bytes that are lent with the tray, and
+/// room for its answer.
+#[derive(Clone, Copy, Debug, Default, PartialEq, Eq)]
+#[repr(C)]
+pub struct Record {
+    /// The slot of the process that makes the call.
+    pub caller: u32,
+    /// The call's code.
+    pub code: u32,
+    /// The first argument.
+    pub a: u32,
+    /// The second argument.
+    pub b: u32,
+    /// The third argument.
+    pub c: u32,
+    /// Where the call's part of the bytes begins.
+    pub offset: u32,
+    /// How long it is.
+    pub length: u32,
+    /// What the call answers; what stood here before is not looked at.
+    pub answer: Answer,
 }
 
 impl Answer {
@@ -100,6 +133,30 @@ pub fn call(
             buffer.len(),
         )
     }
+}
+
+/// The most records of a tray.
+pub const TRAY_RECORDS: usize = 1024;
+
+/// Runs the records in order, on a table that is judged once, and leaves each answer in its record. A tray of more than
+/// [`TRAY_RECORDS`] is refused with XbParam, then a bad table with XbTab, and then nothing is changed. A part that does not lie inside
+/// the bytes answers XbSz in its record, after XbPrSd and XbdKcl and before the call's own list, and the tray goes on. Parts may
+/// overlap: a record sees what those before it wrote.
+pub fn tray(table: &mut [u32], store: &mut [u8], records: &mut [Record], buffers: &mut [u8]) -> Result<(), Error> {
+    // SAFETY: the pointers and lengths are those of four slices that are lent to this call alone, so they do not overlap; any lengths
+    // and contents are allowed, and a Record is ten words as in monitor.h.
+    Error::told(unsafe {
+        c::monitor_tray(
+            table.as_mut_ptr(),
+            table.len(),
+            store.as_mut_ptr(),
+            store.len(),
+            records.as_mut_ptr(),
+            records.len(),
+            buffers.as_mut_ptr(),
+            buffers.len(),
+        )
+    })
 }
 
 /// The length of the image of a table and a store of that length; None if the table is not well formed.

@@ -1,7 +1,7 @@
 //! A stand-in for the proved library: the plain monitor behind the C functions. It serves to try out the tests themselves,
 //! sound and with faults put in (see faults.sh); it is no part of what is delivered.
 
-use plain::{Request, call, check, image, image_length, reload, setup};
+use plain::{Record, Request, call, check, image, image_length, reload, setup, tray};
 use std::slice::{from_raw_parts, from_raw_parts_mut};
 
 #[repr(C)]
@@ -83,4 +83,22 @@ pub unsafe extern "C" fn monitor_reload(
 ) -> u32 {
     let (table, store) = unsafe { (from_raw_parts_mut(table, words), from_raw_parts_mut(store, bytes)) };
     reload(table, store, unsafe { from_raw_parts(image, length) }) as u32
+}
+
+/// # Safety
+/// As monitor.h says.
+#[unsafe(no_mangle)]
+pub unsafe extern "C" fn monitor_tray(
+    table: *mut u32,
+    words: usize,
+    store: *mut u8,
+    bytes: usize,
+    records: *mut Record,
+    count: usize,
+    buffers: *mut u8,
+    length: usize,
+) -> u32 {
+    let (table, store) = unsafe { (from_raw_parts_mut(table, words), from_raw_parts_mut(store, bytes)) };
+    let (records, buffers) = unsafe { (from_raw_parts_mut(records, count), from_raw_parts_mut(buffers, length)) };
+    tray(table, store, records, buffers) as u32
 }

@@ -61,6 +61,21 @@ fn sunday_in_c99_and_cpp() {
     assert_eq!(run("g++", &["-std=c++11", "-x", "c++"], &source, "sunday_cpp"), expected);
 }
 
+const TRAY: &str = "the tray: XOK, 40 bytes a record
+record 0: XOK
+record 1: XOK
+record 2: XOK
+record 3: XbSz
+read back: \"quiet\"
+too long: XbParam
+";
+
+#[test]
+fn a_tray_in_c99_and_cpp() {
+    assert_eq!(run("gcc", &["-std=c99"], &here().join("c/tray.c"), "tray"), TRAY);
+    assert_eq!(run("g++", &["-std=c++11", "-x", "c++"], &here().join("c/tray.c"), "tray_cpp"), TRAY);
+}
+
 /// A name in capitals with words parted: `CreateFile` is CREATE_FILE.
 fn capitals(name: &str) -> String {
     let mut out = String::new();
@@ -120,6 +135,7 @@ fn the_header_says_what_the_crate_says() {
         ("CLASS_PROCESS", class(Kind::Process)),
         ("CLASS_SEGMENT", class(Kind::Segment)),
         ("CLASS_FILE", class(Kind::File)),
+        ("TRAY_RECORDS", monitor::TRAY_RECORDS),
     ]);
     assert_eq!(sizes, expected);
 }

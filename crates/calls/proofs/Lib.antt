@@ -18,3 +18,6 @@ pub mod BlocksLaws
 pub mod Codes
 pub mod Whole
 pub mod Link
+pub mod TrayLaws
+pub mod Going
+pub mod Again

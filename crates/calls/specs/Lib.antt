@@ -11,3 +11,4 @@ pub mod Mail
 pub mod Blocks
 pub mod Told
 pub mod Did
+pub mod Tray

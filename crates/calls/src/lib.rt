@@ -4,10 +4,15 @@ ghost use Rattle.rules.specs.Layout.{configuration};
 ghost use Rattle.rules.specs.Step.{badCaller, badCode, step};
 ghost use Rattle.calls.specs.World.{Known, wordsOf, Judged};
 ghost use Rattle.calls.specs.Did.{Did, stateOf, callOf};
+ghost use Rattle.calls.specs.Tray.{Trayed};
 use crate::base::read;
 use crate::base::refused;
 use crate::dispatch::carry_out;
 use crate::room::cell_of;
+use crate::trays::begin;
+use crate::trays::due;
+use crate::trays::run;
+use crate::trays::verdict;
 use layout::Header;
 use layout::Kind;
 use layout::header_of;
@@ -30,6 +35,7 @@ mod processes;
 mod room;
 mod segments;
 mod status;
+mod trays;
 
 const LAST_CODE: u32 = 20;
 
@@ -41,6 +47,19 @@ pub struct Answer {
     pub second: u32,
 }
 
+// A call, and room for its answer: 02's record. Its buffer is a part of the byte slice that is lent with the records. A host in C has it as it stands.
+#[repr(C)]
+pub struct Record {
+    pub caller: u32,
+    pub code: u32,
+    pub a: u32,
+    pub b: u32,
+    pub c: u32,
+    pub offset: u32,
+    pub length: u32,
+    pub answer: Answer,
+}
+
 // The calling process: its slot and its cell.
 pub(crate) struct Caller {
     pub slot: u32,
@@ -48,7 +67,7 @@ pub(crate) struct Caller {
 }
 
 // "2 caller out of range or not live"
-fn bad_caller(t: &[u32], n: Header, p: u32) -> bool
+pub(crate) fn bad_caller(t: &[u32], n: Header, p: u32) -> bool
     requires { ⌜ Known (now t) n ⌝ }
     ensures { λ r. ⌜ r ≡ badCaller (configuration (now (t .entry))) (wordsOf (now (t .entry))) p ⌝ }
 {
@@ -57,14 +76,14 @@ fn bad_caller(t: &[u32], n: Header, p: u32) -> bool
 }
 
 // "3 code not 1..18"; "codes now run to 20"
-fn bad_code(code: u32) -> bool
+pub(crate) fn bad_code(code: u32) -> bool
     ensures { λ r. ⌜ r ≡ badCode code ⌝ }
 {
     (code == 0) | (LAST_CODE < code)
 }
 
 // One call on a judged table: the caller, then the code, then the call's own list.
-fn call_judged(
+pub(crate) fn call_judged(
     t: &mut [u32],
     store: &mut [u8],
     n: Header,
@@ -109,4 +128,20 @@ pub fn call(
     }
     let n = header_of(table);
     call_judged(table, store, n, m, caller, code, a, b, c, buffer)
+}
+
+// Calls by the tray: the records are run in order, on a table that is judged once.
+pub fn tray(table: &mut [u32], store: &mut [u8], records: &mut [Record], bytes: &mut [u8]) -> u32
+    ensures { λ r. ⌜ Trayed (stateOf (now (table .entry)) (now (store .entry))) (now (bytes .entry)) (now (records .entry)) r (now (table .exit)) (now (store .exit)) (now (bytes .exit)) (now (records .exit)) ⌝ }
+{
+    let m = begin(table, store.len(), records.len());
+    let error = verdict(m, records.len());
+    let n = due(error, records.len());
+    let mut i = 0;
+    while i < n {
+        let r = records[i];
+        records[i] = run(table, store, bytes, m, r);
+        i += 1;
+    }
+    error
 }

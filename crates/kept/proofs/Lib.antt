@@ -35,3 +35,4 @@ pub mod Keep19
 pub mod Calls
 pub mod Stepped
 pub mod Kept
+pub mod Recorded

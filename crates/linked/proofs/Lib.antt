@@ -2,3 +2,4 @@
 pub mod Made
 pub mod Demand3
 pub mod Image
+pub mod Trays

@@ -7,7 +7,9 @@ ghost use Rattle.rules.specs.SetUp.{setUpAnswer, setUpTable};
 ghost use Rattle.rules.specs.Step.{step};
 ghost use Rattle.rules.specs.Image.{imageLength, imageAnswer, imageOut, reloadAnswer, reloadTable, reloadStore};
 ghost use Rattle.calls.specs.Did.{Did, stateOf, callOf};
+ghost use Rattle.calls.specs.Tray.{Trayed};
 use calls::Answer;
+use calls::Record;
 
 const WELL_FORMED: u32 = 0;
 
@@ -69,4 +71,16 @@ pub extern "C" fn monitor_reload(table: &mut [u32], store: &mut [u8], image: &[u
     ensures { λ _. ⌜ now (store .exit) ≡ reloadStore (now (table .entry)) (now (store .entry)) (now (image .entry)) ⌝ }
 {
     image::reload(table, store, image)
+}
+
+#[no_mangle]
+pub extern "C" fn monitor_tray(
+    table: &mut [u32],
+    store: &mut [u8],
+    records: &mut [Record],
+    buffers: &mut [u8],
+) -> u32
+    ensures { λ r. ⌜ Trayed (stateOf (now (table .entry)) (now (store .entry))) (now (buffers .entry)) (now (records .entry)) r (now (table .exit)) (now (store .exit)) (now (buffers .exit)) (now (records .exit)) ⌝ }
+{
+    calls::tray(table, store, records, buffers)
 }

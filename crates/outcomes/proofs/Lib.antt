@@ -14,4 +14,5 @@ pub mod Table
 pub mod Image
 pub mod Calls
 pub mod Monitor
+pub mod Trays
 pub mod Session

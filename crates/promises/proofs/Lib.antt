@@ -19,3 +19,4 @@ pub mod Single
 pub mod Gone
 pub mod Edges
 pub mod Image
+pub mod Tray

@@ -34,7 +34,7 @@ use Rattle.secrecy.proofs.Steps.{from-configuration}
 use Rattle.secrecy.proofs.Demand3.{one-observer}
 
 -- the rules' definitions that the examples compute with: to open this is to open them
-open-rules : Unit {0}
+unfoldable pub open-rules : Unit {0}
 unfolding freshTable firstProcesses allBelow someBelow sumBelow countBelow lowest orRather least tabFrom part within equals flowsTo cells slots blocks cellWord levelOf configuration firstSlot cellOf flows rd seid classOf indexOf serialOf isSeid seidAt orSelf present validModes reads writes excludesReaders excludesWriters clash rights mayRead mayWrite lacks asksRead asksWrite validAccess access headerOk cellOk levelsDistinct sumsMatch configured lengthsExact recordOk heldOk currentOk entryOk parentOk heldOnce messageOk pageOk processOk ownEntry ownEntries segmentSize segmentOk fileOk recordsOk wellFormed rightsAt freeSlot freeEntry zeros oneLess pageLeft pagesSet emptied givenUp create clashesAt clashes openFile close block readBlock ruleOf badCaller badCode carriedOut wholeRule step reply stays remaining replies
 open-rules = tt
 
@@ -106,7 +106,7 @@ fresh-formed = holds (wellFormed (fresh .table) (length (fresh .store))) fresh-t
 pub other-formed : Well other
 other-formed = holds (wellFormed (other .table) (length (other .store))) other-test
 
-fresh-configuration : configuration (fresh .table) ≡ hall
+pub fresh-configuration : configuration (fresh .table) ≡ hall
 unfolding hall fresh open-rules
 fresh-configuration = refl
 

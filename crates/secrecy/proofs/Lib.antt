@@ -29,5 +29,7 @@ pub mod Apply
 pub mod Steps
 pub mod Runs
 pub mod Demand3
+pub mod Tray
 pub mod AfterSetUp
 pub mod Instance
+pub mod TrayInstance

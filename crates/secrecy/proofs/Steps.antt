@@ -169,7 +169,7 @@ module _ (h : List ℕ) (C : ℕ → Bool) (cl : Closed h C) (s t : State) (f : 
     seen = a .records;
   }
 
-  same-caller : badCaller h (rd h (s .table)) (k .caller) ≡ badCaller h (rd h (t .table)) (k .caller)
+  pub same-caller : badCaller h (rd h (s .table)) (k .caller) ≡ badCaller h (rd h (t .table)) (k .caller)
   unfolding badCaller
   same-caller = split _ (leb (slots h process) (k .caller)) (λ e. rw e) (λ e. rw (e, same-me (viewed (leb-false (slots h process) (k .caller) e)) live refl))
 

@@ -4,7 +4,7 @@
 //! the median of the rounds with its quartiles. Single calls include the whole-table check, as document 01 has it. The words that a
 //! successful call changes are put back after each call, in both alike and inside the time measured. Buffers are not cleared.
 //!
-//!   cargo run --release --bin bench [check|single|creation|mixed|image|replay]..
+//!   cargo run --release --bin bench [check|single|creation|mixed|tray|image|replay]..
 
 use monitor::Code;
 use monitor::layout::MAX_SLOTS;
@@ -61,6 +61,17 @@ fn main() {
         heading("1,024 mixed calls");
         for (name, world) in &tables {
             line(&format!("{name} table"), mixed(world));
+        }
+    }
+    if wanted("tray") {
+        heading("A tray of 1,024 mixed calls, to a plain tray");
+        for (name, world) in &tables {
+            line(&format!("{name} table"), tray(world, Night::proved, Night::plain));
+        }
+        heading("A tray of 1,024 mixed calls, to 1,024 single calls of the same monitor (the last column is theirs)");
+        for (name, world) in &tables {
+            line(&format!("proved, {name} table"), tray(world, Night::proved, Night::proved_singly));
+            line(&format!("plain, {name} table"), tray(world, Night::plain, Night::plain_singly));
         }
     }
     if wanted("image") {
@@ -397,10 +408,8 @@ fn reload(world: &World) -> Ratio {
 
 // Many calls.
 
-/// The calls are drawn on the table as it stands when they are made. Both sides make them in pieces, in turn, and each piece's time
-/// is the median of the rounds; the ratio is that of the sums, and the quartiles are those of the pieces' ratios.
-fn mixed(world: &World) -> Ratio {
-    const PIECE: usize = 32;
+/// 1,024 calls, drawn on the table as it stands when they are made.
+fn drawn(world: &World) -> Vec<Call> {
     let shape = world.shape();
     let mut rng = Rng::new(7);
     let mut along = world.clone();
@@ -410,6 +419,14 @@ fn mixed(world: &World) -> Ratio {
         plain_call(&mut along, &call.request, &mut call.buffer.clone());
         calls.push(call);
     }
+    calls
+}
+
+/// These are made in pieces: both sides make them in pieces, in turn, and each piece's time
+/// is the median of the rounds; the ratio is that of the sums, and the quartiles are those of the pieces' ratios.
+fn mixed(world: &World) -> Ratio {
+    const PIECE: usize = 32;
+    let mut calls = drawn(world);
     let piece = |world: &mut World, calls: &mut [Call], make: Make| {
         timed(1, || {
             for call in calls.iter_mut() {
@@ -436,6 +453,75 @@ fn mixed(world: &World) -> Ratio {
     ratios.sort_by(f64::total_cmp);
     let (low, high) = (ratios[ratios.len() / 4], ratios[ratios.len() * 3 / 4]);
     Ratio { median: proved.as_secs_f64() / plain.as_secs_f64(), low, high, plain }
+}
+
+/// A tray of mixed calls, for both monitors, and the table and the bytes that it is run on.
+#[derive(Clone)]
+struct Night {
+    world: World,
+    bytes: Vec<u8>,
+    ours: Vec<monitor::Record>,
+    theirs: Vec<plain::Record>,
+}
+
+impl Night {
+    /// Each record has a part of the bytes to itself.
+    fn new(world: &World) -> Night {
+        let mut night = Night { world: world.clone(), bytes: Vec::new(), ours: Vec::new(), theirs: Vec::new() };
+        for Call { request: Request { caller, code, a, b, c }, buffer } in drawn(world) {
+            let (offset, length) = (night.bytes.len() as u32, buffer.len() as u32);
+            night.bytes.extend(buffer);
+            night.ours.push(monitor::Record { caller, code, a, b, c, offset, length, ..Default::default() });
+            night.theirs.push(plain::Record { caller, code, a, b, c, offset, length, ..Default::default() });
+        }
+        night
+    }
+
+    fn proved(&mut self) {
+        let World { table, store } = &mut self.world;
+        monitor::tray(table, store, &mut self.ours, &mut self.bytes).expect("the tray is run");
+    }
+
+    fn plain(&mut self) {
+        let World { table, store } = &mut self.world;
+        assert_eq!(plain::tray(table, store, &mut self.theirs, &mut self.bytes), plain::Error::XOK);
+    }
+
+    fn proved_singly(&mut self) {
+        let World { table, store } = &mut self.world;
+        for record in &mut self.ours {
+            let &mut monitor::Record { caller, code, a, b, c, offset, length, .. } = record;
+            let part = &mut self.bytes[offset as usize..][..length as usize];
+            record.answer = monitor::call(table, store, caller, code, [a, b, c], part);
+        }
+    }
+
+    fn plain_singly(&mut self) {
+        let World { table, store } = &mut self.world;
+        for record in &mut self.theirs {
+            let &mut plain::Record { caller, code, a, b, c, offset, length, .. } = record;
+            let part = &mut self.bytes[offset as usize..][..length as usize];
+            let answer = plain::call(table, store, &Request { caller, code, a, b, c }, part);
+            (record.error, record.first, record.second) = (answer.error as u32, answer.first, answer.second);
+        }
+    }
+}
+
+/// A repetition starts on a copy of the table, which is made outside the time measured.
+fn tray(world: &World, one: fn(&mut Night), other: fn(&mut Night)) -> Ratio {
+    let night = Night::new(world);
+    let action = |run: fn(&mut Night)| {
+        let night = night.clone();
+        move |n| {
+            (0..n)
+                .map(|_| {
+                    let mut night = night.clone();
+                    timed(1, || run(std::hint::black_box(&mut night)))
+                })
+                .sum()
+        }
+    };
+    ratio(ROUNDS, 1, action(one), action(other))
 }
 
 // Replay, as whole programs.

@@ -26,22 +26,45 @@ type Outcome = Result<(u32, u32), Error>;
 const DONE: Outcome = Ok((0, 0));
 
 pub fn call(table: &mut [u32], store: &mut [u8], request: &Request, buffer: &mut [u8]) -> Answer {
-    let (error, (first, second)) = match outcome(table, store, request, buffer) {
+    match check(table, store.len()) {
+        Some(shape) => judged(&shape, table, store, request, Some(buffer)),
+        None => Answer { error: XbTab, first: 0, second: 0 },
+    }
+}
+
+/// A call on a table that has been judged. Where there is no buffer, since a tray's record names a part outside the bytes lent, that is
+/// told once the caller and the code are right.
+pub(crate) fn judged(
+    shape: &Shape,
+    table: &mut [u32],
+    store: &mut [u8],
+    request: &Request,
+    buffer: Option<&mut [u8]>,
+) -> Answer {
+    let (error, (first, second)) = match outcome(shape, table, store, request, buffer) {
         Ok(results) => (XOK, results),
         Err(error) => (error, (0, 0)),
     };
     Answer { error, first, second }
 }
 
-fn outcome(table: &mut [u32], store: &mut [u8], request: &Request, buffer: &mut [u8]) -> Outcome {
-    let Some(shape) = check(table, store.len()) else {
-        return Err(XbTab);
-    };
+fn outcome(
+    shape: &Shape,
+    table: &mut [u32],
+    store: &mut [u8],
+    request: &Request,
+    buffer: Option<&mut [u8]>,
+) -> Outcome {
     let &Request { caller, code, a, b, c } = request;
     let caller = caller as usize;
     if caller >= shape.count(Kind::Process) || table[shape.at(Kind::Process, caller) + LIVE] == 0 {
         return Err(XbPrSd);
     }
+    let Some(buffer) = buffer else {
+        // Which codes are calls' is said below: it is asked on copies.
+        let tried = outcome(shape, &mut table.to_vec(), &mut store.to_vec(), request, Some(&mut []));
+        return Err(if tried == Err(XbdKcl) { XbdKcl } else { XbSz });
+    };
     let at = shape.at(Kind::Process, caller);
     let mut caller = Caller {
         at,
@@ -49,7 +72,7 @@ fn outcome(table: &mut [u32], store: &mut [u8], request: &Request, buffer: &mut 
         seid: Kind::Process.seid(caller, table[at + SERIAL]),
         owner: table[at + OWNER],
         group: table[at + GROUP],
-        shape: &shape,
+        shape,
         table,
         store,
     };

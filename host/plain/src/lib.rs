@@ -2,7 +2,7 @@
 //!
 //! Nothing here is proved, and nothing here was taken from the proved library: the two are compared call by call, so the worth of
 //! this one lies in its being simple and independent. It is also the yardstick for speed: it judges the whole table at each call in
-//! one pass, makes the flow matrix once, and does no work that document 01 does not ask for.
+//! one pass, makes the flow matrix once, and does no work that document 01 does not ask for. A tray it judges once.
 
 mod calls;
 mod errors;
@@ -10,6 +10,7 @@ mod image;
 mod replay;
 mod seid;
 pub mod table;
+mod tray;
 
 pub use calls::{Answer, Request, call, clash, granted, valid_modes};
 pub use errors::Error;
@@ -17,3 +18,4 @@ pub use image::{image, image_length, reload};
 pub use replay::{number, replay};
 pub use seid::{Kind, Seid};
 pub use table::{Level, Shape, check, setup};
+pub use tray::{MOST_RECORDS, Record, tray};

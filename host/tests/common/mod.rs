@@ -19,6 +19,17 @@ impl Monitor for Archive {
         [answer.error, answer.first, answer.second]
     }
 
+    fn tray(&self, table: &mut [u32], store: &mut [u8], records: &mut [plain::Record], bytes: &mut [u8]) -> u32 {
+        let mut ours: Vec<monitor::Record> = records.iter().map(record).collect();
+        let answer = monitor::tray(table, store, &mut ours, bytes);
+        for (record, monitor::Record { caller, code, a, b, c, offset, length, answer }) in records.iter_mut().zip(ours)
+        {
+            let monitor::Answer { error, first, second } = answer;
+            *record = plain::Record { caller, code, a, b, c, offset, length, error, first, second };
+        }
+        answer.map_or_else(|error| error.number(), |()| 0)
+    }
+
     fn image_length(&self, table: &[u32], store_bytes: usize) -> usize {
         monitor::image_length(table, store_bytes).unwrap_or(0)
     }
@@ -38,4 +49,9 @@ impl Monitor for Archive {
     fn words(&self, request: &plain::Request) -> Option<String> {
         Some(monitor::explain::asked(request.code, [request.a, request.b, request.c]).to_string())
     }
+}
+
+fn record(record: &plain::Record) -> monitor::Record {
+    let &plain::Record { caller, code, a, b, c, offset, length, error, first, second } = record;
+    monitor::Record { caller, code, a, b, c, offset, length, answer: monitor::Answer { error, first, second } }
 }

@@ -1,7 +1,7 @@
 //! Tries a library and a replay program that stand in a folder, as stand-in.sh leaves them, by the trials that the tests make on the
 //! proved ones. It serves to try the trials themselves: faults.sh plants faults and expects them to be found.
 //!
-//!   try_library FOLDER (differential | secrecy | images | replay)
+//!   try_library FOLDER (differential | secrecy | trays | images | replay)
 //!
 //! It ends with 0 if the trial found nothing, with 101 if it did, and with 2 if there is nothing to try.
 
@@ -12,7 +12,7 @@ use std::process::exit;
 use trial::differ::Differ;
 use trial::images::Images;
 use trial::listings::Program;
-use trial::{Monitor, Plain, Rng, secrecy, setting, tables};
+use trial::{Monitor, Plain, Rng, secrecy, setting, tables, trays};
 
 unsafe extern "C" {
     fn dlopen(path: *const c_char, flags: c_int) -> *mut c_void;
@@ -30,6 +30,8 @@ struct Answer {
 
 type Setup = unsafe extern "C" fn(*mut u32, usize, usize) -> u32;
 type Check = unsafe extern "C" fn(*const u32, usize, usize) -> u32;
+#[rustfmt::skip]
+type Tray = unsafe extern "C" fn(*mut u32, usize, *mut u8, usize, *mut plain::Record, usize, *mut u8, usize) -> u32;
 type ImageLength = unsafe extern "C" fn(*const u32, usize, usize) -> usize;
 type Image = unsafe extern "C" fn(*const u32, usize, *const u8, usize, *mut u8, usize) -> u32;
 type Reload = unsafe extern "C" fn(*mut u32, usize, *mut u8, usize, *const u8, usize) -> u32;
@@ -41,6 +43,7 @@ struct Library {
     setup: Setup,
     check: Check,
     call: Call,
+    tray: Tray,
     image_length: ImageLength,
     image: Image,
     reload: Reload,
@@ -60,6 +63,7 @@ impl Library {
             found
         };
         let (setup, check, call) = (find("monitor_setup"), find("monitor_check"), find("monitor_call"));
+        let tray = find("monitor_tray");
         let (length, image, reload) = (find("monitor_image_length"), find("monitor_image"), find("monitor_reload"));
         // SAFETY: the functions have the types of monitor.h.
         unsafe {
@@ -67,6 +71,7 @@ impl Library {
                 setup: std::mem::transmute::<*mut c_void, Setup>(setup),
                 check: std::mem::transmute::<*mut c_void, Check>(check),
                 call: std::mem::transmute::<*mut c_void, Call>(call),
+                tray: std::mem::transmute::<*mut c_void, Tray>(tray),
                 image_length: std::mem::transmute::<*mut c_void, ImageLength>(length),
                 image: std::mem::transmute::<*mut c_void, Image>(image),
                 reload: std::mem::transmute::<*mut c_void, Reload>(reload),
@@ -96,6 +101,14 @@ impl Monitor for Library {
         [error, first, second]
     }
 
+    fn tray(&self, table: &mut [u32], store: &mut [u8], records: &mut [plain::Record], bytes: &mut [u8]) -> u32 {
+        let lengths = (table.len(), store.len(), records.len(), bytes.len());
+        let (table, store) = (table.as_mut_ptr(), store.as_mut_ptr());
+        let (records, bytes) = (records.as_mut_ptr(), bytes.as_mut_ptr());
+        // SAFETY: as above; a record has the ten words of monitor.h.
+        unsafe { (self.tray)(table, lengths.0, store, lengths.1, records, lengths.2, bytes, lengths.3) }
+    }
+
     fn image_length(&self, table: &[u32], store_bytes: usize) -> usize {
         // SAFETY: as above.
         unsafe { (self.image_length)(table.as_ptr(), table.len(), store_bytes) }
@@ -121,7 +134,7 @@ fn nothing_to_try(why: &str) -> ! {
 fn main() {
     let words: Vec<String> = env::args().skip(1).collect();
     let [folder, trial] = &words[..] else {
-        nothing_to_try("try_library FOLDER (differential | secrecy | images | replay)");
+        nothing_to_try("try_library FOLDER (differential | secrecy | trays | images | replay)");
     };
     let folder = PathBuf::from(folder);
     let library = || Library::load(&folder.join("libmonitor.so"));
@@ -134,6 +147,10 @@ fn main() {
                 let limits = tables::limits(&mut rng);
                 secrecy::pair_of_runs(&library, &mut rng, limits, 40, &mut met);
             }
+        }
+        "trays" => {
+            let mut met = trays::Met::default();
+            trays::everything(&library(), &mut rng, setting("TRIAL_TRAYS", 3_000), &mut met);
         }
         "images" => Images::new(&library(), rng).everything(setting("TRIAL_IMAGES", 60)),
         "replay" => {

@@ -12,6 +12,7 @@ pub mod secrecy;
 pub mod shrink;
 pub mod tables;
 pub mod tally;
+pub mod trays;
 
 pub use calls::Call;
 pub use rng::Rng;
@@ -23,6 +24,9 @@ pub trait Monitor {
     fn check(&self, table: &[u32], store_bytes: usize) -> u32;
     /// Error, first and second.
     fn call(&self, table: &mut [u32], store: &mut [u8], request: &plain::Request, buffer: &mut [u8]) -> [u32; 3];
+
+    /// The tray's own answer; the records have theirs.
+    fn tray(&self, table: &mut [u32], store: &mut [u8], records: &mut [plain::Record], bytes: &mut [u8]) -> u32;
 
     fn image_length(&self, table: &[u32], store_bytes: usize) -> usize;
     fn image(&self, table: &[u32], store: &[u8], out: &mut [u8]) -> u32;
@@ -54,6 +58,10 @@ impl Monitor for Plain {
     fn call(&self, table: &mut [u32], store: &mut [u8], request: &plain::Request, buffer: &mut [u8]) -> [u32; 3] {
         let answer = plain::call(table, store, request, buffer);
         [answer.error as u32, answer.first, answer.second]
+    }
+
+    fn tray(&self, table: &mut [u32], store: &mut [u8], records: &mut [plain::Record], bytes: &mut [u8]) -> u32 {
+        plain::tray(table, store, records, bytes) as u32
     }
 
     fn image_length(&self, table: &[u32], store_bytes: usize) -> usize {

@@ -55,14 +55,14 @@ impl Met {
 }
 
 /// Cells whose records may be seen: with each cell, every cell that flows to it.
-type Seen = [bool; MAX_CELLS];
+pub(crate) type Seen = [bool; MAX_CELLS];
 
-fn seen_by(shape: &Shape, observers: &[usize]) -> Seen {
+pub(crate) fn seen_by(shape: &Shape, observers: &[usize]) -> Seen {
     std::array::from_fn(|cell| observers.iter().any(|&observer| shape.flow[cell][observer]))
 }
 
 /// All that flows to the observer, as one list of words and one of bytes.
-fn view(world: &World, shape: &Shape, seen: &Seen) -> (Vec<u32>, Vec<u8>) {
+pub(crate) fn view(world: &World, shape: &Shape, seen: &Seen) -> (Vec<u32>, Vec<u8>) {
     let mut words = world.table[..shape.at(Kind::Process, 0)].to_vec();
     let mut bytes = Vec::new();
     for kind in Kind::ALL {

@@ -4,7 +4,7 @@ use plain::Kind;
 use plain::table::{BITS, LIVE, MAP, PAGES, SERIAL, SHARABLE};
 use trial::images::Images;
 use trial::tally::Tally;
-use trial::{Monitor, Plain, Rng, World, calls, damage, secrecy, tables};
+use trial::{Monitor, Plain, Rng, World, calls, damage, secrecy, tables, trays};
 
 /// Every call on a well-formed table leaves it well formed, and a refused one changes nothing.
 #[test]
@@ -96,4 +96,13 @@ fn images() {
     images.everything(trial::setting("TRIAL_IMAGES", 40));
     println!("{}", images.met);
     images.met.assert_complete();
+}
+
+#[test]
+fn trays_are_calls_made_singly_and_nothing_flows_down() {
+    let mut rng = Rng::for_trial("trays_are_calls_made_singly_and_nothing_flows_down", 5);
+    let mut met = trays::Met::default();
+    trays::everything(&Plain, &mut rng, trial::setting("TRIAL_TRAYS", 1_500), &mut met);
+    println!("{met:#?}");
+    met.assert_complete();
 }

@@ -20,6 +20,10 @@ impl Monitor for Faulty {
         Plain.check(table, store_bytes)
     }
 
+    fn tray(&self, table: &mut [u32], store: &mut [u8], records: &mut [plain::Record], bytes: &mut [u8]) -> u32 {
+        Plain.tray(table, store, records, bytes)
+    }
+
     fn call(&self, table: &mut [u32], store: &mut [u8], request: &plain::Request, buffer: &mut [u8]) -> [u32; 3] {
         let (mut after, mut stored, mut shown) = (table.to_vec(), store.to_vec(), buffer.to_vec());
         let answer = Plain.call(&mut after, &mut stored, request, &mut shown);

@@ -1,0 +1,31 @@
+-- `begin` meets its contract: a tray that is too long, a table that is well formed, and one that is not.
+use mathlib.Core.Path.{refl}
+use borrow.Author.Needs.{needs}
+use Rattle.calls.proofs.TrayLaws.{begun-long, begun-good, begun-bad}
+use Rattle.calls.proofs.trays.begin.Statement.{statement}
+use Rattle.calls.proofs.trays.begin.Tie as tie
+
+returns : tie.Need-returns
+returns c = (begun-long _ _ _ (c .if1 .taken), refl)
+
+judge-requires : tie.Need-judge-requires
+judge-requires c κs = search needs
+
+same-length : tie.Need-same-length
+same-length c = search needs
+
+returns-2 : tie.Need-returns-2
+returns-2 c =
+    let at-judge = c .before in let at-else = at-judge .before .before .before in
+    (begun-good _ _ _ (at-else .if1 .left) _ (at-judge .judge .ensures .0) (c .if2 .taken) (at-judge .judge .ensures .1), refl)
+
+same-length-2 : tie.Need-same-length-2
+same-length-2 c = search needs
+
+returns-3 : tie.Need-returns-3
+returns-3 c =
+    let at-judge = c .before in let at-else = at-judge .before .before .before in
+    (begun-bad _ _ _ (at-else .if1 .left) (at-judge .judge .ensures .0) (c .if2 .left), refl)
+
+pub begin-spec : {M : Type 1} → statement M
+begin-spec = tie.close (tie.spec returns judge-requires same-length returns-2 same-length-2 returns-3)

@@ -1,0 +1,81 @@
+-- Calls by the tray: a record of the code as the rules' record, what a run of one record and of a tray comes to, and what the judging of a tray hands on.
+use mathlib.Core.Path.{_≡_}
+use mathlib.Core.Bool.{Bool, false, true, cond}
+use mathlib.Core.List.{List, [], map}
+use Prim.Native.Nat.{ℕ}
+use lib.Dec.{ltb, eqb}
+use lib.ListN.{length, getD, replicate}
+use lib.Seq.{sets}
+use Rattle.rules.specs.Claim.{test}
+use Rattle.rules.specs.Layout.{maxCells, configuration, flowMatrix}
+use Rattle.rules.specs.WellFormed.{wellFormed}
+use Rattle.rules.specs.Errors.{XOK, XbTab, XbParam}
+use Rattle.rules.specs.Step.{State}
+use Rattle.rules.specs.Tray as rules
+use Rattle.rules.specs.Tray.{recordStep, withAnswer, mostRecords, trayAnswer, afterTray}
+use Rattle.calls.specs.declared.Record.{Record}
+use Rattle.calls.specs.declared.Answer.{Answer}
+use Rattle.calls.specs.Did.{ruleAnswer}
+
+-- the same numbers
+abbrev pub recordOf : Record → rules.Record
+recordOf r = record {
+  caller = r .caller;
+  code = r .code;
+  a = r .a;
+  b = r .b;
+  c = r .c;
+  offset = r .offset;
+  length = r .length;
+  answer = ruleAnswer (r .answer);
+}
+
+abbrev pub recordsOf : List Record → List rules.Record
+recordsOf rs = map recordOf rs
+
+-- the record with its answer; its other fields are as they were
+abbrev pub answeredBy : Record → Answer → Record
+answeredBy r x = record {
+  caller = r .caller;
+  code = r .code;
+  a = r .a;
+  b = r .b;
+  c = r .c;
+  offset = r .offset;
+  length = r .length;
+  answer = x;
+}
+
+-- what the public tray ensures: its answer, every table word, every stored byte, every record and every byte of the lent slice are those of the rules' tray
+pub record Trayed (s : State) (lent : List ℕ) (rs : List Record) (v : ℕ) (t′ s′ bytes′ : List ℕ) (rs′ : List Record) : Type 0 where
+  pub answer : v ≡ trayAnswer s (recordsOf rs)
+  pub table : t′ ≡ afterTray s lent (recordsOf rs) .state .table
+  pub store : s′ ≡ afterTray s lent (recordsOf rs) .state .store
+  pub bytes : bytes′ ≡ afterTray s lent (recordsOf rs) .bytes
+  pub records : recordsOf rs′ ≡ afterTray s lent (recordsOf rs) .records
+
+-- ---- on the way there
+
+-- one record run
+pub record Ran (s : State) (lent : List ℕ) (r y : Record) (t′ s′ bytes′ : List ℕ) : Type 0 where
+  pub answered : recordOf y ≡ withAnswer (recordOf r) (recordStep s lent (recordOf r) .answered)
+  pub table : t′ ≡ recordStep s lent (recordOf r) .state .table
+  pub store : s′ ≡ recordStep s lent (recordOf r) .state .store
+  pub bytes : bytes′ ≡ sets lent (r .offset) (recordStep s lent (recordOf r) .buffer)
+
+-- a table that was judged: it is well formed for its store, and m is its flow matrix
+pub record Ready (t s : List ℕ) (m : List (List Bool)) : Type 0 where
+  pub good : test (wellFormed t (length s)) ≡ true
+  pub matrix : m ≡ flowMatrix (configuration t)
+
+-- no cell flows to any, not even to itself: no well-formed table has such a matrix, so it says that no tray is run
+abbrev pub noFlow : List (List Bool)
+noFlow = replicate maxCells (replicate maxCells false)
+
+-- what the judging of a tray of so many records hands on
+unfoldable pub begun : List ℕ → ℕ → ℕ → List (List Bool)
+begun t bytes count = cond (ltb mostRecords count) noFlow (cond (test (wellFormed t bytes)) (flowMatrix (configuration t)) noFlow)
+
+-- "a longer one is refused with 4, then a bad table with 1"
+unfoldable pub verdictOf : List (List Bool) → ℕ → ℕ
+verdictOf m count = cond (ltb mostRecords count) XbParam (cond (getD (getD m 0 []) 0 false) XOK XbTab)

@@ -1,0 +1,129 @@
+// What calls by the tray are made of: the judging of a tray, and the run of one record. The records are lent to `tray` alone.
+ghost use mathlib.Core.Path.{_≡_};
+ghost use mathlib.Core.Bool.{cond};
+ghost use mathlib.Core.List.{[]};
+ghost use lib.Dec.{eqb};
+ghost use Rattle.kept.proofs.Recorded.{outsideNumber};
+ghost use Rattle.calls.specs.World.{Known};
+ghost use Rattle.calls.specs.Left.{said};
+ghost use Rattle.calls.specs.Did.{stateOf};
+ghost use Rattle.calls.specs.Tray.{Ran, Ready, answeredBy, begun, recordOf, verdictOf};
+use crate::Answer;
+use crate::Record;
+use crate::bad_caller;
+use crate::bad_code;
+use crate::base::refused;
+use crate::call_judged;
+use layout::Header;
+use layout::header_of;
+use levels::may_flow;
+use rules::MAX_CELLS;
+use rules::XB_PARAM;
+use rules::XB_PR_SD;
+use rules::XB_SZ;
+use rules::XB_TAB;
+use rules::XBD_KCL;
+use rules::XOK;
+use words::wide;
+
+const MOST_RECORDS: usize = 1024;
+
+// The flow matrix of a table on which a tray of so many records is run. Where none is, a matrix in which no cell flows to any, not even to itself. The table stays.
+pub(crate) fn begin(
+    t: &mut [u32],
+    store_bytes: usize,
+    count: usize,
+) -> [[bool; MAX_CELLS]; MAX_CELLS]
+    ensures { λ m. ⌜ (m ≡ begun (now (t .entry)) «store_bytes» «count») × (now (t .exit) ≡ now (t .entry)) ⌝ }
+{
+    let mut m = [[false; MAX_CELLS]; MAX_CELLS];
+    if MOST_RECORDS < count {
+        return m;
+    }
+    if table::judge(t, store_bytes, &mut m) {
+        return m;
+    }
+    [[false; MAX_CELLS]; MAX_CELLS]
+}
+
+// The tray's own answer, by the matrix that its judging handed on: "a longer one is refused with 4, then a bad table with 1".
+pub(crate) fn verdict(m: [[bool; MAX_CELLS]; MAX_CELLS], count: usize) -> u32
+    ensures { λ v. ⌜ v ≡ verdictOf m «count» ⌝ }
+{
+    if MOST_RECORDS < count {
+        return XB_PARAM;
+    }
+    if may_flow(m, 0, 0) {
+        return XOK;
+    }
+    XB_TAB
+}
+
+// How many of so many records are run.
+pub(crate) fn due(error: u32, count: usize) -> usize
+    ensures { λ n. ⌜ n ≡ cond (eqb error 0) «count» 0 ⌝ }
+{
+    if error == XOK { count } else { 0 }
+}
+
+// The record with its answer; its other fields stay.
+fn answered(r: Record, x: Answer) -> Record
+    ensures { λ y. ⌜ y ≡ answeredBy r x ⌝ }
+{
+    Record {
+        caller: r.caller,
+        code: r.code,
+        a: r.a,
+        b: r.b,
+        c: r.c,
+        offset: r.offset,
+        length: r.length,
+        answer: x,
+    }
+}
+
+// A record whose part lies outside the byte slice: the caller, then the code, then the part.
+fn outside(t: &[u32], n: Header, r: Record) -> Answer
+    requires { ⌜ Known (now t) n ⌝ }
+    ensures { λ x. ⌜ x ≡ said (outsideNumber (stateOf (now (t .entry)) []) (recordOf r)) 0 0 ⌝ }
+{
+    if bad_caller(t, n, r.caller) {
+        return refused(XB_PR_SD);
+    }
+    if bad_code(r.code) {
+        return refused(XBD_KCL);
+    }
+    refused(XB_SZ)
+}
+
+// One record on a judged table: it is taken apart, its call is run on its part of the bytes, and its answer is stored in it.
+pub(crate) fn run(
+    t: &mut [u32],
+    store: &mut [u8],
+    bytes: &mut [u8],
+    m: [[bool; MAX_CELLS]; MAX_CELLS],
+    r: Record,
+) -> Record
+    requires { ⌜ Ready (now t) (now store) m ⌝ }
+    ensures { λ y. ⌜ Ran (stateOf (now (t .entry)) (now (store .entry))) (now (bytes .entry)) r y (now (t .exit)) (now (store .exit)) (now (bytes .exit)) ⌝ }
+{
+    let n = header_of(t);
+    let from = wide(r.offset);
+    let end = from + wide(r.length);
+    if end <= bytes.len() {
+        let x = call_judged(
+            t,
+            store,
+            n,
+            m,
+            r.caller,
+            r.code,
+            r.a,
+            r.b,
+            r.c,
+            &mut bytes[from..end],
+        );
+        return answered(r, x);
+    }
+    answered(r, outside(t, n, r))
+}

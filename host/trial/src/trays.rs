@@ -1,0 +1,352 @@
+//! Calls by the tray: against the calls made singly by the plain monitor, every answer, word and byte; and in pairs of runs that an
+//! observer must not be able to tell apart.
+
+use crate::Monitor;
+use crate::calls::{self, Call};
+use crate::differ::difference;
+use crate::rng::Rng;
+use crate::secrecy::{Seen, seen_by, view};
+use crate::tables::{self, Limits, World};
+use plain::{Kind, MOST_RECORDS, Record, Request, Shape};
+
+/// What the trials have met. All of it must be met, or they say little.
+#[derive(Debug, Default)]
+pub struct Met {
+    pub trays: u64,
+    pub done: u64,
+    pub refused: u64,
+    /// Parts that end where the bytes end, and that do not lie inside: by one byte, by far, by a sum past 2^32.
+    pub at_the_end: u64,
+    pub empty_at_the_end: u64,
+    pub one_past: u64,
+    pub outside: u64,
+    pub wrapping: u64,
+    /// Parts outside of a record whose caller or code is bad.
+    pub outside_and_bad: u64,
+    /// Records that read what an earlier one of the tray wrote into the bytes.
+    pub overlapping: u64,
+    pub none: u64,
+    pub full: u64,
+    pub too_long: u64,
+    pub bad_table: u64,
+    /// Pairs of trays, and the records in them.
+    pub pairs: u64,
+    pub visible_done: u64,
+    pub visible_refused: u64,
+    pub visible_outside: u64,
+    pub hidden_done: u64,
+}
+
+impl Met {
+    pub fn assert_complete(&self) {
+        let all = [
+            self.trays,
+            self.done,
+            self.refused,
+            self.at_the_end,
+            self.empty_at_the_end,
+            self.one_past,
+            self.outside,
+            self.wrapping,
+            self.outside_and_bad,
+            self.overlapping,
+            self.none,
+            self.full,
+            self.too_long,
+            self.bad_table,
+            self.pairs,
+            self.visible_done,
+            self.visible_refused,
+            self.visible_outside,
+            self.hidden_done,
+        ];
+        assert!(all.iter().all(|&count| count > 0), "never met: {self:#?}");
+    }
+}
+
+/// All trials, with so many trays and so many pairs of them.
+pub fn everything(monitor: &impl Monitor, rng: &mut Rng, trays: u64, met: &mut Met) {
+    for count in [0, 1, MOST_RECORDS - 1, MOST_RECORDS, MOST_RECORDS + 1, 2 * MOST_RECORDS] {
+        of_length(monitor, rng, count, met);
+    }
+    for _ in 0..trays {
+        let limits = tables::limits(rng);
+        as_singly(monitor, rng, limits, met);
+        let limits = tables::limits(rng);
+        pair_of_trays(monitor, rng, limits, met);
+    }
+}
+
+/// A tray, the table and the bytes that it is run on.
+#[derive(Clone)]
+struct Hall {
+    world: World,
+    bytes: Vec<u8>,
+    records: Vec<Record>,
+}
+
+impl Hall {
+    fn run(&mut self, monitor: &impl Monitor) -> u32 {
+        monitor.tray(&mut self.world.table, &mut self.world.store, &mut self.records, &mut self.bytes)
+    }
+
+    /// The record's call by itself, made by the plain monitor on its part of the bytes.
+    fn single(&mut self, shape: &Shape, record: &mut Record) {
+        let &mut Record { caller, code, a, b, c, offset, length, .. } = record;
+        let request = Request { caller, code, a, b, c };
+        let World { table, store } = &mut self.world;
+        let answer = match inside(record, self.bytes.len()) {
+            true => {
+                let part = &mut self.bytes[offset as usize..][..length as usize];
+                let answer = plain::call(table, store, &request, part);
+                [answer.error as u32, answer.first, answer.second]
+            }
+            false => [outside(&self.world, shape, &request), 0, 0],
+        };
+        [record.error, record.first, record.second] = answer;
+    }
+}
+
+/// By the sum of two numbers of any size.
+fn inside(record: &Record, bytes: usize) -> bool {
+    u128::from(record.offset) + u128::from(record.length) <= bytes as u128
+}
+
+/// The refusal where the part lies outside: 2 and 3 come first.
+fn outside(world: &World, shape: &Shape, request: &Request) -> u32 {
+    let caller = request.caller as usize;
+    if caller >= shape.count(Kind::Process) || !world.live(shape, Kind::Process, caller) {
+        return 2;
+    }
+    let answer = plain::call(&mut world.table.clone(), &mut world.store.clone(), request, &mut []);
+    if answer.error == plain::Error::XbdKcl { 3 } else { 5 }
+}
+
+fn record(rng: &mut Rng, call: &Call, offset: u32, length: u32) -> Record {
+    let Request { caller, code, a, b, c } = call.request;
+    // In the room for the answer stands anything.
+    let (error, first, second) = (rng.word(), rng.word(), rng.word());
+    Record { caller, code, a, b, c, offset, length, error, first, second }
+}
+
+/// Where a part of that length is placed in so many bytes: inside, at the end, beside it, or quite elsewhere.
+fn place(rng: &mut Rng, length: u32, bytes: u32) -> (u32, u32) {
+    let last = bytes.saturating_sub(length);
+    match rng.below(24) {
+        0 => (last, length),
+        1 => (last + 1, length),
+        2 => (bytes, 0),
+        3 => (bytes + 1, 0),
+        4 => (rng.pick(&[u32::MAX, 0x8000_0000, bytes.wrapping_mul(2)]), length),
+        5 => (length.wrapping_neg(), length),
+        6 => (u32::MAX, rng.pick(&[1, 2, 16, u32::MAX])),
+        _ => (rng.below(last as usize + 1) as u32, length),
+    }
+}
+
+/// A tray whose records are drawn on the table as it stands when they are run, against the calls made singly.
+fn as_singly(monitor: &impl Monitor, rng: &mut Rng, limits: Limits, met: &mut Met) {
+    let world = match rng.chance(1, 4) {
+        true => tables::fresh(rng, limits),
+        false => tables::well_formed(rng, limits),
+    };
+    let shape = world.shape();
+    let length = rng.pick(&[0usize, 1, 12, 16, 40, 512, 600, 2_048]);
+    let mut bytes = vec![0; length];
+    rng.bytes(&mut bytes);
+    let mut start = Hall { world, bytes, records: Vec::new() };
+    let mut singly = start.clone();
+    let mut written: Vec<bool> = vec![false; length];
+    for _ in 0..rng.below(40) {
+        let call = calls::any(rng, &singly.world, &shape);
+        let (offset, size) = place(rng, call.buffer.len() as u32, length as u32);
+        let mut record = record(rng, &call, offset, size);
+        start.records.push(record);
+        let before = singly.bytes.clone();
+        singly.single(&shape, &mut record);
+        singly.records.push(record);
+        note(met, &record, length, &written);
+        for (at, byte) in before.iter().enumerate() {
+            written[at] |= *byte != singly.bytes[at];
+        }
+    }
+    met.trays += 1;
+    let mut ours = start.clone();
+    assert_eq!(ours.run(monitor), 0, "the answer of a tray of {} records", start.records.len());
+    same(&shape, &start, &ours, &singly);
+}
+
+fn note(met: &mut Met, record: &Record, bytes: usize, written: &[bool]) {
+    let end = u64::from(record.offset) + u64::from(record.length);
+    match record.error {
+        0 => met.done += 1,
+        _ => met.refused += 1,
+    }
+    if inside(record, bytes) {
+        let part = record.offset as usize..end as usize;
+        met.overlapping +=
+            u64::from(record.error == 0 && matches!(record.code, 14 | 15) && written[part].contains(&true));
+        met.at_the_end += u64::from(end == bytes as u64 && record.length > 0);
+        met.empty_at_the_end += u64::from(end == bytes as u64 && record.length == 0);
+    } else {
+        met.outside += 1;
+        met.one_past += u64::from(end == bytes as u64 + 1);
+        met.wrapping += u64::from(end > u64::from(u32::MAX) && end as u32 as usize <= bytes);
+        met.outside_and_bad += u64::from(matches!(record.error, 2 | 3));
+    }
+}
+
+fn same(shape: &Shape, start: &Hall, ours: &Hall, theirs: &Hall) {
+    for (at, (one, other)) in ours.records.iter().zip(&theirs.records).enumerate() {
+        assert_eq!(one, other, "record {at} of the tray {:#?}", start.records);
+    }
+    assert_eq!(ours.bytes, theirs.bytes, "the bytes after the tray {:#?}", start.records);
+    if ours.world != theirs.world {
+        panic!("after the tray {:#?}:\n{}", start.records, difference(shape, &ours.world, &theirs.world));
+    }
+}
+
+/// A tray of so many records, on a good table and on a bad one. Too long it is refused with 4, then a bad table with 1, and then nothing
+/// is changed.
+fn of_length(monitor: &impl Monitor, rng: &mut Rng, count: usize, met: &mut Met) {
+    let world = tables::well_formed(rng, tables::MIDDLE);
+    let shape = world.shape();
+    let mut start = Hall { world, bytes: vec![0; 1_024], records: Vec::new() };
+    rng.bytes(&mut start.bytes);
+    for _ in 0..count {
+        let call = calls::any(rng, &start.world, &shape);
+        let (offset, size) = place(rng, call.buffer.len() as u32, 1_024);
+        let record = record(rng, &call, offset, size);
+        start.records.push(record);
+    }
+    let long = count > MOST_RECORDS;
+    let mut ours = start.clone();
+    assert_eq!(ours.run(monitor), if long { 4 } else { 0 }, "the answer of a tray of {count} records");
+    let mut theirs = start.clone();
+    if !long {
+        let mut records = std::mem::take(&mut theirs.records);
+        for record in &mut records {
+            theirs.single(&shape, record);
+        }
+        theirs.records = records;
+    }
+    same(&shape, &start, &ours, &theirs);
+
+    let mut bad = start.clone();
+    bad.world.table[7] = 1; // a header word that is zero
+    let before = bad.clone();
+    assert_eq!(bad.run(monitor), if long { 4 } else { 1 }, "the answer of a tray of {count} records on a bad table");
+    same(&shape, &start, &bad, &before);
+
+    met.trays += 2;
+    met.none += u64::from(count == 0);
+    met.full += u64::from(count == MOST_RECORDS);
+    met.too_long += u64::from(long);
+    met.bad_table += u64::from(!long);
+}
+
+/// The bytes are cut into stretches: the parts of records that remain lie in the even ones, those of records that are struck out in the
+/// odd ones.
+const STRETCH: u32 = 520;
+
+fn apart(rng: &mut Rng, length: u32, stretches: u32, hidden: bool) -> (u32, u32) {
+    if rng.chance(1, 24) {
+        return (stretches * STRETCH + rng.between(1, 9), length); // past the end
+    }
+    let stretch = 2 * rng.below(stretches as usize / 2) as u32 + u32::from(hidden);
+    (stretch * STRETCH + rng.below((STRETCH - length) as usize + 1) as u32, length)
+}
+
+/// One run of a pair: the hall as its tray finds it, and as the records drawn so far would leave it.
+struct Run {
+    start: Hall,
+    along: Hall,
+}
+
+impl Run {
+    /// One record more, drawn for the table as it stands.
+    fn push(&mut self, shape: &Shape, record: Record) -> u32 {
+        self.start.records.push(record);
+        let mut made = record;
+        self.along.single(shape, &mut made);
+        made.error
+    }
+
+    fn hidden(&mut self, rng: &mut Rng, shape: &Shape, seen: &Seen, stretches: u32, met: &mut Met) {
+        for _ in 0..rng.below(4) {
+            let caller = calls::caller(rng, &self.along.world, shape, |cell| !seen[cell]).expect("a cell is hidden");
+            let call = calls::by(rng, &self.along.world, shape, caller);
+            let (offset, length) = apart(rng, (call.buffer.len() as u32).min(STRETCH), stretches, true);
+            let record = record(rng, &call, offset, length);
+            met.hidden_done += u64::from(self.push(shape, record) == 0);
+        }
+    }
+}
+
+/// Two trays under 02's premises: the tables agree on what flows to the observers, the bytes on the parts of the remaining records, and
+/// these lie apart from the others'.
+fn pair_of_trays(monitor: &impl Monitor, rng: &mut Rng, limits: Limits, met: &mut Met) {
+    let world = match rng.chance(1, 4) {
+        true => tables::fresh(rng, limits),
+        false => tables::well_formed(rng, limits),
+    };
+    let shape = world.shape();
+    let observers = [rng.below(shape.cells), rng.below(shape.cells)];
+    let seen = seen_by(&shape, &observers[..rng.below(2) + 1]);
+    if seen[..shape.cells].iter().all(|&cell| cell) {
+        return;
+    }
+    met.pairs += 1;
+    let stretches = 2 * rng.between(1, 3);
+    let mut bytes = vec![0; (stretches * STRETCH) as usize];
+    rng.bytes(&mut bytes);
+    let mut other = Hall { world: world.clone(), bytes: bytes.clone(), records: Vec::new() };
+    let one = Hall { world, bytes, records: Vec::new() };
+    tables::fill(rng, &mut other.world, &shape, |cell| !seen[cell]);
+    for stretch in other.bytes.chunks_mut(STRETCH as usize).skip(1).step_by(2) {
+        rng.bytes(stretch);
+    }
+    let mut runs = [one, other].map(|start| Run { along: start.clone(), start });
+    let mut remaining = Vec::new();
+    for _ in 0..rng.below(30) {
+        for run in &mut runs {
+            run.hidden(rng, &shape, &seen, stretches, met);
+        }
+        let drawn_from = rng.below(2);
+        let world = &runs[drawn_from].along.world;
+        let caller = match rng.chance(1, 64) {
+            true => None,
+            false => calls::caller(rng, world, &shape, |cell| seen[cell]),
+        };
+        let caller = caller.unwrap_or_else(|| calls::no_caller(rng, &shape));
+        let call = calls::by(rng, world, &shape, caller);
+        let (offset, length) = apart(rng, (call.buffer.len() as u32).min(STRETCH), stretches, false);
+        let mut places = [0, 0];
+        for (run, place) in runs.iter_mut().zip(&mut places) {
+            // What stands in the room for the answer may differ.
+            let record = record(rng, &call, offset, length);
+            *place = run.start.records.len();
+            let error = run.push(&shape, record);
+            match error {
+                0 => met.visible_done += 1,
+                _ => met.visible_refused += 1,
+            }
+            met.visible_outside += u64::from(!inside(&record, run.start.bytes.len()));
+        }
+        remaining.push(places);
+    }
+    let [one, other] = runs.map(|run| {
+        let mut hall = run.start;
+        assert_eq!(hall.run(monitor), 0, "the answer of a tray of a pair");
+        hall
+    });
+    for [first, second] in remaining {
+        let (first, second) = (one.records[first], other.records[second]);
+        assert_eq!(first, second, "a record that remains, in the trays {:#?} and {:#?}", one.records, other.records);
+    }
+    let parts = |hall: &Hall| hall.bytes.chunks(STRETCH as usize).step_by(2).map(<[u8]>::to_vec).collect::<Vec<_>>();
+    assert!(parts(&one) == parts(&other), "the parts of the remaining records differ after {:#?}", one.records);
+    if view(&one.world, &shape, &seen) != view(&other.world, &shape, &seen) {
+        panic!("what is seen differs after a pair of trays:\n{}", difference(&shape, &one.world, &other.world));
+    }
+}
