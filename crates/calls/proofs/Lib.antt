@@ -8,6 +8,7 @@ pub mod Leaves
 pub mod Given
 pub mod Holders
 pub mod FilesLaws
+pub mod Opens
 pub mod SegmentsLaws
 pub mod MapLaws
 pub mod ProcessesLaws

@@ -4,12 +4,12 @@ ghost use mathlib.Core.Bool.{true, _&&_, _||_, not};
 ghost use mathlib.Core.List.{List, [], _∷_, _++_};
 ghost use Prim.Native.Nat.{ℕ, _<_};
 ghost use lib.Dec.{leb, eqb};
-ghost use Rattle.rules.specs.Layout.{Addr, process, file, at, configuration, slots, cellOf, entries, flowMatrix};
-ghost use Rattle.rules.specs.Seid.{orSelf};
+ghost use Rattle.rules.specs.Layout.{Addr, file, at, configuration, cellOf, flowMatrix};
+ghost use Rattle.rules.specs.Seid.{indexOf, orSelf};
 ghost use Rattle.rules.specs.Modes.{validModes};
 ghost use Rattle.rules.specs.Rule.{Rule, write};
 ghost use Rattle.rules.specs.Call07.{create};
-ghost use Rattle.rules.specs.Call08.{clashesAt, clashes, openFile};
+ghost use Rattle.rules.specs.Call08.{clashes, openFile};
 ghost use Rattle.rules.specs.Call10.{link};
 ghost use Rattle.rules.specs.Call11.{unlinked, unlink};
 ghost use Rattle.rules.specs.Call12.{isShared, setBitsOf, setBits};
@@ -46,6 +46,7 @@ use ids::seid;
 use layout::Header;
 use layout::Kind;
 use layout::class_of;
+use layout::index_of;
 use modes::clash;
 use modes::reads;
 use modes::valid;
@@ -132,23 +133,16 @@ pub(crate) fn create(t: &mut [u32], n: Header, c: Caller, f: Slot, a: u32, b: u3
     answered(s, d)
 }
 
-// Whether descriptor d of process p holds s with modes that clash with these.
-fn clashes_at(t: &[u32], n: Header, p: u32, d: u32, s: u32, b: u32) -> bool
-    requires { ⌜ Clashable (now t) n s b × (p < slots (configuration (now t)) process) × (d < entries) ⌝ }
-    ensures { λ r. ⌜ r ≡ clashesAt (wordsOf (now (t .entry))) s b p d ⌝ }
-{
-    let x = entry_of(t, n, Kind::File, p, d);
-    if x.held != s {
-        return false;
-    }
-    clash(x.used, b)
-}
-
-// "The own cell's live descriptors are searched process by process and entry by entry up to the first clash."
+// "The own cell's live descriptors are searched process by process and entry by entry up to the first clash." The file's opens say how many of them
+// hold it: where there is none nothing is searched, and when that many were met the search ends.
 fn any_clash(t: &[u32], n: Header, c: Caller, s: u32, b: u32) -> bool
-    requires { ⌜ Sound (now t) n c × Clashable (now t) n s b ⌝ }
+    requires { ⌜ Sound (now t) n c × Clashable (now t) n s b × (cellOf (configuration (now t)) file (indexOf s) ≡ c .cell) ⌝ }
     ensures { λ r. ⌜ r ≡ clashes (configuration (now (t .entry))) (wordsOf (now (t .entry))) (c .cell) s b ⌝ }
 {
+    let mut left = read(t, n, Kind::File, index_of(s), OPENS);
+    if left == 0 {
+        return false;
+    }
     let from = first_slot(t, n, c.cell, CELL_PROCESSES);
     let count = in_cell(t, n, c.cell, CELL_PROCESSES);
     let mut found = false;
@@ -156,9 +150,16 @@ fn any_clash(t: &[u32], n: Header, c: Caller, s: u32, b: u32) -> bool
     'search: while p < count {
         let mut d: u32 = 0;
         while wide(d) < ENTRIES {
-            if clashes_at(t, n, from + p, d, s, b) {
-                found = true;
-                break 'search;
+            let x = entry_of(t, n, Kind::File, from + p, d);
+            if x.held == s {
+                if clash(x.used, b) {
+                    found = true;
+                    break 'search;
+                }
+                left -= 1;
+                if left == 0 {
+                    break 'search;
+                }
             }
             d += 1;
         }
@@ -169,7 +170,7 @@ fn any_clash(t: &[u32], n: Header, c: Caller, s: u32, b: u32) -> bool
 
 // Whether an open that nothing has refused so far clashes. "Readers in higher cells neither block nor are blocked": the search is made for a file of the own cell alone.
 fn busy(t: &[u32], n: Header, c: Caller, e: u32, f: Seen, s: u32, b: u32) -> bool
-    requires { ⌜ Sound (now t) n c × (e ≡ 0 → Clashable (now t) n s b) ⌝ }
+    requires { ⌜ Sound (now t) n c × (e ≡ 0 → Clashable (now t) n s b) × (f ≡ seenAs (configuration (now t)) (wordsOf (now t)) (c .slot) file (namedOf n file s)) ⌝ }
     ensures { λ r. ⌜ r ≡ eqb e 0 && (f .own && clashes (configuration (now (t .entry))) (wordsOf (now (t .entry))) (c .cell) s b) ⌝ }
 {
     if e == XOK {

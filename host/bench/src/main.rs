@@ -4,10 +4,10 @@
 //! the median of the rounds with its quartiles. Single calls include the whole-table check, as document 01 has it. The words that a
 //! successful call changes are put back after each call, in both alike and inside the time measured. Buffers are not cleared.
 //!
-//!   cargo run --release --bin bench [check|single|creation|mixed|tray|image|replay]..
+//!   cargo run --release --bin bench [check|single|creation|opens|mixed|tray|image|replay]..
 
-use monitor::Code;
-use monitor::layout::MAX_SLOTS;
+use monitor::layout::{ENTRIES, MAX_SLOTS};
+use monitor::{Bits, Caller, Cell, Code, Descriptor, Error, Hall, Modes, Monitor, Seid};
 use plain::{Kind, Request};
 use std::env;
 use std::fs::{self, File};
@@ -56,6 +56,9 @@ fn main() {
     if wanted("creation") {
         heading("Creation beyond the check, one cell, after set-up");
         creation();
+    }
+    if wanted("opens") {
+        opens();
     }
     if wanted("mixed") {
         heading("1,024 mixed calls");
@@ -327,6 +330,60 @@ fn creation() {
             beyond(&world, &Call { request, buffer: Vec::new() }),
         );
     }
+}
+
+/// Opens in a crowded cell: with the check, and beyond it, where the search for a clash is most of what there is.
+fn opens() {
+    let (world, files) = crowd().expect("the hall can be filled");
+    let calls = files.map(|(name, file, error)| {
+        let request = Request { caller: 0, code: Code::Open.number(), a: file.into(), b: Modes::Read.number(), c: 0 };
+        assert_eq!(plain_call(&mut world.clone(), &request, &mut []), error);
+        (name, Call { request, buffer: Vec::new() })
+    });
+    heading("Opens in one cell of 64 processes, all descriptors used");
+    for (name, call) in &calls {
+        line(name, single_call(&world, call));
+    }
+    heading("The same beyond the check");
+    for (name, call) in &calls {
+        line(name, beyond(&world, call));
+    }
+}
+
+/// One cell of 64 processes which read one file in all their descriptors, but for the first one's last, which is empty, and the last
+/// one's last two: they have a second file open, and a third one alone. A fourth is open nowhere. To open them gives these numbers.
+fn crowd() -> Result<(World, [(&'static str, Seid, u32); 3]), Error> {
+    let slots = 64;
+    let cell = Cell { processes: slots, files: 4, ..Cell::default() };
+    let mut hall = Monitor::set_up(&Hall { cells: vec![cell], blocks: 1 })?;
+    let (first, last) = (Caller(0), Caller(slots - 1));
+    for _ in 1..slots {
+        hall.spawn(first, 0, 0, Bits(0o666))?;
+    }
+    let mut file = || {
+        let (file, at) = hall.create_file(first, Bits(0o666), Modes::Read)?;
+        hall.link(first, file)?;
+        hall.close(first, at)?;
+        Ok(file)
+    };
+    let [read, quiet, once, alone] = [file()?, file()?, file()?, file()?];
+    for process in 0..slots {
+        for _ in 0..ENTRIES {
+            hall.open(Caller(process), read, Modes::Read)?;
+        }
+    }
+    for (caller, entry) in [(first, ENTRIES - 1), (last, ENTRIES - 2), (last, ENTRIES - 1)] {
+        hall.close(caller, Descriptor(entry as u32))?;
+    }
+    hall.open(last, once, Modes::Read)?;
+    hall.open(last, alone, Modes::Alone)?;
+    let (table, store) = hall.into_parts();
+    let files = [
+        ("8 open, of a quiet file", quiet, 0),
+        ("8 open, of one open once, in the last process", once, 0),
+        ("8 open, refused with 19 by the last process", alone, 19),
+    ];
+    Ok((World { table: table.into(), store: store.into() }, files))
 }
 
 /// One call beyond the check: in each round the time of the check alone is taken off, of each side its own.

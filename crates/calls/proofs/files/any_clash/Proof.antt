@@ -1,85 +1,145 @@
--- `files::any_clash` meets its contract. Both loops have passed no clashing open; the search is left by its label at the first.
-use Rattle.calls.proofs.FilesLaws.{none-clash, some-clash}
+-- `files::any_clash` meets its contract. Both loops have passed no clashing open, and no more are left than are counted down; the search is left by
+-- its label at the first that clashes, and where none is left.
+use Rattle.calls.proofs.FilesLaws.{none-clash, some-clash, clash-held}
+use Rattle.calls.proofs.Opens.{Unmet, unmet-first, unmet-next, past-other, past-held, all-met}
 use Rattle.calls.proofs.Searches.{home-in, run-slots}
 use Rattle.calls.proofs.Worlds.{shape, kind-word}
 use Rattle.calls.specs.World.{wordsOf}
 use Rattle.laws.proofs.Below.{some-none}
 use Rattle.rules.specs.Call08.{clashesAt}
-use Rattle.rules.specs.Layout.{process, entries}
+use Rattle.rules.specs.Layout.{process, file, at, entries, opens}
 use Rattle.rules.specs.Words.{someBelow}
 use borrow.Author.Count.{below-more}
 use native.Mathlib.Nat.{not-suc-le-zero, le-trans}
 use Prim.Native.Nat.{ℕ, _+_, _≤_, _<_, _-_}
 use mathlib.Core.Bool.{false}
-use mathlib.Core.Path.{_≡_, refl, sym, _∙_}
+use mathlib.Core.Logic.{⊎-elim}
+use mathlib.Core.Path.{_≡_, refl, sym, ap, _∙_}
 use borrow.Author.Needs.{needs}
 use native.Mathlib.Omega.{arith}
 use Rattle.calls.proofs.files.any_clash.Statement.{statement}
 use Rattle.calls.proofs.files.any_clash.Tie as tie
 
 abbrev Inv-loop : tie.InvT-loop
-Inv-loop t n s b from count found₀ p d₀ found d =
-    (found ≡ false) × (d ≤ entries) × ((k : ℕ) → k < d → clashesAt (wordsOf t) s b (from + p) k ≡ false)
+Inv-loop t n s b left₀ from count found₀ p d₀ left found d =
+    (found ≡ false) × (d ≤ entries) × ((k : ℕ) → k < d → clashesAt (wordsOf t) s b (from + p) k ≡ false) × Unmet t s left (from + p) d × (0 < left)
 
 abbrev μ-loop : tie.MeasureT-loop
-μ-loop t n s b from count found₀ p d₀ found d = entries - d
+μ-loop t n s b left₀ from count found₀ p d₀ left found d = entries - d
 
 abbrev Inv-search : tie.InvT-search
-Inv-search t n s b from count found₀ p₀ found p =
+Inv-search t n s b left₀ from count found₀ p₀ left found p =
     (found ≡ false) × (p ≤ count) × ((k : ℕ) → k < p → someBelow entries (clashesAt (wordsOf t) s b (from + k)) ≡ false)
+    × Unmet t s left (from + p) 0 × (0 < left)
 
 abbrev μ-search : tie.MeasureT-search
-μ-search t n s b from count found₀ p₀ found p = count - p
+μ-search t n s b left₀ from count found₀ p₀ left found p = count - p
+
+index-of-requires : tie.Need-index-of-requires Inv-loop μ-loop Inv-search μ-search
+index-of-requires c κs = search needs
+
+read-requires : tie.Need-read-requires Inv-loop μ-loop Inv-search μ-search
+read-requires c κs = (c .before .before .pre .0 .known, omega arith)
+
+-- what is counted down from is the file's opens
+begun : (c : tie.After-read Inv-loop μ-loop Inv-search μ-search) (q : ℕ) →
+    let args = c .before .before .before .args in
+    Unmet (args .t .now) (args .s) (c .read .result) q 0
+begun c q =
+    let t = c .before .before .before .args .t .now in
+    unmet-first t _ _ q (c .read .ensures ∙ ap (λ (i : ℕ). wordsOf t (at file i opens)) (c .before .index-of .ensures))
+
+returns : tie.Need-returns Inv-loop μ-loop Inv-search μ-search
+returns c =
+    let pre = c .before .before .before .before .pre in
+    sym (none-clash _ _ _ _ refl refl
+    (all-met (pre .0) (pre .1) (pre .2) refl refl 0 0 (omega arith) _ (begun (c .before) _) (c .if1 .taken)
+    (λ k h. absurd (not-suc-le-zero h)) (λ k h. absurd (not-suc-le-zero h))))
 
 first-slot-requires : tie.Need-first-slot-requires Inv-loop μ-loop Inv-search μ-search
-first-slot-requires c κs = let x = kind-word (c .before .pre .0 .known) process refl in (c .before .pre .0 .known, omega (arith, home-in (c .before .pre .0)), x .0, x .1)
+first-slot-requires c κs =
+    let sound = c .before .before .before .before .pre .0 in let x = kind-word (sound .known) process refl in
+    (sound .known, omega (arith, home-in sound), x .0, x .1)
 
 in-cell-requires : tie.Need-in-cell-requires Inv-loop μ-loop Inv-search μ-search
-in-cell-requires c κs = (c .before .before .pre .0 .known, home-in (c .before .before .pre .0), kind-word (c .before .before .pre .0 .known) process refl .0)
+in-cell-requires c κs =
+    let sound = c .before .before .before .before .before .pre .0 in
+    (sound .known, home-in sound, kind-word (sound .known) process refl .0)
 
 search-holds : tie.Need-search-holds Inv-loop μ-loop Inv-search μ-search
-search-holds c = (refl, omega arith, λ k h. absurd (not-suc-le-zero h))
+search-holds c =
+    let at-if1 = c .before .before in
+    (refl, omega arith, λ k h. absurd (not-suc-le-zero h), begun (at-if1 .before) _, omega (arith, at-if1 .if1 .left))
 
 loop-holds : tie.Need-loop-holds Inv-loop μ-loop Inv-search μ-search
-loop-holds c = (c .before .search .inv .0, omega arith, λ k h. absurd (not-suc-le-zero h))
+loop-holds c = let inv = c .before .search .inv in (inv .0, omega arith, λ k h. absurd (not-suc-le-zero h), inv .3, inv .4)
 
 wide-requires : tie.Need-wide-requires Inv-loop μ-loop Inv-search μ-search
 wide-requires c κs = search needs
 
-add-clashes-at : tie.Need-add-clashes-at Inv-loop μ-loop Inv-search μ-search
-add-clashes-at c =
-    let at-search-test = c .before .before .before in let at-in-cell = at-search-test .before .before in let at-first-slot = at-in-cell .before in
-    let at-start = at-first-slot .before .before in
+add-entry-of : tie.Need-add-entry-of Inv-loop μ-loop Inv-search μ-search
+add-entry-of c =
+    let in-search = c .before .before .before in let at-in-cell = in-search .before .before in let at-first-slot = at-in-cell .before in
+    let sound = at-first-slot .before .before .before .before .before .pre .0 in
     record {
       fits = omega (
         arith,
-        run-slots (at-start .pre .0) process refl (at-first-slot .first-slot .ensures .0) (at-in-cell .in-cell .ensures),
-        shape (at-start .pre .0 .known) .few process,
-        at-search-test .search-test .taken,
+        run-slots sound process refl (at-first-slot .first-slot .ensures .0) (at-in-cell .in-cell .ensures),
+        shape (sound .known) .few process,
+        in-search .search-test .taken,
       );
     }
 
-clashes-at-requires : tie.Need-clashes-at-requires Inv-loop μ-loop Inv-search μ-search
-clashes-at-requires c κs =
-    let at-search-test = c .before .before .before in let at-in-cell = at-search-test .before .before in let at-first-slot = at-in-cell .before in
-    let at-start = at-first-slot .before .before in (
-      at-start .pre .1,
-      omega (
-        arith,
-        run-slots (at-start .pre .0) process refl (at-first-slot .first-slot .ensures .0) (at-in-cell .in-cell .ensures),
-        at-search-test .search-test .taken,
-      ),
-      omega (arith, c .before .wide .ensures, c .if1 .taken),
-    )
+entry-of-requires : tie.Need-entry-of-requires Inv-loop μ-loop Inv-search μ-search
+entry-of-requires c κs = (c .before .before .before .before .before .before .before .before .before .before .before .pre .0 .known, refl)
+
+clash-requires : tie.Need-clash-requires Inv-loop μ-loop Inv-search μ-search
+clash-requires c κs = search needs
+
+sub-left : tie.Need-sub-left Inv-loop μ-loop Inv-search μ-search
+sub-left c = omega (arith, c .before .before .before .before .before .before .before .loop .inv .4)
+
+-- an entry is passed that does not clash, and it was not the last
+passed : (c : tie.Joined3 Inv-loop μ-loop Inv-search μ-search) →
+    let at-loop = c .before .before .before .before .before in let at-search = at-loop .before .before in
+    let at-first-slot = at-search .before .before in
+    let args = at-first-slot .before .before .before .before .before .args in
+    ((clashesAt (wordsOf (args .t .now)) (args .s) (args .b) (at-first-slot .first-slot .result + at-search .search .p) (at-loop .loop .d) ≡ false)
+    × Unmet (args .t .now) (args .s) (c .if3 .left) (at-first-slot .first-slot .result + at-search .search .p) (at-loop .loop .d + 1))
+    × (0 < c .if3 .left)
+passed c =
+    let at-entry-of = c .before .before in let at-if2 = at-entry-of .before in let at-loop = at-if2 .before .before in
+    let in-search = at-loop .before in let at-in-cell = in-search .before .before in let at-first-slot = at-in-cell .before in
+    let pre = at-first-slot .before .before .before .before .before .pre in
+    let low : at-loop .loop .d < entries = omega (arith, at-if2 .before .wide .ensures, at-if2 .if2 .taken) in
+    ⊎-elim
+    (λ x. (
+      past-held (pre .0) (pre .1) (pre .2) (at-first-slot .first-slot .ensures .0) (at-in-cell .in-cell .ensures) _ _
+          (in-search .search-test .taken) low (at-entry-of .entry-of .ensures) _ (at-loop .loop .inv .3) (x .0 .taken) (x .1 .ensures) (x .2 .left) (x .4),
+      omega (arith, x .3 .left, x .4),
+    ))
+    (λ x. (
+      past-other (pre .0) (pre .1) (pre .2) (at-first-slot .first-slot .ensures .0) (at-in-cell .in-cell .ensures) _ _
+          (in-search .search-test .taken) low (at-entry-of .entry-of .ensures) _ (at-loop .loop .inv .3) (x .0 .left) (x .1),
+      omega (arith, x .1, at-loop .loop .inv .4),
+    ))
+    (c .if3 .came)
 
 add-d : tie.Need-add-d Inv-loop μ-loop Inv-search μ-search
-add-d c = record { fits = omega (arith, c .before .before .before .wide .ensures, c .before .before .if1 .taken) }
+add-d c = let at-if2 = c .before .before .before in record { fits = omega (arith, at-if2 .before .wide .ensures, at-if2 .if2 .taken) }
 
 loop-less : tie.Need-loop-less Inv-loop μ-loop Inv-search μ-search
-loop-less c = omega (arith, c .before .before .before .wide .ensures, c .before .before .if1 .taken)
+loop-less c = let at-if2 = c .before .before .before in omega (arith, at-if2 .before .wide .ensures, at-if2 .if2 .taken)
 
 loop-again : tie.Need-loop-again Inv-loop μ-loop Inv-search μ-search
-loop-again c = (c .before .before .before .before .loop .inv .0, omega (arith, c .before .before .before .wide .ensures, c .before .before .if1 .taken), below-more _ _ (c .before .before .before .before .loop .inv .2) (sym (c .before .clashes-at .ensures) ∙ c .if2 .left))
+loop-again c =
+    let at-if2 = c .before .before .before in let inv = at-if2 .before .before .loop .inv in (
+      inv .0,
+      omega (arith, at-if2 .before .wide .ensures, at-if2 .if2 .taken),
+      below-more _ _ (inv .2) (passed c .0 .0),
+      passed c .0 .1,
+      passed c .1,
+    )
 
 add-p : tie.Need-add-p Inv-loop μ-loop Inv-search μ-search
 add-p c = search needs
@@ -88,17 +148,52 @@ search-less : tie.Need-search-less Inv-loop μ-loop Inv-search μ-search
 search-less c = search needs
 
 search-again : tie.Need-search-again Inv-loop μ-loop Inv-search μ-search
-search-again c = (c .before .before .loop .inv .0, omega arith, below-more _ _ (c .before .before .before .before .search .inv .2) (some-none entries _ (λ k l. c .before .before .loop .inv .2 k (le-trans l (omega (arith, c .before .wide .ensures, c .if1 .left))))))
-
-returns : tie.Need-returns Inv-loop μ-loop Inv-search μ-search
-returns c = c .before .search .inv .0 ∙ sym (none-clash _ _ _ _ (c .before .before .before .first-slot .ensures .0) (c .before .before .in-cell .ensures) (λ k l. c .before .search .inv .2 k (le-trans l (c .search-test .left))))
+search-again c =
+    let at-loop = c .before .before in let at-search = at-loop .before .before in
+    let args = at-search .before .before .before .before .before .before .before .args in (
+      at-loop .loop .inv .0,
+      omega arith,
+      below-more _ _ (at-search .search .inv .2)
+          (some-none entries _ (λ k l. at-loop .loop .inv .2 k (le-trans l (omega (arith, c .before .wide .ensures, c .if2 .left))))),
+      unmet-next (args .t .now) (args .s) _ _ _ _ (at-loop .loop .inv .1) (at-loop .loop .inv .3),
+      at-loop .loop .inv .4,
+    )
 
 returns-2 : tie.Need-returns-2 Inv-loop μ-loop Inv-search μ-search
 returns-2 c =
-    let at-wide = c .before .before .before in let at-search-test = at-wide .before .before in let at-in-cell = at-search-test .before .before in
-    let at-first-slot = at-in-cell .before in
-    sym (some-clash _ _ _ _ (at-first-slot .first-slot .ensures .0) (at-in-cell .in-cell .ensures) _ _ (at-search-test .search-test .taken) (omega
-    (arith, at-wide .wide .ensures, c .before .before .if1 .taken)) (sym (c .before .clashes-at .ensures) ∙ c .if2 .taken))
+    let at-search = c .before in let at-in-cell = at-search .before in
+    at-search .search .inv .0
+    ∙ sym (none-clash _ _ _ _ (at-in-cell .before .first-slot .ensures .0) (at-in-cell .in-cell .ensures)
+    (λ k l. at-search .search .inv .2 k (le-trans l (c .search-test .left))))
+
+returns-3 : tie.Need-returns-3 Inv-loop μ-loop Inv-search μ-search
+returns-3 c =
+    let at-if3 = c .before .before in let at-entry-of = at-if3 .before .before in let at-if2 = at-entry-of .before in
+    let in-search = at-if2 .before .before .before in let at-in-cell = in-search .before .before in let at-first-slot = at-in-cell .before in
+    let pre = at-first-slot .before .before .before .before .before .pre in
+    let from = at-first-slot .first-slot .ensures .0 in
+    let count = at-in-cell .in-cell .ensures in
+    let low : at-if2 .before .before .loop .d < entries = omega (arith, at-if2 .before .wide .ensures, at-if2 .if2 .taken) in
+    sym (some-clash _ _ _ _ from count _ _ (in-search .search-test .taken) low
+    (sym (clash-held (pre .1) _ _ (omega (arith, run-slots (pre .0) process refl from count, in-search .search-test .taken)) low
+    (at-entry-of .entry-of .ensures) (at-if3 .if3 .taken) (c .before .clash .ensures)) ∙ c .if4 .taken))
+
+returns-4 : tie.Need-returns-4 Inv-loop μ-loop Inv-search μ-search
+returns-4 c =
+    let at-clash = c .before .before in let at-if3 = at-clash .before in let at-entry-of = at-if3 .before .before in let at-if2 = at-entry-of .before in
+    let at-loop = at-if2 .before .before in let in-search = at-loop .before in let at-search = in-search .before in
+    let at-in-cell = at-search .before in let at-first-slot = at-in-cell .before in
+    let pre = at-first-slot .before .before .before .before .before .pre in
+    let from = at-first-slot .first-slot .ensures .0 in
+    let count = at-in-cell .in-cell .ensures in
+    let inv = at-loop .loop .inv in
+    let low : at-loop .loop .d < entries = omega (arith, at-if2 .before .wide .ensures, at-if2 .if2 .taken) in
+    let step = past-held (pre .0) (pre .1) (pre .2) from count _ _ (in-search .search-test .taken) low (at-entry-of .entry-of .ensures) _
+    (inv .3) (at-if3 .if3 .taken) (at-clash .clash .ensures) (c .before .if4 .left) refl in
+    inv .0
+    ∙ sym (none-clash _ _ _ _ from count
+    (all-met (pre .0) (pre .1) (pre .2) from count _ _ (omega arith) _ (step .1) (c .if5 .taken) (at-search .search .inv .2)
+    (below-more _ _ (inv .2) (step .0))))
 
 pub any-clash-spec : {M : Type 1} → statement M
 any-clash-spec =
@@ -108,18 +203,24 @@ any-clash-spec =
     μ-loop
     Inv-search
     μ-search
+    index-of-requires
+    read-requires
+    returns
     first-slot-requires
     in-cell-requires
     search-holds
     loop-holds
     wide-requires
-    add-clashes-at
-    clashes-at-requires
+    add-entry-of
+    entry-of-requires
+    clash-requires
+    sub-left
     add-d
     loop-less
     loop-again
     add-p
     search-less
     search-again
-    returns
-    returns-2)
+    returns-2
+    returns-3
+    returns-4)

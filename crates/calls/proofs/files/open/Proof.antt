@@ -43,6 +43,7 @@ busy-requires c κs =
       at-start .pre .0,
       may-clash (at-start .pre .0) (at-start .args .a) (at-start .args .b) [] (at-or-self .or-self .ensures) (at-look .look .ensures)
           (c .before .before .free-entry .ensures) (c .before .may-open .ensures),
+      at-look .look .ensures,
     )
 
 or-refuse-requires : tie.Need-or-refuse-requires
