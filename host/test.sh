@@ -1,16 +1,16 @@
 #!/usr/bin/env bash
 # The host's tests: the safe wrapper, the header, the C program and the examples over the proved library, the plain monitor by itself, and
 # the two against each other; and whether the trials find faults, some of which are drawn (faults.sh tries all). They read
-# target/staticlib/libmonitor.a and target/bin/replay of the repository, which `rt staticlib monitor` and `rt check replay` write, or, where
+# target/staticlib/libmonitor.a and the programs in target/bin, which `rt staticlib monitor` and `rt check replay logcheck` write, or, where
 # the machine is not x86-64, what `tools/native target/native` makes of them; whatever the environment says.
 #
-#   test.sh [FOLDER]     with FOLDER, its library and its replay are tested instead: a stand-in's, say
+#   test.sh [FOLDER]     with FOLDER, its library and its programs are tested instead: a stand-in's, say, which has no logcheck
 set -euo pipefail
 cd "$(dirname "$0")"
-unset MONITOR_LIB_DIR MONITOR_REPLAY
+unset MONITOR_LIB_DIR MONITOR_REPLAY MONITOR_LOGCHECK
 if [ $# -gt 0 ]; then
     folder=$(cd "$1" && pwd)
-    export MONITOR_LIB_DIR=$folder MONITOR_REPLAY=$folder/replay LD_LIBRARY_PATH=$folder
+    export MONITOR_LIB_DIR=$folder MONITOR_REPLAY=$folder/replay MONITOR_LOGCHECK=$folder/logcheck LD_LIBRARY_PATH=$folder
 fi
 cargo test --release --offline --locked
 for example in night_log sunday; do

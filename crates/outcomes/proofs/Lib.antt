@@ -16,3 +16,4 @@ pub mod Calls
 pub mod Monitor
 pub mod Trays
 pub mod Session
+pub mod Checker

@@ -21,13 +21,13 @@ use session::MAX_REPLAY_SLOTS;
 use session::Session;
 
 // Room for the largest table that replay takes, for its store, and for the bytes of a call.
-const TABLE_WORDS: usize = HEADER_WORDS
+pub const TABLE_WORDS: usize = HEADER_WORDS
     + CELL_WORDS * MAX_CELLS
     + PROCESS_WORDS * MAX_REPLAY_SLOTS
     + SEGMENT_WORDS * MAX_REPLAY_SLOTS
     + FILE_WORDS * MAX_REPLAY_SLOTS;
 
-const STORE_BYTES: usize = MAX_REPLAY_BLOCKS * BLOCK_BYTES;
+pub const STORE_BYTES: usize = MAX_REPLAY_BLOCKS * BLOCK_BYTES;
 
 // How many bytes came from standard input: none where it has ended or the read failed.
 struct Input {

@@ -20,3 +20,5 @@ pub mod Gone
 pub mod Edges
 pub mod Image
 pub mod Tray
+pub mod Finding
+pub mod Printed

@@ -14,7 +14,7 @@ use Rattle.rules.specs.Errors.{XOK, ascii}
 use Rattle.rules.specs.SetUp.{setUpAnswer, setUpTable}
 use Rattle.rules.specs.Step.{Call, Answer, Outcome, answer, step}
 use Rattle.rules.specs.Replay.{maxReplayBlocks, maxBuffer, callOf, line, heading, badConfiguration, badScript}
-use Rattle.laws.proofs.Tests.{cond-true, cond-false}
+use Rattle.laws.proofs.Tests.{cond-true, cond-false, cond-both}
 use Rattle.output.specs.Wrote.{Wrote}
 use Rattle.output.proofs.Laws.{none, as-text}
 use Rattle.text.specs.Room.{lineBytes}
@@ -62,6 +62,18 @@ module _ (b : Bool) (o : List ℕ) (at r : ℕ) (o′ : List ℕ) where
 
   pub fault-configuration : b ≡ false → Wrote o at badConfiguration r o′ → Written o at (faultText b) r o′
   fault-configuration e w = rw e (record { text = w; short = short-configuration })
+
+-- and what is due where the input ends
+fault-short : (b : Bool) → length (faultText b) ≤ lineBytes
+fault-short true = short-script
+fault-short false = short-configuration
+
+pub finish-short : (x : Session) → length (finishText x) ≤ lineBytes
+unfolding finishText
+finish-short x =
+    cond-both (λ (s : List ℕ). length s ≤ lineBytes) (x .over) _ _
+    (λ e. omega arith)
+    (λ e. cond-both (λ (s : List ℕ). length s ≤ lineBytes) (isBetween (x .reader)) _ _ (λ f. omega arith) (λ f. fault-short (isCalling (x .reader))))
 
 -- the same text by another name
 pub named : (o : List ℕ) (at : ℕ) (s s′ : List ℕ) (r : ℕ) (o′ : List ℕ) → s ≡ s′ → Written o at s r o′ → Written o at s′ r o′

@@ -77,18 +77,19 @@ blank t h =
       zero7 = getD-set-same (set (set t 5 0) 6 0) 7 0 0 (rw (length-set (set t 5 0) 6 0, length-set t 5 0) (omega arith));
     }
 
--- (The calls are counted in 64 bits: an input is shorter than 2^64 bytes.)
+-- a new session can come up. (The calls are counted in 64 bits: an input is shorter than 2^64 bytes.)
+pub fine-start : (t st l input : List ℕ) → Lent t st l → length input < 2 ^ 64 → Fine newSession (blankTable t) st l input
+fine-start t st l input m n = record {
+  good = record { small = small-start; within = omega arith; six = refl; buffer = m .buffer; here = (refl, blank t (m .table)) };
+  long = rw (length-sets t headerNumbers (0 ∷ 0 ∷ 0 ∷ [])) (m .table);
+  wide = m .store;
+  count = omega arith;
+  words = λ c. omega arith;
+  bytes = λ c. omega arith;
+}
+
 pub whole : (t st l input text : List ℕ) → Lent t st l → length input < 2 ^ 64 → Driven newSession (blankTable t) st l input text → text ≡ listing input
-whole t st l input text m n d =
-    driven d (λ e. record {
-      good = record { small = small-start; within = omega arith; six = refl; buffer = m .buffer; here = (refl, blank t (m .table)) };
-      long = rw (length-sets t headerNumbers (0 ∷ 0 ∷ 0 ∷ [])) (m .table);
-      wide = m .store;
-      count = omega arith;
-      words = λ c. omega arith;
-      bytes = λ c. omega arith;
-    })
-    ∙ start-hands (blankTable t) st l input
+whole t st l input text m n d = driven d (λ e. fine-start t st l input m n) ∙ start-hands (blankTable t) st l input
 
 -- ---- what the code hands out
 

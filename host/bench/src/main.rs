@@ -4,7 +4,9 @@
 //! the median of the rounds with its quartiles. Single calls include the whole-table check, as document 01 has it. The words that a
 //! successful call changes are put back after each call, in both alike and inside the time measured. Buffers are not cleared.
 //!
-//!   cargo run --release --bin bench [check|single|creation|opens|mixed|tray|image|replay]..
+//! Checking a log is timed beside the replay program, not beside the plain monitor.
+//!
+//!   cargo run --release --bin bench [check|single|creation|opens|mixed|tray|image|replay|logcheck]..
 
 use monitor::layout::{ENTRIES, MAX_SLOTS};
 use monitor::{Bits, Caller, Cell, Code, Descriptor, Error, Hall, Modes, Monitor, Seid};
@@ -89,6 +91,9 @@ fn main() {
     }
     if wanted("replay") {
         replay();
+    }
+    if wanted("logcheck") {
+        logcheck();
     }
 }
 
@@ -589,19 +594,28 @@ fn plain_replay() {
     std::io::stdout().write_all(&plain::replay(&input)).expect("the listing can be written");
 }
 
-fn replay() {
+/// A program that the proofs leave, or the one that a variable names; None, and a line that says so, where there is none.
+fn program(name: &str, variable: &str) -> Option<PathBuf> {
     let here = PathBuf::from(env!("CARGO_MANIFEST_DIR"));
-    let made =
-        here.join(if cfg!(target_arch = "x86_64") { "../../target/bin/replay" } else { "../../target/native/replay" });
-    let program = env::var_os("MONITOR_REPLAY").map_or(made, PathBuf::from);
+    let made = if cfg!(target_arch = "x86_64") { "../../target/bin" } else { "../../target/native" };
+    let program = env::var_os(variable).map_or(here.join(made).join(name), PathBuf::from);
     if !program.exists() {
-        println!("\nNo replay program at {}: not measured.", program.display());
-        return;
+        println!("\nNo {name} program at {}: not measured.", program.display());
+        return None;
     }
+    Some(program)
+}
+
+/// The scripts that whole programs are timed with.
+const SCRIPTS: [(&str, tables::Limits, usize); 2] =
+    [("small tables", tables::SMALL, 60_000), ("large tables", tables::LARGE, 20_000)];
+
+fn replay() {
+    let Some(program) = program("replay", "MONITOR_REPLAY") else { return };
     let this = env::current_exe().expect("this program has a path");
     let input = this.with_file_name("bench-replay-input");
     heading("Replay, as whole programs, input from a file and output to none");
-    for (name, limits, calls) in [("small tables", tables::SMALL, 60_000), ("large tables", tables::LARGE, 20_000)] {
+    for (name, limits, calls) in SCRIPTS {
         let script = scripts::valid(&mut Rng::new(9), limits, calls);
         fs::write(&input, &script.bytes).expect("the input can be written");
         let proved = |n| timed(n, || run(Command::new(&program), &input));
@@ -615,6 +629,31 @@ fn replay() {
         line(&format!("{calls} calls, {name}"), ratio(LONG_ROUNDS, 1, proved, plain));
     }
     fs::remove_file(&input).expect("the input can be removed");
+}
+
+/// Checking a listing that agrees to its end, over replaying the same input.
+fn logcheck() {
+    let Some(checking) = program("logcheck", "MONITOR_LOGCHECK") else { return };
+    let Some(replaying) = program("replay", "MONITOR_REPLAY") else { return };
+    let this = env::current_exe().expect("this program has a path");
+    let (input, recorded) = (this.with_file_name("bench-log-input"), this.with_file_name("bench-log-recorded"));
+    heading("Logcheck over replay, as whole programs on the same input");
+    for (name, limits, calls) in SCRIPTS {
+        let script = scripts::valid(&mut Rng::new(9), limits, calls);
+        fs::write(&input, &script.bytes).expect("the input can be written");
+        fs::write(&recorded, plain::replay(&script.bytes)).expect("the listing can be written");
+        let check = |n| {
+            timed(n, || {
+                let mut command = Command::new(&checking);
+                command.arg(&input);
+                run(command, &recorded);
+            })
+        };
+        let replay = |n| timed(n, || run(Command::new(&replaying), &input));
+        line(&format!("{calls} calls, {name}"), ratio(LONG_ROUNDS, 1, check, replay));
+    }
+    fs::remove_file(&input).expect("the input can be removed");
+    fs::remove_file(&recorded).expect("the listing can be removed");
 }
 
 fn run(mut command: Command, input: &Path) {

@@ -4,6 +4,7 @@
 pub mod calls;
 pub mod damage;
 pub mod differ;
+pub mod findings;
 pub mod images;
 pub mod listings;
 pub mod rng;
