@@ -9,6 +9,7 @@ base + 2 * (n - k), where base counts what stands before the locals. Where the c
 """
 
 import pathlib
+import re
 
 ROOT = pathlib.Path(__file__).resolve().parent.parent
 SUB = "₀₁₂₃₄₅₆₇₈₉"
@@ -876,5 +877,24 @@ monitor-tray-spec 𝓤 H 𝓜 𝓖 𝓡 =
 '''
 
 
+STARTS = re.compile(r"\s*(module |(abbrev |pub )*[^ ]+ [:=] |turn-o|walk )")
+
+
+def folded(text):
+    """No line of a proof much longer than 150 characters: broken after a step, or before a bracket."""
+    lines = []
+    for line in text.split("\n"):
+        while len(line) > 150 and not line.lstrip().startswith(("--", "use ")):
+            indent = len(line) - len(line.lstrip()) + (4 if STARTS.match(line) else 0)
+            cut = line.rfind(" $ ", indent + 40, 150)
+            cut = cut + 2 if cut > 0 else line.rfind(" (", indent + 40, 150)
+            if cut <= 0:
+                break
+            lines.append(line[:cut].rstrip())
+            line = " " * indent + line[cut:].strip()
+        lines.append(line)
+    return "\n".join(lines)
+
+
 for path, text in [("calls/proofs/tray", tray()), ("monitor/proofs/monitor_tray", monitor_tray())]:
-    (ROOT / "crates" / path / "Proof.antt").write_text(text)
+    (ROOT / "crates" / path / "Proof.antt").write_text(folded(text))

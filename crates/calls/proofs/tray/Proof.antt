@@ -210,13 +210,24 @@ module _ {M : Type 1} (𝓤 : URA M) (H : Heap 𝓤) (A : Atoms 𝓤) (W : Given
         ‵ (fobs γ₂ (codedHoleys R .code (heres R zs))) ∷ ‵ (fbor κ₂ (Held R (length zs) b₂ o₂ γ₂)) ∷ ‵ (flft κ₂ q₂) ∷ ‵ (own₀ x) ∷ ‵ (flft κ₀ q₀)
         ∷ ‵ (own₁ u) ∷ ‵ (flft κ₁ q₁) ∷ ‵ (own₃ y) ∷ ‵ (flft κ₃ q₃) ∷ []
 
-    exits : Room R (length rs) → (x u y : List ℕ) (zs : List Record) (v : ℕ) → v < 2 ^ 32 → length x ≡ length xs → length u ≡ length ss → length y ≡ length bs
+    exits : Room R (length rs) → (x u y : List ℕ) (zs : List Record)
+        (v : ℕ) → v < 2 ^ 32 → length x ≡ length xs → length u ≡ length ss → length y ≡ length bs
         → length zs ≡ length rs → Trayed (stateOf xs ss) bs rs v x u y zs → ent 𝓤 (⋆ 𝓤 H A (Had x u y zs)) (Post (vint w32 v))
     exits room x u y zs v v-fits lx lu ly lz e =
         qed W (Had x u y zs) ∵
-        suffices ! _ (ends-at 𝓤 H A tr.ended stayed (tr.clauses 𝓤 H A mem rn) W bound (vint w32 v) v (x, (u, (zs, (y, tt)))) (lx, (lu, (lz, (ly, tt))))) $ says ! e $
+        suffices ! _ (ends-at 𝓤 H A tr.ended stayed (tr.clauses 𝓤 H A mem rn) W bound (vint w32 v) v (x, (u, (zs, (y, tt)))) (
+          lx,
+          (
+            lu,
+            (
+              lz,
+              (ly, tt),
+            ),
+          ),
+        )) $ says ! e $
         -- the tokens
-        nothing ! $ move ! (9 ∷ 0 ∷ []) $ join ! $ move ! (3 ∷ 0 ∷ []) $ join ! $ move ! (6 ∷ 0 ∷ []) $ join ! $ move ! (4 ∷ 0 ∷ []) $ join ! $ frame ! $
+        nothing ! $ move ! (9 ∷ 0 ∷ []) $ join ! $ move ! (3 ∷ 0 ∷ []) $ join ! $ move ! (6 ∷ 0 ∷ []) $ join ! $ move ! (4 ∷ 0 ∷ []) $ join ! $
+        frame ! $
         -- [obs; the borrow; the table's; the store's; the bytes']: what the four slices own, and the result
         fjoin ! $ pureI ! (at-slice R (at-list b₂ o₂ γ₂ zs) (s₂ ∷ [])) (tt, (tt, tt))
         (ap (λ (k : ℕ). sliceVal (b₂, o₂) k ∷ []) (sym lz), subst (Room R) (sym lz) room) $ fjoin ! $
@@ -242,7 +253,8 @@ module _ {M : Type 1} (𝓤 : URA M) (H : Heap 𝓤) (A : Atoms 𝓤) (W : Given
 
       asked-begin : ent 𝓤 (⋆ 𝓤 H A Lent-table) (Begin .pre to-begin)
       asked-begin =
-          qed W Lent-table ∵ nothing ! $ move ! (1 ∷ 0 ∷ []) $ join ! $ nothing ! $ owned ! usize (Is usize) (uint-makes 𝓤 H A W w64) (length rs) _ (refl, fits) $ fjoin ! $
+          qed W Lent-table ∵ nothing ! $ move ! (1 ∷ 0 ∷ []) $ join ! $ nothing ! $
+          owned ! usize (Is usize) (uint-makes 𝓤 H A W w64) (length rs) _ (refl, fits) $ fjoin ! $
           owned ! usize (Is usize) (uint-makes 𝓤 H A W w64) (length ss) _ (refl, store-fits) $ fjoin ! $
           move ! (2 ∷ 0 ∷ []) $ fjoin ! $ move ! (1 ∷ 0 ∷ []) $ join ! $ frame ! $ done !
 
@@ -263,13 +275,16 @@ module _ {M : Type 1} (𝓤 : URA M) (H : Heap 𝓤) (A : Atoms 𝓤) (W : Given
       abbrev Lent : List (Item 𝓤)
       Lent =
           ‵ (flft (α ∷ []) fullShare) ∷ ‵ (flft (β ∷ []) fullShare) ∷ ‵ (flft (ζ ∷ []) fullShare)
-          ∷ ‵ (MutSlice (named 0) (α ∷ []) u32 .own (at-list b₀ o₀ δ x) (s₀ ∷ [])) ∷ ‵ (MutSlice (named 1) (β ∷ []) u8 .own (at-list b₁ o₁ ε u) (s₁ ∷ []))
+          ∷ ‵ (MutSlice (named 0) (α ∷ []) u32 .own (at-list b₀ o₀ δ x) (s₀ ∷ [])) ∷ ‵ (MutSlice (named 1) (β ∷ []) u8 .own (at-list b₁ o₁ ε u)
+          (s₁ ∷ []))
           ∷ ‵ (MutSlice (named 3) (ζ ∷ []) u8 .own (at-list b₃ o₃ η y) (s₃ ∷ [])) ∷ []
 
       asked-run : Ready x u m → Is R z (T′.lowered z ∷ []) → ent 𝓤 (⋆ 𝓤 H A Lent) (Run .pre to-run)
       asked-run ready is =
-          qed W Lent ∵ says ! ready $ nothing ! $ move ! (3 ∷ 0 ∷ []) $ join ! $ move ! (2 ∷ 0 ∷ []) $ join ! $ move ! (1 ∷ 0 ∷ []) $ join ! $ frame ! $
-          nothing ! $ owned ! R (Is R) (LL.makes T.the-type T′.the-plain 𝓤 H A) z _ is $ fjoin ! $ owned ! Rm (Is Rm) matrix-makes m _ m-is $ fjoin ! $
+          qed W Lent ∵ says ! ready $ nothing ! $ move ! (3 ∷ 0 ∷ []) $ join ! $ move ! (2 ∷ 0 ∷ []) $ join ! $ move ! (1 ∷ 0 ∷ []) $ join ! $
+          frame ! $
+          nothing ! $ owned ! R (Is R) (LL.makes T.the-type T′.the-plain 𝓤 H A) z _ is $ fjoin ! $ owned ! Rm (Is Rm) matrix-makes m _ m-is $
+          fjoin ! $
           move ! (3 ∷ 0 ∷ []) $ fjoin ! $ move ! (2 ∷ 0 ∷ []) $ fjoin ! $ move ! (1 ∷ 0 ∷ []) $ fjoin ! $ done !
 
     module _ (𝓣 : Tables 𝓤 H) (known-run : Triple 𝓤 (𝓣 .C #run) Run) (room₀ : Room u32 (length xs)) (room₁ : Room u8 (length ss))
@@ -283,7 +298,8 @@ module _ {M : Type 1} (𝓤 : URA M) (H : Heap 𝓤) (A : Atoms 𝓤) (W : Given
       abbrev fm : FmC 𝓤 H (W .laws) C
       fm = fmOf 𝓤 H (W .laws) 𝓣
 
-      module _ (m : List (List Bool)) (wm : Val) (m-is : Is Rm m (wm ∷ [])) (v : ℕ) (v-is : v ≡ trayAnswer (stateOf xs ss) (recordsOf rs)) (v-fits : v < 2 ^ 32)
+      module _ (m : List (List Bool)) (wm : Val) (m-is : Is Rm m (wm ∷ [])) (v : ℕ) (v-is : v ≡ trayAnswer (stateOf xs ss) (recordsOf rs))
+          (v-fits : v < 2 ^ 32)
           (n : ℕ) (n-is : n ≡ cond (eqb v 0) (length rs) 0) (n-fits : n < 2 ^ 64)
           (l₀ l₁ l₂ l₃ l₄ l₅ l₆ l₇ l₈ l₉ l₁₀ l₁₁ l₁₂ l₁₃ l₁₄ l₁₅ l₁₆ l₁₇ l₁₈ l₁₉ l₂₀ l₂₁ l₂₂ l₂₃ l₂₄ : ℕ) where
         abbrev En : Env 𝓤 H
@@ -305,7 +321,8 @@ module _ {M : Type 1} (𝓤 : URA M) (H : Heap 𝓤) (A : Atoms 𝓤) (W : Given
             ∷ ‵ (froom tyBool l₁₄ 0) ∷ ‵ (fdies tyBool l₁₄) ∷ ‵ (froom (tyInt w64) l₁₃ 0) ∷ ‵ (fdies (tyInt w64) l₁₃)
             ∷ ‵ (froom (tyInt w64) l₁₂ 0) ∷ ‵ (fdies (tyInt w64) l₁₂) ∷ ‵ (froom (sliceTy lent₀) l₁₁ 0) ∷ ‵ (fdies (sliceTy lent₀) l₁₁)
             ∷ ‵ (froom lent₀ l₁₀ 0) ∷ ‵ (fdies lent₀ l₁₀) ∷ ‵ (froom T′.mir l₉ 0) ∷ ‵ (fdies T′.mir l₉)
-            ∷ ‵ (fat fullShare (tyInt w64) l₈ 0 (vint w64 i)) ∷ ‵ (fdies (tyInt w64) l₈) ∷ ‵ (fat fullShare (tyInt w64) l₇ 0 (vint w64 n)) ∷ ‵ (fdies (tyInt w64) l₇)
+            ∷ ‵ (fat fullShare (tyInt w64) l₈ 0 (vint w64 i)) ∷ ‵ (fdies (tyInt w64) l₈) ∷ ‵ (fat fullShare (tyInt w64) l₇ 0 (vint w64 n)) ∷ ‵
+            (fdies (tyInt w64) l₇)
             ∷ ‵ (fat fullShare (tyInt w32) l₆ 0 (vint w32 v)) ∷ ‵ (fdies (tyInt w32) l₆) ∷ ‵ (fat fullShare matrixTy l₅ 0 wm) ∷ ‵ (fdies matrixTy l₅)
             ∷ ‵ (fat fullShare slice₃ l₄ 0 s₃) ∷ ‵ (fdies slice₃ l₄) ∷ ‵ (fat fullShare slice₂ l₃ 0 s₂) ∷ ‵ (fdies slice₂ l₃)
             ∷ ‵ (fat fullShare slice₁ l₂ 0 s₁) ∷ ‵ (fdies slice₁ l₂) ∷ ‵ (fat fullShare slice₀ l₁ 0 s₀) ∷ ‵ (fdies slice₀ l₁)
@@ -315,7 +332,8 @@ module _ {M : Type 1} (𝓤 : URA M) (H : Heap 𝓤) (A : Atoms 𝓤) (W : Given
         abbrev I : Turn xs ss bs rs m n → List (Item 𝓤)
         I t =
             ‵ (row R fullShare (t .zs) b₂ o₂) ∷ ‵ (own₀ (t .t)) ∷ ‵ (flft κ₀ q₀) ∷ ‵ (own₁ (t .s)) ∷ ‵ (flft κ₁ q₁) ∷ ‵ (own₃ (t .b)) ∷ ‵ (flft κ₃ q₃)
-            ∷ ‵ (fobor κ₂ q₂ (Held R (length rs) b₂ o₂ γ₂)) ∷ ‵ (fobs γ₂ (codedHoleys R .code (heres R rs))) ∷ ‵ (fauth γ₂ (codedHoleys R .code (heres R rs)))
+            ∷ ‵ (fobor κ₂ q₂ (Held R (length rs) b₂ o₂ γ₂)) ∷ ‵ (fobs γ₂ (codedHoleys R .code (heres R rs))) ∷ ‵ (fauth γ₂ (codedHoleys R .code
+            (heres R rs)))
             ∷ Locals (t .i)
 
         -- when the loop is left, the rest of the body runs
@@ -340,12 +358,15 @@ module _ {M : Type 1} (𝓤 : URA M) (H : Heap 𝓤) (A : Atoms 𝓤) (W : Given
             let within : i < length zs = omega arith in
             let at-fits : i * 40 < 2 ^ 64 = omega arith in
             let next-fits : i + 1 < 2 ^ 64 = omega arith in
-            assigns ! (bin ! (load ! (from ! (stop !)) (look ! 42 refl)) (load ! (from ! (stop !)) (look ! 44 refl)) tt) (from ! (stop !)) (init ! 30 refl (tt, tt)) $
+            assigns ! (bin ! (load ! (from ! (stop !)) (look ! 42 refl)) (load ! (from ! (stop !)) (look ! 44 refl)) tt) (from ! (stop !))
+            (init ! 30 refl (tt, tt)) $
             rewrite ! 30 (λ (c : Bool). ‵ (fat fullShare tyBool l₁₄ 0 (vbool c))) (lt-ltb i n small) refl $
             stays ! (load ! (from ! (stop !)) (look ! 30 refl)) $
             -- the record is read, and copied
-            assigns ! (bin ! (load ! (from ! (stop !)) (look ! 42 refl)) (lit ! tt) (record { fits = at-fits })) (from ! (stop !)) (init ! 28 refl (tt, record { fits = at-fits })) $
-            assigns ! (bin ! (load ! (from ! (fld ! refl (stop !))) (look-in ! 52 (sub ! 0 refl (whole !)))) (load ! (from ! (stop !)) (look ! 28 refl)) tt) (from ! (stop !)) (init ! 26 refl (tt, tt)) $
+            assigns ! (bin ! (load ! (from ! (stop !)) (look ! 42 refl)) (lit ! tt) (record { fits = at-fits })) (from ! (stop !)) (init ! 28 refl
+            (tt, record { fits = at-fits })) $
+            assigns ! (bin ! (load ! (from ! (fld ! refl (stop !))) (look-in ! 52 (sub ! 0 refl (whole !)))) (load ! (from ! (stop !))
+            (look ! 28 refl)) tt) (from ! (stop !)) (init ! 26 refl (tt, tt)) $
             rewrite ! 26 (λ (p : ℕ). ‵ (fat fullShare tyPtr l₁₆ 0 (vptr b₂ p))) (sym (place-is 40 o₂ i)) refl $
             elem-out ! R (Is R) (shows 𝓤 H A R) (λ d. T′.lowered d ∷ []) (T′.lowers .val-is) fullShare zs i none b₂ o₂ within (λ is.
             let wt = LL.lawful T.the-type T′.the-laws 𝓤 H A W .typed z _ is .0 in
@@ -353,14 +374,20 @@ module _ {M : Type 1} (𝓤 : URA M) (H : Heap 𝓤) (A : Atoms 𝓤) (W : Given
             assigns ! (of-opd ! (load ! (from ! (stop !)) (look ! 26 refl))) (from ! (stop !)) (init ! 42 refl wt) $
             elem-back ! R fullShare zs i none (T′.lowered z ∷ []) b₂ o₂ within $
             -- the table, the store and the bytes are lent again
-            assigns ! (addr ! (from ! (fld ! refl (hop ! (look-in ! 56 (sub ! 0 refl (whole !))) (stop !))))) (from ! (stop !)) (init ! 22 refl (tt, tt)) $
-            assigns ! (agg ! (and-then ! (load ! (from ! (stop !)) (look ! 22 refl)) (and-then ! (load ! (from ! (fld ! refl (stop !))) (look-in ! 56 (sub ! 1 refl (whole !)))) (no-more !)))) (from ! (stop !))
+            assigns ! (addr ! (from ! (fld ! refl (hop ! (look-in ! 56 (sub ! 0 refl (whole !))) (stop !))))) (from ! (stop !)) (init ! 22 refl
+            (tt, tt)) $
+            assigns ! (agg ! (and-then ! (load ! (from ! (stop !)) (look ! 22 refl)) (and-then ! (load ! (from ! (fld ! refl (stop !)))
+            (look-in ! 56 (sub ! 1 refl (whole !)))) (no-more !)))) (from ! (stop !))
             (init ! 20 refl (tt, (tt, (record { fits = room₀ .0 }, tt)))) $
-            assigns ! (addr ! (from ! (fld ! refl (hop ! (look-in ! 54 (sub ! 0 refl (whole !))) (stop !))))) (from ! (stop !)) (init ! 18 refl (tt, tt)) $
-            assigns ! (agg ! (and-then ! (load ! (from ! (stop !)) (look ! 18 refl)) (and-then ! (load ! (from ! (fld ! refl (stop !))) (look-in ! 54 (sub ! 1 refl (whole !)))) (no-more !)))) (from ! (stop !))
+            assigns ! (addr ! (from ! (fld ! refl (hop ! (look-in ! 54 (sub ! 0 refl (whole !))) (stop !))))) (from ! (stop !)) (init ! 18 refl
+            (tt, tt)) $
+            assigns ! (agg ! (and-then ! (load ! (from ! (stop !)) (look ! 18 refl)) (and-then ! (load ! (from ! (fld ! refl (stop !)))
+            (look-in ! 54 (sub ! 1 refl (whole !)))) (no-more !)))) (from ! (stop !))
             (init ! 16 refl (tt, (tt, (record { fits = room₁ .0 }, tt)))) $
-            assigns ! (addr ! (from ! (fld ! refl (hop ! (look-in ! 50 (sub ! 0 refl (whole !))) (stop !))))) (from ! (stop !)) (init ! 14 refl (tt, tt)) $
-            assigns ! (agg ! (and-then ! (load ! (from ! (stop !)) (look ! 14 refl)) (and-then ! (load ! (from ! (fld ! refl (stop !))) (look-in ! 50 (sub ! 1 refl (whole !)))) (no-more !)))) (from ! (stop !))
+            assigns ! (addr ! (from ! (fld ! refl (hop ! (look-in ! 50 (sub ! 0 refl (whole !))) (stop !))))) (from ! (stop !)) (init ! 14 refl
+            (tt, tt)) $
+            assigns ! (agg ! (and-then ! (load ! (from ! (stop !)) (look ! 14 refl)) (and-then ! (load ! (from ! (fld ! refl (stop !)))
+            (look-in ! 50 (sub ! 1 refl (whole !)))) (no-more !)))) (from ! (stop !))
             (init ! 12 refl (tt, (tt, (record { fits = room₃ .0 }, tt)))) $
             lft-new ! tt (λ α. move ! (2 ∷ 3 ∷ []) $
             use2 W (later (some (λ (δ : GName). ‵ (MutSlice (named 0) (α ∷ []) u32 .own (at-list b₀ o₀ δ x) (s₀ ∷ []))
@@ -381,13 +408,34 @@ module _ {M : Type 1} (𝓤 : URA M) (H : Heap 𝓤) (A : Atoms 𝓤) (W : Given
             move ! (8 ∷ 5 ∷ 2 ∷ 6 ∷ 3 ∷ 0 ∷ []) $ group ! 6 $
             use1 W (raw (Run .pre (to-run α β ζ δ ε η m wm m-is x u y z))) (asked-run α β ζ δ ε η m wm m-is x u y z (g .ready small) is) $
             calls-at ! fm Run known-run (to-run α β ζ δ ε η m wm m-is x u y z)
-            (and-then ! (load ! (from ! (stop !)) (look ! 18 refl)) (and-then ! (load ! (from ! (stop !)) (look ! 14 refl)) (and-then ! (load ! (from ! (stop !)) (look ! 10 refl))
+            (and-then ! (load ! (from ! (stop !)) (look ! 18 refl)) (and-then ! (load ! (from ! (stop !)) (look ! 14 refl)) (and-then ! (load !
+            (from ! (stop !)) (look ! 10 refl))
             (and-then ! (load ! (from ! (stop !)) (look ! 46 refl)) (and-then ! (load ! (from ! (stop !)) (look ! 38 refl)) (no-more !)))))) (λ w.
-            use1 W (later (some (λ (r : Record). ((‵ (flft (α ∷ []) fullShare) ⊛ (‵ (flft (β ∷ []) fullShare) ⊛ (‵ (flft (ζ ∷ []) fullShare) ⊛ ‵ ftrue))) ⊛ ‵ (R .own r (w ∷ [])))
-            ⊛ raw (ensured 𝓤 H A run.ended (run.clauses 𝓤 H A mem rn) (α ∷ [], (β ∷ [], (ζ ∷ [], tt))) (at-list b₀ o₀ δ x, (at-list b₁ o₁ ε u, (at-list b₃ o₃ η y, (m, (z, tt))))) tt r)))) (id⊢ 𝓤 _) $ await ! tt $ pick ! (λ r.
+            use1 W (later (some (λ (r : Record). ((‵ (flft (α ∷ []) fullShare) ⊛ (‵ (flft (β ∷ []) fullShare) ⊛ (‵ (flft
+            (ζ ∷ []) fullShare) ⊛ ‵ ftrue))) ⊛ ‵ (R .own r (w ∷ [])))
+            ⊛ raw (ensured 𝓤 H A run.ended (run.clauses 𝓤 H A mem rn) (α ∷ [], (β ∷ [], (ζ ∷ [], tt))) (
+              at-list b₀ o₀ δ x,
+              (
+                at-list b₁ o₁ ε u,
+                (at-list b₃ o₃ η y, (m, (z, tt))),
+              ),
+            ) tt r)))) (id⊢ 𝓤 _) $ await ! tt $ pick ! (λ r.
             split ! $ move ! (1 ∷ []) $ use1 W (some (λ (ws : List ℕ × (List ℕ × (List ℕ × (Unit {0} × (Unit {0} × Unit {0}))))).
-            ‵ (lasts run.ended (α ∷ [], (β ∷ [], (ζ ∷ [], tt))) (at-list b₀ o₀ δ x, (at-list b₁ o₁ ε u, (at-list b₃ o₃ η y, (m, (z, tt))))) ws) ⊛ raw (fact 𝓤 (Ran (stateOf x u) y z r (ws .0) (ws .1 .0) (ws .1 .1 .0))))) (id⊢ 𝓤 _) $ pick ! (λ ws.
-            split ! $ move ! (1 ∷ []) $ heard ! (Ran (stateOf x u) y z r (ws .0) (ws .1 .0) (ws .1 .1 .0)) (λ ran. fsplit ! $ fsplit ! $ move ! (1 ∷ []) $ feqL ! (λ lx. move ! (1 ∷ []) $
+            ‵ (lasts run.ended (α ∷ [], (β ∷ [], (ζ ∷ [], tt))) (
+              at-list b₀ o₀ δ x,
+              (
+                at-list b₁ o₁ ε u,
+                (
+                  at-list b₃ o₃ η y,
+                  (
+                    m,
+                    (z, tt),
+                  ),
+                ),
+              ),
+            ) ws) ⊛ raw (fact 𝓤 (Ran (stateOf x u) y z r (ws .0) (ws .1 .0) (ws .1 .1 .0))))) (id⊢ 𝓤 _) $ pick ! (λ ws.
+            split ! $ move ! (1 ∷ []) $ heard ! (Ran (stateOf x u) y z r (ws .0) (ws .1 .0) (ws .1 .1 .0)) (λ ran. fsplit ! $ fsplit ! $
+            move ! (1 ∷ []) $ feqL ! (λ lx. move ! (1 ∷ []) $
             fsplit ! $ fsplit ! $ move ! (1 ∷ []) $ feqL ! (λ lu. move ! (1 ∷ []) $ fsplit ! $ fsplit ! $ move ! (1 ∷ []) $ feqL ! (λ ly.
             -- [the bytes' last list; …; the store's; the table's; the tokens and the result; bytes kept; store kept; table kept; the row; …]
             move ! (4 ∷ []) $ split ! $ move ! (1 ∷ []) $ facts ! R (Is R) (shows 𝓤 H A R) r (w ∷ []) (λ is′.
@@ -409,8 +457,10 @@ module _ {M : Type 1} (𝓤 : URA M) (H : Heap 𝓤) (A : Atoms 𝓤) (W : Given
             await ! tt $ split ! $
             move ! (2 ∷ 7 ∷ []) $ drop ! $ drop ! $ move ! (6 ∷ 4 ∷ 5 ∷ 2 ∷ 3 ∷ 0 ∷ 1 ∷ []) $
             -- the record is stored
-            assigns ! (bin ! (load ! (from ! (stop !)) (look ! 42 refl)) (lit ! tt) (record { fits = at-fits })) (from ! (stop !)) (store ! 28 refl (tt, record { fits = at-fits })) $
-            assigns ! (bin ! (load ! (from ! (fld ! refl (stop !))) (look-in ! 52 (sub ! 0 refl (whole !)))) (load ! (from ! (stop !)) (look ! 28 refl)) tt) (from ! (stop !)) (init ! 10 refl (tt, tt)) $
+            assigns ! (bin ! (load ! (from ! (stop !)) (look ! 42 refl)) (lit ! tt) (record { fits = at-fits })) (from ! (stop !)) (store ! 28 refl
+            (tt, record { fits = at-fits })) $
+            assigns ! (bin ! (load ! (from ! (fld ! refl (stop !))) (look-in ! 52 (sub ! 0 refl (whole !)))) (load ! (from ! (stop !))
+            (look ! 28 refl)) tt) (from ! (stop !)) (init ! 10 refl (tt, tt)) $
             rewrite ! 10 (λ (p : ℕ). ‵ (fat fullShare tyPtr l₂₄ 0 (vptr b₂ p))) (sym (place-is 40 o₂ i)) refl $
             elem-out ! R (Is R) (shows 𝓤 H A R) (λ d. T′.lowered d ∷ []) (T′.lowers .val-is) fullShare zs i none b₂ o₂ within (λ _.
             let is″ : Is R r (T′.lowered r ∷ []) = subst (λ (k : Val). Is R r (k ∷ [])) same is′ in
@@ -418,7 +468,8 @@ module _ {M : Type 1} (𝓤 : URA M) (H : Heap 𝓤) (A : Atoms 𝓤) (W : Given
             (store-raw ! 0 refl (LL.lawful T.the-type T′.the-laws 𝓤 H A W .typed r _ is″ .0)) $
             move ! (1 ∷ []) $ drop ! $ owned ! R (Is R) (LL.makes T.the-type T′.the-plain 𝓤 H A) r _ is″ $ move ! (1 ∷ 0 ∷ []) $
             elem-put ! R fullShare zs i r (T′.lowered r ∷ []) b₂ o₂ within $
-            assigns-last ! (bin ! (load ! (from ! (stop !)) (look ! 42 refl)) (lit ! tt) (record { fits = next-fits })) (from ! (stop !)) (store ! 42 refl (tt, record { fits = next-fits })) $
+            assigns-last ! (bin ! (load ! (from ! (stop !)) (look ! 42 refl)) (lit ! tt) (record { fits = next-fits })) (from ! (stop !))
+            (store ! 42 refl (tt, record { fits = next-fits })) $
             forget ! 10 refl $ forget ! 12 refl $ forget ! 14 refl $ forget ! 16 refl $ forget ! 18 refl $ forget ! 20 refl $
             forget ! 22 refl $ forget ! 24 refl $ forget ! 26 refl $ forget ! 28 refl $ forget ! 30 refl $ forget ! 40 refl $
             again ! (Less xs ss bs rs m n) I t (record {
@@ -437,13 +488,15 @@ module _ {M : Type 1} (𝓤 : URA M) (H : Heap 𝓤) (A : Atoms 𝓤) (W : Given
         turn-off t large =
             let i = t .i in
             let g = t .going in
-            assigns ! (bin ! (load ! (from ! (stop !)) (look ! 42 refl)) (load ! (from ! (stop !)) (look ! 44 refl)) tt) (from ! (stop !)) (init ! 30 refl (tt, tt)) $
+            assigns ! (bin ! (load ! (from ! (stop !)) (look ! 42 refl)) (load ! (from ! (stop !)) (look ! 44 refl)) tt) (from ! (stop !))
+            (init ! 30 refl (tt, tt)) $
             rewrite ! 30 (λ (c : Bool). ‵ (fat fullShare tyBool l₁₄ 0 (vbool c))) (le-ltb i n large) refl $
             leaves-loop ! (load ! (from ! (stop !)) (look ! 30 refl)) $ exec ! C Λ En mir′.t-12 (atRet En Post) $
             assigns ! (of-opd ! (load ! (from ! (stop !)) (look ! 46 refl))) (from ! (stop !)) (init ! 58 refl (tt, record { fits = v-fits })) $
             -- the records' borrow is closed
             move ! (0 ∷ 7 ∷ 8 ∷ 9 ∷ []) $ closes-slice ! tt R rs (t .zs) (g .long) b₂ o₂ $
-            returns ! (look ! 57 refl) $ forget ! 29 refl $ forget ! 41 refl $ forget ! 43 refl $ forget ! 45 refl $ forget ! 47 refl $ forget ! 49 refl $
+            returns ! (look ! 57 refl) $ forget ! 29 refl $ forget ! 41 refl $ forget ! 43 refl $ forget ! 45 refl $ forget ! 47 refl $
+            forget ! 49 refl $
             forget ! 51 refl $ forget ! 53 refl $ forget ! 55 refl $ forget ! 57 refl $
             move ! (57 ∷ 58 ∷ []) $ free1 ! $ move ! (55 ∷ 56 ∷ []) $ free1 ! $ move ! (53 ∷ 54 ∷ []) $ free1 ! $ move ! (51 ∷ 52 ∷ []) $ free1 ! $
             move ! (49 ∷ 50 ∷ []) $ free1 ! $ move ! (47 ∷ 48 ∷ []) $ free1 ! $ move ! (45 ∷ 46 ∷ []) $ free1 ! $ move ! (43 ∷ 44 ∷ []) $ free1 ! $
@@ -470,8 +523,10 @@ module _ {M : Type 1} (𝓤 : URA M) (H : Heap 𝓤) (A : Atoms 𝓤) (W : Given
           alloc1 ! (λ l₈. alloc1 ! (λ l₉. alloc1 ! (λ l₁₀. alloc1 ! (λ l₁₁. alloc1 ! (λ l₁₂. alloc1 ! (λ l₁₃. alloc1 ! (λ l₁₄. alloc1 ! (λ l₁₅.
           alloc1 ! (λ l₁₆. alloc1 ! (λ l₁₇. alloc1 ! (λ l₁₈. alloc1 ! (λ l₁₉. alloc1 ! (λ l₂₀. alloc1 ! (λ l₂₁. alloc1 ! (λ l₂₂. alloc1 ! (λ l₂₃.
           alloc1 ! (λ l₂₄. alloc0 ! $ params1 ! $
-          pass1 ! (init ! 46 refl (tt, (tt, (record { fits = room₀ .0 }, tt)))) $ pass1 ! (init ! 44 refl (tt, (tt, (record { fits = room₁ .0 }, tt)))) $
-          pass1 ! (init ! 42 refl (tt, (tt, (record { fits = room₂ .0 }, tt)))) $ pass1 ! (init ! 40 refl (tt, (tt, (record { fits = room₃ .0 }, tt)))) $ pass0 ! $
+          pass1 ! (init ! 46 refl (tt, (tt, (record { fits = room₀ .0 }, tt)))) $
+          pass1 ! (init ! 44 refl (tt, (tt, (record { fits = room₁ .0 }, tt)))) $
+          pass1 ! (init ! 42 refl (tt, (tt, (record { fits = room₂ .0 }, tt)))) $
+          pass1 ! (init ! 40 refl (tt, (tt, (record { fits = room₃ .0 }, tt)))) $ pass0 ! $
           -- what the slices own, and the tokens
           move ! (51 ∷ []) $ fsplit ! $ move ! (1 ∷ []) $ fsplit ! $ move ! (1 ∷ []) $ fsplit ! $ move ! (1 ∷ []) $ fsplit ! $
           move ! (55 ∷ []) $ split ! $ move ! (1 ∷ []) $ split ! $ move ! (1 ∷ []) $ split ! $ move ! (1 ∷ []) $ split ! $
@@ -479,11 +534,15 @@ module _ {M : Type 1} (𝓤 : URA M) (H : Heap 𝓤) (A : Atoms 𝓤) (W : Given
           -- [the row; the open borrow; obs; auth; …; the tokens; …; the bytes; the store; the table; the locals]
           keep ! (0 ∷ 11 ∷ 7 ∷ 10 ∷ 6 ∷ 8 ∷ 4 ∷ 1 ∷ 2 ∷ 3 ∷ 12 ∷ 13 ∷ 14 ∷ 15 ∷ 16 ∷ 17 ∷ 18 ∷ 19 ∷ 20 ∷ 21 ∷ 22 ∷ 23 ∷ 24 ∷ 25 ∷ 26 ∷ 27 ∷ 28 ∷ 29 ∷ 30 ∷ 31 ∷ 32 ∷ 33 ∷ 34 ∷ 35 ∷ 36 ∷ 37 ∷ 38 ∷ 39 ∷ 40 ∷ 41 ∷ 42 ∷ 43 ∷ 44 ∷ 45 ∷ 46 ∷ 47 ∷ 48 ∷ 49 ∷ 50 ∷ 51 ∷ 52 ∷ 53 ∷ 54 ∷ 55 ∷ 56 ∷ 57 ∷ 58 ∷ 59 ∷ 60 ∷ 61 ∷ []) $
           -- the table is lent to `begin`, and comes back as it was
-          assigns ! (addr ! (from ! (fld ! refl (hop ! (look-in ! 56 (sub ! 0 refl (whole !))) (stop !))))) (from ! (stop !)) (init ! 38 refl (tt, tt)) $
-          assigns ! (agg ! (and-then ! (load ! (from ! (stop !)) (look ! 38 refl)) (and-then ! (load ! (from ! (fld ! refl (stop !))) (look-in ! 56 (sub ! 1 refl (whole !)))) (no-more !)))) (from ! (stop !))
+          assigns ! (addr ! (from ! (fld ! refl (hop ! (look-in ! 56 (sub ! 0 refl (whole !))) (stop !))))) (from ! (stop !)) (init ! 38 refl
+          (tt, tt)) $
+          assigns ! (agg ! (and-then ! (load ! (from ! (stop !)) (look ! 38 refl)) (and-then ! (load ! (from ! (fld ! refl (stop !))) (look-in ! 56
+          (sub ! 1 refl (whole !)))) (no-more !)))) (from ! (stop !))
           (init ! 36 refl (tt, (tt, (record { fits = room₀ .0 }, tt)))) $
-          assigns ! (of-opd ! (load ! (from ! (fld ! refl (stop !))) (look-in ! 54 (sub ! 1 refl (whole !))))) (from ! (stop !)) (init ! 34 refl (tt, record { fits = room₁ .0 })) $
-          assigns ! (of-opd ! (load ! (from ! (fld ! refl (stop !))) (look-in ! 52 (sub ! 1 refl (whole !))))) (from ! (stop !)) (init ! 32 refl (tt, record { fits = room₂ .0 })) $
+          assigns ! (of-opd ! (load ! (from ! (fld ! refl (stop !))) (look-in ! 54 (sub ! 1 refl (whole !))))) (from ! (stop !)) (init ! 34 refl
+          (tt, record { fits = room₁ .0 })) $
+          assigns ! (of-opd ! (load ! (from ! (fld ! refl (stop !))) (look-in ! 52 (sub ! 1 refl (whole !))))) (from ! (stop !)) (init ! 32 refl
+          (tt, record { fits = room₂ .0 })) $
           lft-new ! tt (λ α. move ! (2 ∷ 3 ∷ []) $
           use2 W (later (some (λ (δ : GName). ‵ (MutSlice (named 0) (α ∷ []) u32 .own (at-list b₀ o₀ δ xs) (s₀ ∷ []))
           ⊛ ‵ (LentAgain u32 κ₀ (α ∷ []) q₀ γ₀ b₀ o₀ δ xs))))
@@ -491,12 +550,16 @@ module _ {M : Type 1} (𝓤 : URA M) (H : Heap 𝓤) (A : Atoms 𝓤) (W : Given
           await ! tt $ pick ! (λ δ. split ! $
           move ! (2 ∷ 0 ∷ []) $ use2 W (raw (Begin .pre (to-begin α δ (room₁ .0) (room₂ .0)))) (asked-begin α δ (room₁ .0) (room₂ .0)) $
           calls-at ! fm Begin known-begin (to-begin α δ (room₁ .0) (room₂ .0))
-          (and-then ! (load ! (from ! (stop !)) (look ! 36 refl)) (and-then ! (load ! (from ! (stop !)) (look ! 34 refl)) (and-then ! (load ! (from ! (stop !)) (look ! 32 refl)) (no-more !)))) (λ wm.
+          (and-then ! (load ! (from ! (stop !)) (look ! 36 refl)) (and-then ! (load ! (from ! (stop !)) (look ! 34 refl)) (and-then ! (load !
+          (from ! (stop !)) (look ! 32 refl)) (no-more !)))) (λ wm.
           use1 W (later (some (λ (m : List (List Bool)). ((‵ (flft (α ∷ []) fullShare) ⊛ ‵ ftrue) ⊛ ‵ (Rm .own m (wm ∷ [])))
-          ⊛ raw (ensured 𝓤 H A begin.ended (begin.clauses 𝓤 H A mem rn) (α ∷ [], tt) (at-list b₀ o₀ δ xs, (length ss, (length rs, tt))) tt m)))) (id⊢ 𝓤 _) $ await ! tt $ pick ! (λ m.
+          ⊛ raw (ensured 𝓤 H A begin.ended (begin.clauses 𝓤 H A mem rn) (α ∷ [], tt) (at-list b₀ o₀ δ xs, (length ss, (length rs, tt))) tt m))))
+          (id⊢ 𝓤 _) $ await ! tt $ pick ! (λ m.
           split ! $ move ! (1 ∷ []) $ use1 W (some (λ (ws : List ℕ × (Unit {0} × (Unit {0} × Unit {0}))).
-          ‵ (lasts begin.ended (α ∷ [], tt) (at-list b₀ o₀ δ xs, (length ss, (length rs, tt))) ws) ⊛ raw (fact 𝓤 ((m ≡ begun xs (length ss) (length rs)) × (ws .0 ≡ xs))))) (id⊢ 𝓤 _) $ pick ! (λ ws.
-          split ! $ move ! (1 ∷ []) $ heard ! ((m ≡ begun xs (length ss) (length rs)) × (ws .0 ≡ xs)) (λ told. fsplit ! $ fsplit ! $ move ! (1 ∷ []) $ feqL ! (λ lx.
+          ‵ (lasts begin.ended (α ∷ [], tt) (at-list b₀ o₀ δ xs, (length ss, (length rs, tt))) ws) ⊛ raw (fact 𝓤 ((m ≡ begun xs (length ss)
+          (length rs)) × (ws .0 ≡ xs))))) (id⊢ 𝓤 _) $ pick ! (λ ws.
+          split ! $ move ! (1 ∷ []) $ heard ! ((m ≡ begun xs (length ss) (length rs)) × (ws .0 ≡ xs)) (λ told. fsplit ! $ fsplit ! $
+          move ! (1 ∷ []) $ feqL ! (λ lx.
           move ! (2 ∷ []) $ split ! $ move ! (1 ∷ []) $ facts ! Rm (Is Rm) (shows 𝓤 H A Rm) m (wm ∷ []) (λ m-is.
           land ! (from ! (stop !)) (init ! 50 refl (matrix-lawful .typed m _ m-is .0)) $
           split ! $ lft-end ! tt $ move ! (0 ∷ 4 ∷ 2 ∷ []) $
@@ -505,9 +568,11 @@ module _ {M : Type 1} (𝓤 : URA M) (H : Heap 𝓤) (A : Atoms 𝓤) (W : Given
           await ! tt $ split ! $
           rewrite ! 0 (λ (k : List ℕ). ‵ (own₀ k)) (told .1) refl $ move ! (2 ∷ 3 ∷ []) $ drop ! $ drop ! $ move ! (2 ∷ []) $
           -- the verdict
-          assigns ! (of-opd ! (load ! (from ! (fld ! refl (stop !))) (look-in ! 52 (sub ! 1 refl (whole !))))) (from ! (stop !)) (store ! 34 refl (tt, record { fits = room₂ .0 })) $
+          assigns ! (of-opd ! (load ! (from ! (fld ! refl (stop !))) (look-in ! 52 (sub ! 1 refl (whole !))))) (from ! (stop !)) (store ! 34 refl
+          (tt, record { fits = room₂ .0 })) $
           use0 W (raw (Verdict .pre (to-verdict m wm m-is (length rs) (room₂ .0)))) (asked-verdict m wm m-is (length rs) (room₂ .0)) $
-          calls-at ! fm Verdict known-verdict (to-verdict m wm m-is (length rs) (room₂ .0)) (and-then ! (load ! (from ! (stop !)) (look ! 49 refl)) (and-then ! (load ! (from ! (stop !)) (look ! 35 refl)) (no-more !))) (λ w₁.
+          calls-at ! fm Verdict known-verdict (to-verdict m wm m-is (length rs) (room₂ .0)) (and-then ! (load ! (from ! (stop !)) (look ! 49 refl))
+          (and-then ! (load ! (from ! (stop !)) (look ! 35 refl)) (no-more !))) (λ w₁.
           use1 W (later (some (λ (v : ℕ). (‵ ftrue ⊛ ‵ (u32 .own v (w₁ ∷ [])))
           ⊛ raw (ensured 𝓤 H A verdict.ended (verdict.clauses 𝓤 H A mem rn) tt (m, (length rs, tt)) tt v)))) (id⊢ 𝓤 _) $ await ! tt $ pick ! (λ v.
           split ! $ move ! (1 ∷ []) $ use1 W (raw (fact 𝓤 (v ≡ verdictOf m (length rs)))) (said-verdict m wm m-is (length rs) (room₂ .0) v) $
@@ -515,19 +580,24 @@ module _ {M : Type 1} (𝓤 : URA M) (H : Heap 𝓤) (A : Atoms 𝓤) (W : Given
           land ! (from ! (stop !)) (init ! 46 refl (uint-lawful 𝓤 H A W w32 .typed v _ v-is .0)) $
           rewrite ! 46 (λ (k : Val). ‵ (fat fullShare (tyInt w32) l₆ 0 k)) (ap only (v-is .0)) refl $
           -- how many are due
-          assigns ! (of-opd ! (load ! (from ! (fld ! refl (stop !))) (look-in ! 52 (sub ! 1 refl (whole !))))) (from ! (stop !)) (store ! 32 refl (tt, record { fits = room₂ .0 })) $
+          assigns ! (of-opd ! (load ! (from ! (fld ! refl (stop !))) (look-in ! 52 (sub ! 1 refl (whole !))))) (from ! (stop !)) (store ! 32 refl
+          (tt, record { fits = room₂ .0 })) $
           use0 W (raw (Due .pre (to-due v (length rs) (v-is .1) (room₂ .0)))) (asked-due v (length rs) (v-is .1) (room₂ .0)) $
-          calls-at ! fm Due known-due (to-due v (length rs) (v-is .1) (room₂ .0)) (and-then ! (load ! (from ! (stop !)) (look ! 47 refl)) (and-then ! (load ! (from ! (stop !)) (look ! 33 refl)) (no-more !))) (λ w₂.
+          calls-at ! fm Due known-due (to-due v (length rs) (v-is .1) (room₂ .0)) (and-then ! (load ! (from ! (stop !)) (look ! 47 refl))
+          (and-then ! (load ! (from ! (stop !)) (look ! 33 refl)) (no-more !))) (λ w₂.
           use1 W (later (some (λ (n : ℕ). (‵ ftrue ⊛ ‵ (usize .own n (w₂ ∷ [])))
           ⊛ raw (ensured 𝓤 H A due.ended (due.clauses 𝓤 H A mem rn) tt (v, (length rs, tt)) tt n)))) (id⊢ 𝓤 _) $ await ! tt $ pick ! (λ n.
           split ! $ move ! (1 ∷ []) $ use1 W (raw (fact 𝓤 (n ≡ cond (eqb v 0) (length rs) 0))) (said-due v (length rs) (v-is .1) (room₂ .0) n) $
           heard ! (n ≡ cond (eqb v 0) (length rs) 0) (λ e. split ! $ drop ! $ facts ! usize (Is usize) (shows 𝓤 H A usize) n (w₂ ∷ []) (λ is.
           land ! (from ! (stop !)) (init ! 44 refl (uint-lawful 𝓤 H A W w64 .typed n _ is .0)) $
           rewrite ! 44 (λ (k : Val). ‵ (fat fullShare (tyInt w64) l₇ 0 k)) (ap only (is .0)) refl $
-          assigns ! (of-opd ! (lit ! tt)) (from ! (stop !)) (init ! 42 refl (tt, record { fits = lit< tt })) $ forget ! 32 refl $ forget ! 34 refl $ forget ! 36 refl $ forget ! 38 refl $
+          assigns ! (of-opd ! (lit ! tt)) (from ! (stop !)) (init ! 42 refl (tt, record { fits = lit< tt })) $ forget ! 32 refl $ forget ! 34 refl $
+          forget ! 36 refl $ forget ! 38 refl $
           first ! $ blocks ! $ loops ! 𝓣 (Less xs ss bs rs m n) (less-ends xs ss bs rs m n)
-          (I m wm m-is v (answer-is xs ss rs m (told .0) v ve) (v-is .1) n e (is .1) l₀ l₁ l₂ l₃ l₄ l₅ l₆ l₇ l₈ l₉ l₁₀ l₁₁ l₁₂ l₁₃ l₁₄ l₁₅ l₁₆ l₁₇ l₁₈ l₁₉ l₂₀ l₂₁ l₂₂ l₂₃ l₂₄)
-          (turns m wm m-is v (answer-is xs ss rs m (told .0) v ve) (v-is .1) n e (is .1) l₀ l₁ l₂ l₃ l₄ l₅ l₆ l₇ l₈ l₉ l₁₀ l₁₁ l₁₂ l₁₃ l₁₄ l₁₅ l₁₆ l₁₇ l₁₈ l₁₉ l₂₀ l₂₁ l₂₂ l₂₃ l₂₄)
+          (I m wm m-is v (answer-is xs ss rs m (told .0) v ve) (v-is .1) n e
+          (is .1) l₀ l₁ l₂ l₃ l₄ l₅ l₆ l₇ l₈ l₉ l₁₀ l₁₁ l₁₂ l₁₃ l₁₄ l₁₅ l₁₆ l₁₇ l₁₈ l₁₉ l₂₀ l₂₁ l₂₂ l₂₃ l₂₄)
+          (turns m wm m-is v (answer-is xs ss rs m (told .0) v ve) (v-is .1) n e
+          (is .1) l₀ l₁ l₂ l₃ l₄ l₅ l₆ l₇ l₈ l₉ l₁₀ l₁₁ l₁₂ l₁₃ l₁₄ l₁₅ l₁₆ l₁₇ l₁₈ l₁₉ l₂₀ l₂₁ l₂₂ l₂₃ l₂₄)
           (record {
             i = 0;
             t = xs;
@@ -549,14 +619,23 @@ module _ {M : Type 1} (𝓤 : URA M) (H : Heap 𝓤) (A : Atoms 𝓤) (W : Given
       ))
       (λ κs qs bounds a g are. via 𝓤 _ (fst∗ 𝓤 _ (emp 𝓤))
       (walk 𝓤 H A W mem rn (κs .0) (κs .1 .0) (κs .1 .1 .0) (κs .1 .1 .1 .0) (qs .0) (qs .1 .0) (qs .1 .1 .0) (qs .1 .1 .1 .0)
-      (a .0 .ptr .0) (a .0 .ptr .1) (a .1 .0 .ptr .0) (a .1 .0 .ptr .1) (a .1 .1 .0 .ptr .0) (a .1 .1 .0 .ptr .1) (a .1 .1 .1 .0 .ptr .0) (a .1 .1 .1 .0 .ptr .1)
+      (a .0 .ptr .0) (a .0 .ptr .1) (a .1 .0 .ptr .0) (a .1 .0 .ptr .1) (a .1 .1 .0 .ptr .0) (a .1 .1 .0 .ptr .1) (a .1 .1 .1 .0 .ptr .0)
+      (a .1 .1 .1 .0 .ptr .1)
       (a .0 .name) (a .1 .0 .name) (a .1 .1 .0 .name) (a .1 .1 .1 .0 .name) (a .0 .now) (a .1 .0 .now) (a .1 .1 .1 .0 .now) (a .1 .1 .0 .now)
       𝓣 known-run (are .0 .0 .1) (are .1 .0 .0 .1) (are .1 .1 .0 .0 .1) (are .1 .1 .1 .0 .0 .1) known-due known-verdict known-begin))
 
   tray-meets : Meets 𝓤 H A tr.signature (WpFn 𝓤 H (𝓣 .C) (𝓣 .Λ) code.function) (tr.spec 𝓤 H A mem rn)
   tray-meets =
-      walk-meets 𝓤 H A tr.ended stayed W
-      (goes-slice 𝓤 H A W 4 0 tt (plain (λ _. u32)), (goes-slice 𝓤 H A W 4 1 tt (plain (λ _. u8)), (goes-slice 𝓤 H A W 4 2 tt (plain (λ _. R)), (goes-slice 𝓤 H A W 4 3 tt (plain (λ _. u8)), tt))))
+      walk-meets 𝓤 H A tr.ended stayed W (
+        goes-slice 𝓤 H A W 4 0 tt (plain (λ _. u32)),
+        (
+          goes-slice 𝓤 H A W 4 1 tt (plain (λ _. u8)),
+          (
+            goes-slice 𝓤 H A W 4 2 tt (plain (λ _. R)),
+            (goes-slice 𝓤 H A W 4 3 tt (plain (λ _. u8)), tt),
+          ),
+        ),
+      )
       (tr.clauses 𝓤 H A mem rn) (WpFn 𝓤 H (𝓣 .C) (𝓣 .Λ) code.function) (WpFn-mono 𝓤 H (W .laws) 𝓣 code.function) tray-walks
 
 pub tray-spec : {M : Type 1} → stated.statement M
@@ -565,7 +644,11 @@ tray-spec 𝓤 H 𝓜 𝓖 𝓡 =
     entered 𝓤 H (tripleOf 𝓤 H (𝓖 .A) tr.signature (tr.spec 𝓤 H (𝓖 .A) (𝓜 .mem) (𝓡 .run)))
     (tables 𝓤 H 𝓜 𝓡 code.env .C) (tables 𝓤 H 𝓜 𝓡 code.env .Λ) #tray code.function (code.unfolded 𝓤 H 𝓜 𝓡)
     (tray-meets 𝓤 H (𝓖 .A) (givenOf 𝓤 H 𝓜 𝓖) (𝓜 .mem) (𝓡 .run) (tablesOf 𝓤 H 𝓜 (tables 𝓤 H 𝓜 𝓡 code.env))
-    (cited 𝓤 H (Run 𝓤 H (𝓖 .A) (givenOf 𝓤 H 𝓜 𝓖) (𝓜 .mem) (𝓡 .run)) 𝓜 𝓡 code.env #run run-def.routine code.calls-calls·trays·run (run-thm.met 𝓤 H 𝓜 𝓖 𝓡))
-    (cited 𝓤 H (Due 𝓤 H (𝓖 .A) (givenOf 𝓤 H 𝓜 𝓖) (𝓜 .mem) (𝓡 .run)) 𝓜 𝓡 code.env #due due-def.routine code.calls-calls·trays·due (due-thm.met 𝓤 H 𝓜 𝓖 𝓡))
-    (cited 𝓤 H (Verdict 𝓤 H (𝓖 .A) (givenOf 𝓤 H 𝓜 𝓖) (𝓜 .mem) (𝓡 .run)) 𝓜 𝓡 code.env #verdict verdict-def.routine code.calls-calls·trays·verdict (verdict-thm.met 𝓤 H 𝓜 𝓖 𝓡))
-    (cited 𝓤 H (Begin 𝓤 H (𝓖 .A) (givenOf 𝓤 H 𝓜 𝓖) (𝓜 .mem) (𝓡 .run)) 𝓜 𝓡 code.env #begin begin-def.routine code.calls-calls·trays·begin (begin-thm.met 𝓤 H 𝓜 𝓖 𝓡)))
+    (cited 𝓤 H (Run 𝓤 H (𝓖 .A) (givenOf 𝓤 H 𝓜 𝓖) (𝓜 .mem) (𝓡 .run)) 𝓜 𝓡 code.env #run run-def.routine code.calls-calls·trays·run
+    (run-thm.met 𝓤 H 𝓜 𝓖 𝓡))
+    (cited 𝓤 H (Due 𝓤 H (𝓖 .A) (givenOf 𝓤 H 𝓜 𝓖) (𝓜 .mem) (𝓡 .run)) 𝓜 𝓡 code.env #due due-def.routine code.calls-calls·trays·due
+    (due-thm.met 𝓤 H 𝓜 𝓖 𝓡))
+    (cited 𝓤 H (Verdict 𝓤 H (𝓖 .A) (givenOf 𝓤 H 𝓜 𝓖) (𝓜 .mem) (𝓡 .run)) 𝓜 𝓡 code.env #verdict verdict-def.routine code.calls-calls·trays·verdict
+    (verdict-thm.met 𝓤 H 𝓜 𝓖 𝓡))
+    (cited 𝓤 H (Begin 𝓤 H (𝓖 .A) (givenOf 𝓤 H 𝓜 𝓖) (𝓜 .mem) (𝓡 .run)) 𝓜 𝓡 code.env #begin begin-def.routine code.calls-calls·trays·begin
+    (begin-thm.met 𝓤 H 𝓜 𝓖 𝓡)))

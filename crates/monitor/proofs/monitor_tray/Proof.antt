@@ -120,9 +120,19 @@ module _ {M : Type 1} (𝓤 : URA M) (H : Heap 𝓤) (A : Atoms 𝓤) (W : Given
         → length zs ≡ length rs → Trayed (stateOf xs ss) bs rs v x u y zs → ent 𝓤 (⋆ 𝓤 H A (Had x u y zs)) (Post (vint w32 v))
     exits x u y zs v v-fits lx lu ly lz e =
         qed W (Had x u y zs) ∵
-        suffices ! _ (ends-at 𝓤 H A tr.ended stayed (tr.clauses 𝓤 H A mem rn) W bound (vint w32 v) v (x, (u, (zs, (y, tt)))) (lx, (lu, (lz, (ly, tt))))) $ says ! e $
+        suffices ! _ (ends-at 𝓤 H A tr.ended stayed (tr.clauses 𝓤 H A mem rn) W bound (vint w32 v) v (x, (u, (zs, (y, tt)))) (
+          lx,
+          (
+            lu,
+            (
+              lz,
+              (ly, tt),
+            ),
+          ),
+        )) $ says ! e $
         -- the tokens, what the four slices own, and the result
-        nothing ! $ move ! (2 ∷ 0 ∷ []) $ join ! $ move ! (3 ∷ 0 ∷ []) $ join ! $ move ! (4 ∷ 0 ∷ []) $ join ! $ move ! (5 ∷ 0 ∷ []) $ join ! $ frame ! $
+        nothing ! $ move ! (2 ∷ 0 ∷ []) $ join ! $ move ! (3 ∷ 0 ∷ []) $ join ! $ move ! (4 ∷ 0 ∷ []) $ join ! $ move ! (5 ∷ 0 ∷ []) $ join ! $
+        frame ! $
         nothing ! $ move ! (1 ∷ 0 ∷ []) $ fjoin ! $ move ! (1 ∷ 0 ∷ []) $ fjoin ! $ move ! (1 ∷ 0 ∷ []) $ fjoin ! $ move ! (1 ∷ 0 ∷ []) $ fjoin ! $
         owned ! u32 (Is u32) (uint-makes 𝓤 H A W w32) v _ (refl, v-fits) $ move ! (1 ∷ 0 ∷ []) $ done !
 
@@ -143,16 +153,20 @@ module _ {M : Type 1} (𝓤 : URA M) (H : Heap 𝓤) (A : Atoms 𝓤) (W : Given
       abbrev Lent : List (Item 𝓤)
       Lent =
           ‵ (flft (α ∷ []) fullShare) ∷ ‵ (flft (β ∷ []) fullShare) ∷ ‵ (flft (ζ ∷ []) fullShare) ∷ ‵ (flft (θ ∷ []) fullShare)
-          ∷ ‵ (MutSlice (named 0) (α ∷ []) u32 .own (at-list b₀ o₀ δ xs) (s₀ ∷ [])) ∷ ‵ (MutSlice (named 1) (β ∷ []) u8 .own (at-list b₁ o₁ ε ss) (s₁ ∷ []))
-          ∷ ‵ (MutSlice (named 2) (ζ ∷ []) R .own (at-list b₂ o₂ η rs) (s₂ ∷ [])) ∷ ‵ (MutSlice (named 3) (θ ∷ []) u8 .own (at-list b₃ o₃ μ bs) (s₃ ∷ [])) ∷ []
+          ∷ ‵ (MutSlice (named 0) (α ∷ []) u32 .own (at-list b₀ o₀ δ xs) (s₀ ∷ [])) ∷ ‵ (MutSlice (named 1) (β ∷ []) u8 .own (at-list b₁ o₁ ε ss)
+          (s₁ ∷ []))
+          ∷ ‵ (MutSlice (named 2) (ζ ∷ []) R .own (at-list b₂ o₂ η rs) (s₂ ∷ [])) ∷ ‵ (MutSlice (named 3) (θ ∷ []) u8 .own (at-list b₃ o₃ μ bs)
+          (s₃ ∷ [])) ∷ []
 
       asked-tray : ent 𝓤 (⋆ 𝓤 H A Lent) (Tray .pre to-tray)
       asked-tray =
-          qed W Lent ∵ nothing ! $ move ! (4 ∷ 0 ∷ []) $ join ! $ move ! (3 ∷ 0 ∷ []) $ join ! $ move ! (2 ∷ 0 ∷ []) $ join ! $ move ! (1 ∷ 0 ∷ []) $ join ! $
+          qed W Lent ∵ nothing ! $ move ! (4 ∷ 0 ∷ []) $ join ! $ move ! (3 ∷ 0 ∷ []) $ join ! $ move ! (2 ∷ 0 ∷ []) $ join ! $ move ! (1 ∷ 0 ∷ []) $
+          join ! $
           nothing ! $ move ! (5 ∷ 0 ∷ []) $ fjoin ! $ move ! (4 ∷ 0 ∷ []) $ fjoin ! $ move ! (3 ∷ 0 ∷ []) $ fjoin ! $ move ! (2 ∷ 0 ∷ []) $ fjoin ! $
           move ! (1 ∷ 0 ∷ []) $ join ! $ frame ! $ done !
 
-    module _ (𝓣 : Tables 𝓤 H) (room₀ : Room u32 (length xs)) (room₁ : Room u8 (length ss)) (room₂ : Room R (length rs)) (room₃ : Room u8 (length bs)) where
+    module _ (𝓣 : Tables 𝓤 H) (room₀ : Room u32 (length xs)) (room₁ : Room u8 (length ss)) (room₂ : Room R (length rs)) (room₃ : Room u8
+        (length bs)) where
       abbrev C : Calls 𝓤 H
       C = 𝓣 .C
 
@@ -171,24 +185,34 @@ module _ {M : Type 1} (𝓤 : URA M) (H : Heap 𝓤) (A : Atoms 𝓤) (W : Given
           ∵ enter ! C Λ code.function (s₀ ∷ s₁ ∷ s₂ ∷ s₃ ∷ []) _ $
           alloc1 ! (λ l₀. alloc1 ! (λ l₁. alloc1 ! (λ l₂. alloc1 ! (λ l₃. alloc1 ! (λ l₄. alloc1 ! (λ l₅. alloc1 ! (λ l₆. alloc1 ! (λ l₇.
           alloc1 ! (λ l₈. alloc1 ! (λ l₉. alloc1 ! (λ l₁₀. alloc1 ! (λ l₁₁. alloc1 ! (λ l₁₂. alloc0 ! $ params1 ! $
-          pass1 ! (init ! 22 refl (tt, (tt, (record { fits = room₀ .0 }, tt)))) $ pass1 ! (init ! 20 refl (tt, (tt, (record { fits = room₁ .0 }, tt)))) $
-          pass1 ! (init ! 18 refl (tt, (tt, (record { fits = room₂ .0 }, tt)))) $ pass1 ! (init ! 16 refl (tt, (tt, (record { fits = room₃ .0 }, tt)))) $ pass0 ! $
+          pass1 ! (init ! 22 refl (tt, (tt, (record { fits = room₀ .0 }, tt)))) $
+          pass1 ! (init ! 20 refl (tt, (tt, (record { fits = room₁ .0 }, tt)))) $
+          pass1 ! (init ! 18 refl (tt, (tt, (record { fits = room₂ .0 }, tt)))) $
+          pass1 ! (init ! 16 refl (tt, (tt, (record { fits = room₃ .0 }, tt)))) $ pass0 ! $
           -- what the slices own, and the tokens
           move ! (27 ∷ []) $ fsplit ! $ move ! (1 ∷ []) $ fsplit ! $ move ! (1 ∷ []) $ fsplit ! $ move ! (1 ∷ []) $ fsplit ! $
           move ! (31 ∷ []) $ split ! $ move ! (1 ∷ []) $ split ! $ move ! (1 ∷ []) $ split ! $ move ! (1 ∷ []) $ split ! $
           -- [a slice and its token, four times; the locals]
           keep ! (9 ∷ 4 ∷ 8 ∷ 3 ∷ 7 ∷ 2 ∷ 5 ∷ 0 ∷ 10 ∷ 11 ∷ 12 ∷ 13 ∷ 14 ∷ 15 ∷ 16 ∷ 17 ∷ 18 ∷ 19 ∷ 20 ∷ 21 ∷ 22 ∷ 23 ∷ 24 ∷ 25 ∷ 26 ∷ 27 ∷ 28 ∷ 29 ∷ 30 ∷ 31 ∷ 32 ∷ 33 ∷ 34 ∷ 35 ∷ []) $
-          assigns ! (addr ! (from ! (fld ! refl (hop ! (look-in ! 30 (sub ! 0 refl (whole !))) (stop !))))) (from ! (stop !)) (init ! 22 refl (tt, tt)) $
-          assigns ! (agg ! (and-then ! (load ! (from ! (stop !)) (look ! 22 refl)) (and-then ! (load ! (from ! (fld ! refl (stop !))) (look-in ! 30 (sub ! 1 refl (whole !)))) (no-more !)))) (from ! (stop !))
+          assigns ! (addr ! (from ! (fld ! refl (hop ! (look-in ! 30 (sub ! 0 refl (whole !))) (stop !))))) (from ! (stop !)) (init ! 22 refl
+          (tt, tt)) $
+          assigns ! (agg ! (and-then ! (load ! (from ! (stop !)) (look ! 22 refl)) (and-then ! (load ! (from ! (fld ! refl (stop !))) (look-in ! 30
+          (sub ! 1 refl (whole !)))) (no-more !)))) (from ! (stop !))
           (init ! 20 refl (tt, (tt, (record { fits = room₀ .0 }, tt)))) $
-          assigns ! (addr ! (from ! (fld ! refl (hop ! (look-in ! 28 (sub ! 0 refl (whole !))) (stop !))))) (from ! (stop !)) (init ! 18 refl (tt, tt)) $
-          assigns ! (agg ! (and-then ! (load ! (from ! (stop !)) (look ! 18 refl)) (and-then ! (load ! (from ! (fld ! refl (stop !))) (look-in ! 28 (sub ! 1 refl (whole !)))) (no-more !)))) (from ! (stop !))
+          assigns ! (addr ! (from ! (fld ! refl (hop ! (look-in ! 28 (sub ! 0 refl (whole !))) (stop !))))) (from ! (stop !)) (init ! 18 refl
+          (tt, tt)) $
+          assigns ! (agg ! (and-then ! (load ! (from ! (stop !)) (look ! 18 refl)) (and-then ! (load ! (from ! (fld ! refl (stop !))) (look-in ! 28
+          (sub ! 1 refl (whole !)))) (no-more !)))) (from ! (stop !))
           (init ! 16 refl (tt, (tt, (record { fits = room₁ .0 }, tt)))) $
-          assigns ! (addr ! (from ! (fld ! refl (hop ! (look-in ! 26 (sub ! 0 refl (whole !))) (stop !))))) (from ! (stop !)) (init ! 14 refl (tt, tt)) $
-          assigns ! (agg ! (and-then ! (load ! (from ! (stop !)) (look ! 14 refl)) (and-then ! (load ! (from ! (fld ! refl (stop !))) (look-in ! 26 (sub ! 1 refl (whole !)))) (no-more !)))) (from ! (stop !))
+          assigns ! (addr ! (from ! (fld ! refl (hop ! (look-in ! 26 (sub ! 0 refl (whole !))) (stop !))))) (from ! (stop !)) (init ! 14 refl
+          (tt, tt)) $
+          assigns ! (agg ! (and-then ! (load ! (from ! (stop !)) (look ! 14 refl)) (and-then ! (load ! (from ! (fld ! refl (stop !))) (look-in ! 26
+          (sub ! 1 refl (whole !)))) (no-more !)))) (from ! (stop !))
           (init ! 12 refl (tt, (tt, (record { fits = room₂ .0 }, tt)))) $
-          assigns ! (addr ! (from ! (fld ! refl (hop ! (look-in ! 24 (sub ! 0 refl (whole !))) (stop !))))) (from ! (stop !)) (init ! 10 refl (tt, tt)) $
-          assigns ! (agg ! (and-then ! (load ! (from ! (stop !)) (look ! 10 refl)) (and-then ! (load ! (from ! (fld ! refl (stop !))) (look-in ! 24 (sub ! 1 refl (whole !)))) (no-more !)))) (from ! (stop !))
+          assigns ! (addr ! (from ! (fld ! refl (hop ! (look-in ! 24 (sub ! 0 refl (whole !))) (stop !))))) (from ! (stop !)) (init ! 10 refl
+          (tt, tt)) $
+          assigns ! (agg ! (and-then ! (load ! (from ! (stop !)) (look ! 10 refl)) (and-then ! (load ! (from ! (fld ! refl (stop !))) (look-in ! 24
+          (sub ! 1 refl (whole !)))) (no-more !)))) (from ! (stop !))
           (init ! 8 refl (tt, (tt, (record { fits = room₃ .0 }, tt)))) $
           lft-new ! tt (λ α. move ! (1 ∷ 2 ∷ []) $
           use2 W (later (some (λ (δ : GName). ‵ (MutSlice (named 0) (α ∷ []) u32 .own (at-list b₀ o₀ δ xs) (s₀ ∷ []))
@@ -214,14 +238,31 @@ module _ {M : Type 1} (𝓤 : URA M) (H : Heap 𝓤) (A : Atoms 𝓤) (W : Given
           move ! (11 ∷ 8 ∷ 5 ∷ 2 ∷ 9 ∷ 6 ∷ 3 ∷ 0 ∷ []) $ group ! 8 $
           use1 W (raw (Tray .pre (to-tray α β ζ θ δ ε η μ))) (asked-tray α β ζ θ δ ε η μ) $
           calls-at ! fm Tray known-tray (to-tray α β ζ θ δ ε η μ)
-          (and-then ! (load ! (from ! (stop !)) (look ! 17 refl)) (and-then ! (load ! (from ! (stop !)) (look ! 13 refl)) (and-then ! (load ! (from ! (stop !)) (look ! 9 refl))
+          (and-then ! (load ! (from ! (stop !)) (look ! 17 refl)) (and-then ! (load ! (from ! (stop !)) (look ! 13 refl)) (and-then ! (load !
+          (from ! (stop !)) (look ! 9 refl))
           (and-then ! (load ! (from ! (stop !)) (look ! 5 refl)) (no-more !))))) (λ w.
-          use1 W (later (some (λ (v : ℕ). ((‵ (flft (α ∷ []) fullShare) ⊛ (‵ (flft (β ∷ []) fullShare) ⊛ (‵ (flft (ζ ∷ []) fullShare) ⊛ (‵ (flft (θ ∷ []) fullShare) ⊛ ‵ ftrue)))) ⊛ ‵ (u32 .own v (w ∷ [])))
-          ⊛ raw (ensured 𝓤 H A tray.ended (tray.clauses 𝓤 H A mem rn) (α ∷ [], (β ∷ [], (ζ ∷ [], (θ ∷ [], tt)))) (at-list b₀ o₀ δ xs, (at-list b₁ o₁ ε ss, (at-list b₂ o₂ η rs, (at-list b₃ o₃ μ bs, tt)))) tt v)))) (id⊢ 𝓤 _) $ await ! tt $ pick ! (λ v.
+          use1 W (later (some (λ (v : ℕ). ((‵ (flft (α ∷ []) fullShare) ⊛ (‵ (flft (β ∷ []) fullShare) ⊛ (‵ (flft (ζ ∷ []) fullShare) ⊛ (‵ (flft
+          (θ ∷ []) fullShare) ⊛ ‵ ftrue)))) ⊛ ‵ (u32 .own v (w ∷ [])))
+          ⊛ raw (ensured 𝓤 H A tray.ended (tray.clauses 𝓤 H A mem rn) (α ∷ [], (β ∷ [], (ζ ∷ [], (θ ∷ [], tt)))) (
+            at-list b₀ o₀ δ xs,
+            (at-list b₁ o₁ ε ss, (at-list b₂ o₂ η rs, (at-list b₃ o₃ μ bs, tt))),
+          ) tt v)))) (id⊢ 𝓤 _) $ await ! tt $ pick ! (λ v.
           split ! $ move ! (1 ∷ []) $ use1 W (some (λ (ws : List ℕ × (List ℕ × (List Record × (List ℕ × Unit {0})))).
-          ‵ (lasts tray.ended (α ∷ [], (β ∷ [], (ζ ∷ [], (θ ∷ [], tt)))) (at-list b₀ o₀ δ xs, (at-list b₁ o₁ ε ss, (at-list b₂ o₂ η rs, (at-list b₃ o₃ μ bs, tt)))) ws) ⊛ raw (fact 𝓤 (Trayed (stateOf xs ss) bs rs v (ws .0) (ws .1 .0) (ws .1 .1 .1 .0) (ws .1 .1 .0))))) (id⊢ 𝓤 _) $ pick ! (λ ws.
-          split ! $ move ! (1 ∷ []) $ heard ! (Trayed (stateOf xs ss) bs rs v (ws .0) (ws .1 .0) (ws .1 .1 .1 .0) (ws .1 .1 .0)) (λ done-so. fsplit ! $ fsplit ! $ move ! (1 ∷ []) $ feqL ! (λ lx. move ! (1 ∷ []) $
-          fsplit ! $ fsplit ! $ move ! (1 ∷ []) $ feqL ! (λ lu. move ! (1 ∷ []) $ fsplit ! $ fsplit ! $ move ! (1 ∷ []) $ feqL ! (λ lz. move ! (1 ∷ []) $
+          ‵ (lasts tray.ended (α ∷ [], (β ∷ [], (ζ ∷ [], (θ ∷ [], tt)))) (
+            at-list b₀ o₀ δ xs,
+            (
+              at-list b₁ o₁ ε ss,
+              (
+                at-list b₂ o₂ η rs,
+                (at-list b₃ o₃ μ bs, tt),
+              ),
+            ),
+          ) ws) ⊛ raw (fact 𝓤 (Trayed (stateOf xs ss) bs rs v (ws .0) (ws .1 .0) (ws .1 .1 .1 .0) (ws .1 .1 .0)))))
+          (id⊢ 𝓤 _) $ pick ! (λ ws.
+          split ! $ move ! (1 ∷ []) $ heard ! (Trayed (stateOf xs ss) bs rs v (ws .0) (ws .1 .0) (ws .1 .1 .1 .0) (ws .1 .1 .0))
+          (λ done-so. fsplit ! $ fsplit ! $ move ! (1 ∷ []) $ feqL ! (λ lx. move ! (1 ∷ []) $
+          fsplit ! $ fsplit ! $ move ! (1 ∷ []) $ feqL ! (λ lu. move ! (1 ∷ []) $ fsplit ! $ fsplit ! $ move ! (1 ∷ []) $
+          feqL ! (λ lz. move ! (1 ∷ []) $
           fsplit ! $ fsplit ! $ move ! (1 ∷ []) $ feqL ! (λ ly.
           -- [the bytes' last list; …; the records'; the store's; the table's; the tokens and the result; what was kept of each; the locals]
           move ! (5 ∷ []) $ split ! $ move ! (1 ∷ []) $ facts ! u32 (Is u32) (shows 𝓤 H A u32) v (w ∷ []) (λ v-is.
@@ -245,7 +286,8 @@ module _ {M : Type 1} (𝓤 : URA M) (H : Heap 𝓤) (A : Atoms 𝓤) (W : Given
           (back-by u8 κ₃ (θ ∷ []) q₃ γ₃ b₃ o₃ 𝓤 H A W (named 3) (named 3) bs (length bs) refl μ (ws .1 .1 .1 .0) room₃ ly) $
           await ! tt $ split ! $
           move ! (2 ∷ 9 ∷ []) $ drop ! $ drop ! $
-          returns ! (look ! 32 refl) $ forget ! 8 refl $ forget ! 10 refl $ forget ! 12 refl $ forget ! 14 refl $ forget ! 16 refl $ forget ! 18 refl $
+          returns ! (look ! 32 refl) $ forget ! 8 refl $ forget ! 10 refl $ forget ! 12 refl $ forget ! 14 refl $ forget ! 16 refl $
+          forget ! 18 refl $
           forget ! 20 refl $ forget ! 22 refl $ forget ! 24 refl $ forget ! 26 refl $ forget ! 28 refl $ forget ! 30 refl $
           forget ! 32 refl $
           move ! (32 ∷ 33 ∷ []) $ free1 ! $ move ! (30 ∷ 31 ∷ []) $ free1 ! $ move ! (28 ∷ 29 ∷ []) $ free1 ! $ move ! (26 ∷ 27 ∷ []) $ free1 ! $
@@ -265,14 +307,23 @@ module _ {M : Type 1} (𝓤 : URA M) (H : Heap 𝓤) (A : Atoms 𝓤) (W : Given
       ))
       (λ κs qs bounds a g are. via 𝓤 _ (fst∗ 𝓤 _ (emp 𝓤))
       (walk 𝓤 H A W mem rn (κs .0) (κs .1 .0) (κs .1 .1 .0) (κs .1 .1 .1 .0) (qs .0) (qs .1 .0) (qs .1 .1 .0) (qs .1 .1 .1 .0)
-      (a .0 .ptr .0) (a .0 .ptr .1) (a .1 .0 .ptr .0) (a .1 .0 .ptr .1) (a .1 .1 .0 .ptr .0) (a .1 .1 .0 .ptr .1) (a .1 .1 .1 .0 .ptr .0) (a .1 .1 .1 .0 .ptr .1)
+      (a .0 .ptr .0) (a .0 .ptr .1) (a .1 .0 .ptr .0) (a .1 .0 .ptr .1) (a .1 .1 .0 .ptr .0) (a .1 .1 .0 .ptr .1) (a .1 .1 .1 .0 .ptr .0)
+      (a .1 .1 .1 .0 .ptr .1)
       (a .0 .name) (a .1 .0 .name) (a .1 .1 .0 .name) (a .1 .1 .1 .0 .name) (a .0 .now) (a .1 .0 .now) (a .1 .1 .1 .0 .now) (a .1 .1 .0 .now)
       𝓣 (are .0 .0 .1) (are .1 .0 .0 .1) (are .1 .1 .0 .0 .1) (are .1 .1 .1 .0 .0 .1) known-tray))
 
   tray-meets : Meets 𝓤 H A tr.signature (WpFn 𝓤 H (𝓣 .C) (𝓣 .Λ) code.function) (tr.spec 𝓤 H A mem rn)
   tray-meets =
-      walk-meets 𝓤 H A tr.ended stayed W
-      (goes-slice 𝓤 H A W 4 0 tt (plain (λ _. u32)), (goes-slice 𝓤 H A W 4 1 tt (plain (λ _. u8)), (goes-slice 𝓤 H A W 4 2 tt (plain (λ _. R)), (goes-slice 𝓤 H A W 4 3 tt (plain (λ _. u8)), tt))))
+      walk-meets 𝓤 H A tr.ended stayed W (
+        goes-slice 𝓤 H A W 4 0 tt (plain (λ _. u32)),
+        (
+          goes-slice 𝓤 H A W 4 1 tt (plain (λ _. u8)),
+          (
+            goes-slice 𝓤 H A W 4 2 tt (plain (λ _. R)),
+            (goes-slice 𝓤 H A W 4 3 tt (plain (λ _. u8)), tt),
+          ),
+        ),
+      )
       (tr.clauses 𝓤 H A mem rn) (WpFn 𝓤 H (𝓣 .C) (𝓣 .Λ) code.function) (WpFn-mono 𝓤 H (W .laws) 𝓣 code.function) tray-walks
 
 pub monitor-tray-spec : {M : Type 1} → stated.statement M
@@ -281,4 +332,5 @@ monitor-tray-spec 𝓤 H 𝓜 𝓖 𝓡 =
     entered 𝓤 H (tripleOf 𝓤 H (𝓖 .A) tr.signature (tr.spec 𝓤 H (𝓖 .A) (𝓜 .mem) (𝓡 .run)))
     (tables 𝓤 H 𝓜 𝓡 code.env .C) (tables 𝓤 H 𝓜 𝓡 code.env .Λ) #monitor-tray code.function (code.unfolded 𝓤 H 𝓜 𝓡)
     (tray-meets 𝓤 H (𝓖 .A) (givenOf 𝓤 H 𝓜 𝓖) (𝓜 .mem) (𝓡 .run) (tablesOf 𝓤 H 𝓜 (tables 𝓤 H 𝓜 𝓡 code.env))
-    (cited 𝓤 H (Tray 𝓤 H (𝓖 .A) (givenOf 𝓤 H 𝓜 𝓖) (𝓜 .mem) (𝓡 .run)) 𝓜 𝓡 code.env #tray tray-def.routine code.calls-calls·tray (tray-thm.met 𝓤 H 𝓜 𝓖 𝓡)))
+    (cited 𝓤 H (Tray 𝓤 H (𝓖 .A) (givenOf 𝓤 H 𝓜 𝓖) (𝓜 .mem) (𝓡 .run)) 𝓜 𝓡 code.env #tray tray-def.routine code.calls-calls·tray
+    (tray-thm.met 𝓤 H 𝓜 𝓖 𝓡)))
