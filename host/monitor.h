@@ -42,6 +42,7 @@ enum monitor_code {
     MONITOR_ACCESS = 18, /* Designator. Gives an access. */
     MONITOR_REMAP = 19, /* Incoming designator, first page, outgoing designator; 16 is none. */
     MONITOR_PAGE_ACCESS = 20, /* Page. Gives an access. */
+    MONITOR_REGRADE = 21, /* Descriptor, cell, bits; a buffer of 4 bytes: owner and group. Gives a file seid. */
 };
 
 /* The refusals, by the names and numbers of documents 01 and 02; 0 is success. A refusal has changed nothing. */
@@ -80,6 +81,7 @@ enum monitor_error {
     MONITOR_XinSgAldMap = 31, /* the incoming segment is mapped already */
     MONITOR_XvrtMmCfl = 32, /* its pages are used or pass the last one */
     MONITOR_XshSg = 33, /* a sharable segment's bits are fixed */
+    MONITOR_XnoSPriv = 34, /* only the guard cell may regrade */
 };
 
 /* Limits: cells, slots of each kind, blocks of a file. */
@@ -94,11 +96,16 @@ enum monitor_error {
 #define MONITOR_SEGMENT_WORDS 8
 #define MONITOR_FILE_WORDS 8
 
-/* Bytes of a block, of a message's text, of a message with its sender before it, and of a status. */
+/* The header's words: cells; processes, segments and files in all; blocks of a file; the guard cell and 1, or 0; two zeros. */
+#define MONITOR_HEADER_GUARD 5
+
+/* Bytes of a block, of a message's text, of a message with its sender before it, of a status, and of an owner and a group (high
+ * bytes first). */
 #define MONITOR_BLOCK_BYTES 512
 #define MONITOR_TEXT_BYTES 12
 #define MONITOR_MESSAGE_BYTES 16
 #define MONITOR_STATUS_BYTES 16
+#define MONITOR_IDENTITY_BYTES 4
 
 /* The pages of a process's address map, and the bytes of a page. */
 #define MONITOR_PAGES 8
@@ -190,7 +197,7 @@ static inline const char *monitor_error_name(uint32_t error)
         "XbSgSd", "XnoObj", "XnoAcc", "XnoOwner", "XnoPriv", "XdapViol", "XsgNoAcc", "XdupSg", "Xbusy", "XnotReadable",
         "XnotWritable", "XbadBlockNo", "XendOfFile", "XbadLink", "XodSpace", "XnoSpace", "XnoProc", "XpostEh",
         "XbNoMes",
-        "XoutSgAldUmp", "XinSgAldMap", "XvrtMmCfl", "XshSg",
+        "XoutSgAldUmp", "XinSgAldMap", "XvrtMmCfl", "XshSg", "XnoSPriv",
     };
     return error < sizeof names / sizeof *names ? names[error] : "?";
 }

@@ -6,7 +6,7 @@
 
 A line of the text is one of these; what follows a # is not read.
 
-  header CELLS PROCESSES SEGMENTS FILES B
+  header CELLS PROCESSES SEGMENTS FILES B GUARD     the guard cell and 1, or 0
   cell SECURITY INTEGRITY COMPARTMENTS PROCESSES SEGMENTS FILES OWNER GROUP
   CALLER CALL A B C : BUFFER        a call by its name or its code; arguments left out are 0, and so is a buffer
   repeat N CALLER CALL ..           the same call N times
@@ -32,6 +32,7 @@ def calls():
 
 CALLS = calls()
 CLASSES = {"p": 4, "s": 5, "f": 129}
+NUMBERS = {"header": 6, "cell": 8}
 
 
 def number(word):
@@ -79,7 +80,9 @@ def call(words):
 
 def line(words):
     match words[0]:
-        case "header" | "cell":
+        case "header" | "cell" as name:
+            if len(words) != 1 + NUMBERS[name]:
+                sys.exit(f"{name}: {NUMBERS[name]} numbers are asked for: {' '.join(words)}")
             return numbers(words[1:])
         case "repeat":
             return int(words[1]) * call(words[2:])

@@ -12,6 +12,7 @@ fn main() -> Result<(), Error> {
             Cell { level: Level::new(1, 0, 0), processes: 2, files: 2, segments: 1, owner: 10, group: 10 },
             Cell { level: Level::new(3, 0, 0), processes: 2, files: 2, segments: 1, owner: 20, group: 20 },
         ],
+        ..Hall::default()
     };
     let [desk, auditor] = [0, 1].map(|cell| hall.first_process(cell));
     let tenants = [(desk, "front desk"), (desk + 1, "clerk"), (auditor, "auditor")];

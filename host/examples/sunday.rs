@@ -48,8 +48,11 @@ fn main() -> Result<(), Box<dyn std::error::Error>> {
     let given = env::args_os().nth(1).map(PathBuf::from);
     let folder = given.clone().unwrap_or_else(|| env::temp_dir().join(format!("sunday-{}", process::id())));
     fs::create_dir_all(&folder)?;
-    let hall =
-        Hall { blocks: 2, cells: vec![Cell { level: Level::new(1, 0, 0), processes: 2, files: 2, ..Cell::default() }] };
+    let hall = Hall {
+        blocks: 2,
+        cells: vec![Cell { level: Level::new(1, 0, 0), processes: 2, files: 2, ..Cell::default() }],
+        ..Hall::default()
+    };
     let desk = Caller(0);
 
     let mut saturday = open(&folder, &hall)?;

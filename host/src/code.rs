@@ -1,6 +1,6 @@
 //! The calls by name and code: the one table of them. tools/script.py reads it here, and a test compares monitor.h with it.
 
-use crate::layout::{BLOCK_BYTES, MESSAGE_BYTES, STATUS_BYTES, TEXT_BYTES};
+use crate::layout::{BLOCK_BYTES, IDENTITY_BYTES, MESSAGE_BYTES, STATUS_BYTES, TEXT_BYTES};
 use std::fmt;
 
 macro_rules! codes {
@@ -58,6 +58,7 @@ codes! {
     Access = 18, "access", "Designator. Gives an access.";
     Remap = 19, "remap", "Incoming designator, first page, outgoing designator; 16 is none.";
     PageAccess = 20, "page-access", "Page. Gives an access.";
+    Regrade = 21, "regrade", "Descriptor, cell, bits; a buffer of 4 bytes: owner and group. Gives a file seid.";
 }
 
 impl Code {
@@ -73,6 +74,7 @@ impl Code {
             Code::Post => Some(TEXT_BYTES),
             Code::Receive => Some(MESSAGE_BYTES),
             Code::Status => Some(STATUS_BYTES),
+            Code::Regrade => Some(IDENTITY_BYTES),
             _ => None,
         }
     }

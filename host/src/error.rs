@@ -71,6 +71,7 @@ errors! {
     XinSgAldMap = 31, "the incoming segment is mapped already";
     XvrtMmCfl = 32, "its pages are used or pass the last one";
     XshSg = 33, "a sharable segment's bits are fixed";
+    XnoSPriv = 34, "only the guard cell may regrade";
 }
 
 impl Error {

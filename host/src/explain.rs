@@ -109,6 +109,7 @@ impl Display for Asked {
                 [false, false] => write!(f, "map designator {a} from page {b} on, with designator {c} out"),
             },
             Code::PageAccess => write!(f, "ask what page {a} is held to do"),
+            Code::Regrade => write!(f, "copy the file of descriptor {a} into cell {b}, {}", Rights(c)),
         }
     }
 }
@@ -132,7 +133,7 @@ impl Display for CameBack<'_> {
         }
         let object = Seid::from(first);
         match Code::of(self.code) {
-            Some(Code::Spawn) => write!(f, "{object}"),
+            Some(Code::Spawn | Code::Regrade) => write!(f, "{object}"),
             Some(Code::BuildSegment) => write!(f, "{object}, designator {second}"),
             Some(Code::Rendezvous) => write!(f, "designator {first}"),
             Some(Code::CreateFile) => write!(f, "{object}, descriptor {second}"),

@@ -1,5 +1,6 @@
 //! What a table is set up from.
 
+use crate::layout::header::GUARD;
 use crate::layout::{CELL_WORDS, HEADER_WORDS, MAX_BLOCKS, MAX_CELLS, MAX_SLOTS, store_bytes, table_words};
 use std::fmt;
 
@@ -68,6 +69,8 @@ pub struct Hall {
     pub cells: Vec<Cell>,
     /// B, the blocks of each file, 1 to 64.
     pub blocks: u32,
+    /// The guard cell, whose processes may regrade; without one nobody may.
+    pub guard: Option<u32>,
 }
 
 impl Hall {
@@ -84,8 +87,9 @@ impl Hall {
     /// large get no more room than the largest good ones: set-up refuses them.
     pub fn table(&self) -> Vec<u32> {
         let (processes, segments, files) = (self.sum(|c| c.processes), self.sum(|c| c.segments), self.sum(|c| c.files));
+        let guard = self.guard.map_or(0, |cell| cell.saturating_add(1));
         let mut table = vec![0; HEADER_WORDS];
-        table[..5].copy_from_slice(&[self.cells.len() as u32, processes, segments, files, self.blocks]);
+        table[..=GUARD].copy_from_slice(&[self.cells.len() as u32, processes, segments, files, self.blocks, guard]);
         for cell in &self.cells {
             let Level { security, integrity, compartments } = cell.level;
             table.extend([security.into(), integrity.into(), compartments]);

@@ -27,6 +27,8 @@ pub const TEXT_BYTES: usize = 12;
 pub const MESSAGE_BYTES: usize = 16;
 /// The bytes of a status.
 pub const STATUS_BYTES: usize = 16;
+/// The bytes of an owner and a group, as a regrade takes them.
+pub const IDENTITY_BYTES: usize = 4;
 
 /// The descriptors of a process, and as many designators.
 pub const ENTRIES: usize = 16;
@@ -68,6 +70,8 @@ pub mod header {
     pub const FILES: usize = 3;
     /// B, the blocks of each file.
     pub const BLOCKS: usize = 4;
+    /// 0, or the guard cell, and 1.
+    pub const GUARD: usize = 5;
 }
 
 /// Words of a cell, from its first.

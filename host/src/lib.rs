@@ -11,7 +11,7 @@
 //!
 //! // One cell with two process slots, no segments, one file of one block. Its first process is in slot 0.
 //! let cell = Cell { level: Level::new(1, 0, 0), processes: 2, files: 1, ..Cell::default() };
-//! let mut monitor = Monitor::set_up(&Hall { blocks: 1, cells: vec![cell] })?;
+//! let mut monitor = Monitor::set_up(&Hall { blocks: 1, cells: vec![cell], ..Hall::default() })?;
 //! let desk = Caller(0);
 //!
 //! let (file, descriptor) = monitor.create_file(desk, Bits(0o644), Modes::ReadWrite)?;
@@ -27,7 +27,8 @@
 //! ```
 //! use monitor::{Cell, Code, Error, Hall};
 //!
-//! let hall = Hall { blocks: 1, cells: vec![Cell { processes: 1, files: 1, ..Cell::default() }] };
+//! let cell = Cell { processes: 1, files: 1, ..Cell::default() };
+//! let hall = Hall { blocks: 1, cells: vec![cell], ..Hall::default() };
 //! let (mut table, mut store) = (hall.table(), hall.store());
 //! monitor::setup(&mut table, store.len())?;
 //! let create = Code::CreateFile.number();
@@ -43,7 +44,7 @@
 //! ```
 //! use monitor::{Bits, Caller, Cell, Code, Error, Hall, Modes, Monitor, Record};
 //!
-//! let mut monitor = Monitor::set_up(&Hall { blocks: 1, cells: vec![Cell { processes: 1, files: 1, ..Cell::default() }] })?;
+//! let mut monitor = Monitor::set_up(&Hall { blocks: 1, cells: vec![Cell { processes: 1, files: 1, ..Cell::default() }], ..Hall::default() })?;
 //! let ask = |code: Code, a, b, offset, length| Record { code: code.number(), a, b, offset, length, ..Record::default() };
 //! let mut night = [
 //!     ask(Code::CreateFile, 0o644, 3, 0, 0),

@@ -3,7 +3,7 @@
 use crate::code::Code;
 use crate::error::Error;
 use crate::hall::Hall;
-use crate::layout::{BLOCK_BYTES, ENTRIES, MESSAGE_BYTES, STATUS_BYTES, TEXT_BYTES};
+use crate::layout::{BLOCK_BYTES, ENTRIES, IDENTITY_BYTES, MESSAGE_BYTES, STATUS_BYTES, TEXT_BYTES};
 use crate::raw::{self, Answer, Record};
 use crate::rights::{Access, Bits, Modes};
 use crate::seid::Seid;
@@ -32,7 +32,7 @@ pub struct Page(pub u32);
 /// use monitor::{Bits, Caller, Cell, Error, Hall, Level, Modes, Monitor};
 ///
 /// let cell = |security| Cell { level: Level::new(security, 0, 0), processes: 2, files: 1, ..Cell::default() };
-/// let hall = Hall { blocks: 1, cells: vec![cell(1), cell(3)] };
+/// let hall = Hall { blocks: 1, cells: vec![cell(1), cell(3)], ..Hall::default() };
 /// let mut monitor = Monitor::set_up(&hall)?;
 /// let [desk, auditor] = [0, 1].map(|cell| Caller(hall.first_process(cell)));
 ///
@@ -126,7 +126,7 @@ impl Monitor {
     /// ```
     /// use monitor::{Cell, Error, Hall, Monitor};
     ///
-    /// let hall = Hall { blocks: 1, cells: vec![Cell { processes: 1, files: 1, ..Cell::default() }] };
+    /// let hall = Hall { blocks: 1, cells: vec![Cell { processes: 1, files: 1, ..Cell::default() }], ..Hall::default() };
     /// let evening = Monitor::set_up(&hall)?;
     /// let mut image = evening.image()?;
     /// let mut morning = Monitor::set_up(&hall)?;
@@ -312,6 +312,24 @@ impl Monitor {
         let (designator, page) = incoming.map_or((NONE, 0), |(designator, page)| (designator.0, page.0));
         self.ask(caller, Code::Remap, designator, page, outgoing.map_or(NONE, |designator| designator.0))?;
         Ok(())
+    }
+
+    /// Copies a file that the caller has open for reading into a new file of a cell, any one, with these bits, owner and group: only
+    /// a process of the guard cell may ([`Hall::guard`]). The copy is linked once, and nobody has it open.
+    pub fn regrade(
+        &mut self,
+        caller: Caller,
+        descriptor: Descriptor,
+        cell: u32,
+        bits: Bits,
+        owner: u16,
+        group: u16,
+    ) -> Result<Seid, Error> {
+        let mut identity = [0; IDENTITY_BYTES];
+        identity[..2].copy_from_slice(&owner.to_be_bytes());
+        identity[2..].copy_from_slice(&group.to_be_bytes());
+        let (seid, _) = self.ask_with(caller, Code::Regrade, [descriptor.0, cell, bits.0.into()], &mut identity)?;
+        Ok(seid.into())
     }
 
     /// What the caller may do today with the segment that is mapped at a page.

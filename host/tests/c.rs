@@ -130,6 +130,8 @@ fn the_header_says_what_the_crate_says() {
         ("TEXT_BYTES", TEXT_BYTES),
         ("MESSAGE_BYTES", MESSAGE_BYTES),
         ("STATUS_BYTES", STATUS_BYTES),
+        ("IDENTITY_BYTES", IDENTITY_BYTES),
+        ("HEADER_GUARD", header::GUARD),
         ("PAGES", PAGES),
         ("PAGE_BYTES", PAGE_BYTES),
         ("CLASS_PROCESS", class(Kind::Process)),

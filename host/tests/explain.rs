@@ -12,7 +12,7 @@ const MESSAGE: [u8; 16] = *b"\x04\x03\x00\x07all is quiet";
 /// Code, arguments, results, buffer; what was asked, what came back.
 type Made = (Code, [u32; 3], [u32; 2], &'static [u8], &'static str, &'static str);
 
-const MADE: [Made; 20] = [
+const MADE: [Made; 21] = [
     (
         Code::Spawn,
         [10, 20, 0o620],
@@ -61,6 +61,14 @@ const MADE: [Made; 20] = [
     (Code::Access, [3, 0, 0], [128, 0], &[], "ask what designator 3 is held to do", "to write"),
     (Code::Remap, [3, 5, 16], [0, 0], &[], "map designator 3 from page 5 on", "done"),
     (Code::PageAccess, [5, 0, 0], [384, 0], &[], "ask what page 5 is held to do", "to read and write"),
+    (
+        Code::Regrade,
+        [2, 0, 0o640],
+        [FILE, 0],
+        &[0, 10, 0, 20],
+        "copy the file of descriptor 2 into cell 0, rw-r-----",
+        "file 0 (use 1)",
+    ),
 ];
 
 #[test]

@@ -18,7 +18,7 @@ fn archive_and_plain_agree_on_images() {
 #[test]
 fn history_is_taken_back() {
     let cell = Cell { processes: 1, files: 2, ..Cell::default() };
-    let mut monitor = Monitor::set_up(&Hall { blocks: 1, cells: vec![cell] }).unwrap();
+    let mut monitor = Monitor::set_up(&Hall { blocks: 1, cells: vec![cell], ..Hall::default() }).unwrap();
     let evening = monitor.image().unwrap();
     let create = |monitor: &mut Monitor| monitor.create_file(Caller(0), Bits(0o600), Modes::ReadWrite).unwrap();
     let first = create(&mut monitor);

@@ -21,7 +21,8 @@ fn lengths() {
     for (cells, processes, segments, files, blocks) in
         [(1, 1, 0, 0, 1), (1, 2, 0, 0, 1), (1, 1, 1, 0, 1), (1, 1, 0, 1, 1), (1, 1, 0, 1, 2), (3, 9, 5, 7, 4)]
     {
-        let mut hall = Hall { blocks, cells: (1..cells).map(|security| cell(security, 1, 0, 0)).collect() };
+        let mut hall =
+            Hall { blocks, cells: (1..cells).map(|security| cell(security, 1, 0, 0)).collect(), ..Hall::default() };
         hall.cells.push(cell(0, processes - hall.cells.len() as u32, segments, files));
         let words = table_words(cells.into(), processes as usize, segments as usize, files as usize);
         let bytes = store_bytes(files as usize, blocks as usize);
@@ -35,8 +36,8 @@ fn lengths() {
 #[test]
 fn limits() {
     let one = |processes: usize, segments: usize, files: usize, blocks: usize| {
-        let hall =
-            Hall { blocks: blocks as u32, cells: vec![cell(0, processes as u32, segments as u32, files as u32)] };
+        let cells = vec![cell(0, processes as u32, segments as u32, files as u32)];
+        let hall = Hall { blocks: blocks as u32, cells, ..Hall::default() };
         taken(&hall, table_words(1, processes, segments, files), store_bytes(files, blocks))
     };
     assert!(one(MAX_SLOTS, MAX_SLOTS, MAX_SLOTS, MAX_BLOCKS));
@@ -46,15 +47,20 @@ fn limits() {
     let cells = |count: usize| {
         let level = |at: usize| Level::new(0, 0, at as u32);
         let cells = (0..count).map(|at| Cell { level: level(at), processes: 1, ..Cell::default() }).collect();
-        taken(&Hall { blocks: 1, cells }, table_words(count, count, 0, 0), 0)
+        taken(&Hall { blocks: 1, cells, ..Hall::default() }, table_words(count, count, 0, 0), 0)
     };
     assert!(cells(MAX_CELLS) && !cells(MAX_CELLS + 1) && !cells(0));
+    let guard = |cell_of_two: u32| {
+        let cells = vec![cell(0, 1, 0, 0), cell(1, 1, 0, 0)];
+        taken(&Hall { blocks: 1, cells, guard: Some(cell_of_two) }, table_words(2, 2, 0, 0), 0)
+    };
+    assert!(guard(0) && guard(1) && !guard(2) && !guard(u32::MAX));
 }
 
 /// A hall that is too large is refused, and takes no more memory than the largest.
 #[test]
 fn too_large() {
-    let hall = Hall { blocks: u32::MAX, cells: vec![cell(0, u32::MAX, u32::MAX, u32::MAX); 3] };
+    let hall = Hall { blocks: u32::MAX, cells: vec![cell(0, u32::MAX, u32::MAX, u32::MAX); 3], guard: Some(u32::MAX) };
     assert!(hall.table().len() <= table_words(3, MAX_SLOTS, MAX_SLOTS, MAX_SLOTS));
     assert_eq!(hall.store().len(), store_bytes(MAX_SLOTS, MAX_BLOCKS));
     let (mut table, store) = (hall.table(), hall.store());
@@ -94,6 +100,7 @@ fn places() {
             Cell { owner: 7, group: 8, ..cell(1, 3, 3, 3) },
             Cell { level: Level::new(3, 0, 0xf0), processes: 3, segments: 3, files: 3, owner: 9, group: 10 },
         ],
+        guard: Some(0),
     };
     let mut look = Look { table: hall.table(), store: hall.store() };
     let records = table_words(2, 0, 0, 0);
@@ -103,7 +110,7 @@ fn places() {
     // What set-up read: had a word stood elsewhere, it would have been refused, or the records would stand elsewhere.
     assert_eq!(look.table[header::CELLS], 2);
     assert_eq!([header::PROCESSES, header::SEGMENTS, header::FILES].map(|word| look.table[word]), [6; 3]);
-    assert_eq!(look.table[header::BLOCKS], 2);
+    assert_eq!((look.table[header::BLOCKS], look.table[header::GUARD]), (2, 1));
     let upper = look.table[HEADER_WORDS + CELL_WORDS..records].to_vec();
     assert_eq!(
         [layout::cell::SECURITY, layout::cell::INTEGRITY, layout::cell::COMPARTMENTS].map(|w| upper[w]),
@@ -159,6 +166,14 @@ fn places() {
     assert_eq!(holder[process::DESIGNATORS..][..2], [segment, 384]);
     assert_eq!(holder[process::DESCRIPTORS + ENTRY_WORDS * again as usize..][..2], [file, 1]);
     assert_eq!(look.store[BLOCK_BYTES..2 * BLOCK_BYTES], [5; BLOCK_BYTES]);
+
+    // A copy in the other cell, by the guard word that set-up read.
+    let copy = look.call(0, Code::Regrade, [0, 1, 0o640], &mut [1, 2, 3, 4]).0;
+    assert_eq!(copy, Seid::new(Kind::File, 3, 1).into());
+    assert_eq!(head(&look, Kind::File, 3), [1, 1, 0x0102, 0x0304]);
+    let words = look.record(Kind::File, 3);
+    assert_eq!([file::BITS, file::LINKS, file::SIZE, file::OPENS].map(|w| words[w]), [0o640, 1, 2, 0]);
+    assert_eq!(look.store[7 * BLOCK_BYTES..8 * BLOCK_BYTES], [5; BLOCK_BYTES]);
 
     // The map: the segment of 1,024 bytes takes one page; one byte more than a page would take two.
     look.call(0, Code::Remap, [0, PAGES as u32 - 1, ENTRIES as u32], &mut []);

@@ -12,6 +12,7 @@ const TABLE: &str = "
 | 24 XbadLink | 25 XodSpace | 26 XnoSpace | 27 XnoProc |
 | 28 XpostEh | 29 XbNoMes | | |
 | 30 XoutSgAldUmp | 31 XinSgAldMap | 32 XvrtMmCfl | 33 XshSg |
+| 34 XnoSPriv | | | |
 ";
 
 #[test]

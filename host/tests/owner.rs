@@ -75,6 +75,10 @@ fn typed(monitor: &mut Monitor, call: &Call, buffer: &mut [u8]) -> Option<Number
             none(monitor.remap(by, held(a).map(|designator| (designator, Page(b))), held(c)))
         }
         Code::PageAccess => monitor.page_access(by, Page(a)).map(|access| (access.number(), 0)),
+        Code::Regrade => {
+            let [owner, group] = [0, 2].map(|at| u16::from_be_bytes([buffer[at], buffer[at + 1]]));
+            monitor.regrade(by, descriptor, b, bits(c)?, owner, group).map(|seid| (seid.into(), 0))
+        }
     })
 }
 
@@ -156,7 +160,8 @@ fn parts() {
 #[test]
 fn errors_and_threads() {
     fn run() -> Result<(), Box<dyn std::error::Error + Send + Sync>> {
-        let hall = monitor::Hall { blocks: 1, cells: vec![monitor::Cell { processes: 1, ..monitor::Cell::default() }] };
+        let cell = monitor::Cell { processes: 1, ..monitor::Cell::default() };
+        let hall = monitor::Hall { blocks: 1, cells: vec![cell], ..monitor::Hall::default() };
         let mut monitor = Monitor::set_up(&hall)?;
         let thread = std::thread::spawn(move || monitor.create_file(Caller(0), Bits(0o600), Modes::Read));
         thread.join().expect("the thread ends")?;

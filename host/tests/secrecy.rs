@@ -15,3 +15,15 @@ fn nothing_flows_down() {
     println!("{met:#?}");
     met.assert_complete();
 }
+
+/// Where the premise of regrades is broken, an observer is told: it is needed.
+#[test]
+fn the_premise_of_regrades_is_needed() {
+    let mut rng = Rng::for_trial("the_premise_of_regrades_is_needed", 18);
+    let mut told = secrecy::Told::default();
+    for _ in 0..3 * trial::setting("TRIAL_RUNS", 4_000) {
+        secrecy::broken_premise(&Archive, &mut rng, tables::MIDDLE, &mut told);
+    }
+    println!("{told:#?}");
+    told.assert_complete();
+}

@@ -1,6 +1,6 @@
 -- What the block calls find, copy and write, in the rules' terms.
 use mathlib.Core.Path.{_≡_, refl, sym, ap, _∙_}
-use mathlib.Core.Bool.{Bool, true, false, not}
+use mathlib.Core.Bool.{Bool, true, false, cond, not}
 use mathlib.Core.List.{List, [], _∷_, _++_}
 use Prim.Native.Nat.{ℕ, suc, _+_, _*_, _-_, _≤_, _<_, _^_, max}
 use native.Mathlib.Omega.{arith}
@@ -12,7 +12,7 @@ use lib.Seq.{take-set-le, take-set-lt, drop-set-lt, drop-set-add, sets}
 use borrow.Author.Tests.{eqb-true, eqb-false, leb-false}
 use borrow.Rule.Slice.PartMut.{midOf, putMid, put-same}
 use Rattle.rules.specs.Words.{part}
-use Rattle.rules.specs.Layout.{blockBytes, process, file, configuration, blocks, storeBytes, Addr, at, live, entries, heldAt, usedAt, size}
+use Rattle.rules.specs.Layout.{blockBytes, process, file, configuration, slots, blocks, storeBytes, Addr, at, live, entries, heldAt, usedAt, size}
 use Rattle.rules.specs.Seid.{indexOf, formed, present}
 use Rattle.rules.specs.Modes.{reads, writes}
 use Rattle.rules.specs.Rights.{lacks}
@@ -32,7 +32,7 @@ use Rattle.calls.specs.declared.objects.Seen.{Seen}
 use Rattle.calls.specs.World.{Known, Sound, wordsOf}
 use Rattle.calls.specs.Seen.{namedOf, seenAs}
 use Rattle.calls.specs.Entries.{entryOf}
-use Rattle.calls.specs.Calls.{blockTests}
+use Rattle.calls.specs.Calls.{useTests}
 use Rattle.calls.specs.Refusing.{orRefuse, refusing}
 use Rattle.calls.specs.Left.{said, ruleAt}
 use Rattle.calls.specs.Blocks.{ReadLeft, WriteLeft}
@@ -73,16 +73,22 @@ stretch-written s d l₁ l₂ x n k size b e hs hb q₁ q₂ =
 pub part-length : (s : List ℕ) (i n : ℕ) → i + n ≤ length s → length (take n (drop i s)) ≡ n
 part-length s i n h = omega (arith, length-take n (drop i s), length-drop i s)
 
+-- the stretch of a file that the table has is within the store
+pub stretch-in : {t : List ℕ} {n : Header} → Known t n → {i : ℕ} → i < slots (configuration t) file → (m : ℕ) → m ≡ storeBytes (configuration t) → {v x : ℕ}
+    → x ≡ n .blocks → v ≡ i → v * (x * blockBytes) + x * blockBytes ≤ m
+stretch-in {t} known {i} l m long xe ve =
+    let span = blocks (configuration t) * blockBytes in
+    let k = mul-le-mul-right span l in
+    let s : suc i * span ≡ i * span + span = native.Mathlib.Nat.suc-mul i span in
+    rw (xe, ve, blocks-is known) (omega arith)
+
 -- ---- the refusals: entry d is read, its file is seen as f, and held says whether the entry has the mode
 
--- the tests of the code, and of the rules, with what follows them
-abbrev usedTests : ℕ → ℕ → ℕ → Bool → ℕ → Seen → Bool → Bool → ℕ → ℕ → List Refusal → List Refusal
-usedTests bytes a s held number f read write blocks b rest = (not (eqb bytes blockBytes) ⇒ XbSz) ∷ blockTests a s held number f read write blocks b ++ rest
-
-abbrev ruleTests : List ℕ → (Addr → ℕ) → ℕ → ℕ → ℕ → ℕ → Bool → ℕ → Bool → Bool → ℕ → List Refusal → List Refusal
-ruleTests h r p bytes a s held number read write b rest =
-    (not (eqb bytes blockBytes) ⇒ XbSz) ∷ (leb entries a ⇒ XbadOd) ∷ (eqb s 0 ⇒ XbadOd) ∷ (not held ⇒ number) ∷ (stale r file s ⇒ XnoObj)
-    ∷ (lacks (rightsAt r p file (indexOf s)) read write ⇒ XdapViol) ∷ (leb (blocks h) b ⇒ XbadBlockNo) ∷ rest
+-- the rules' tests of the entry, with what follows them
+abbrev pub ruleTests : (Addr → ℕ) → ℕ → ℕ → ℕ → Bool → ℕ → Bool → Bool → List Refusal → List Refusal
+ruleTests r p a s held number read write rest =
+    (leb entries a ⇒ XbadOd) ∷ (eqb s 0 ⇒ XbadOd) ∷ (not held ⇒ number) ∷ (stale r file s ⇒ XnoObj)
+    ∷ (lacks (rightsAt r p file (indexOf s)) read write ⇒ XdapViol) ∷ rest
 
 -- what the code has found of entry a and of its file, past all tests
 pub record Used (t : List ℕ) (n : Header) (c : Caller) (a : ℕ) (d : Entry) (f : Seen) (z : ℕ) : Type 0 where
@@ -92,50 +98,46 @@ pub record Used (t : List ℕ) (n : Header) (c : Caller) (a : ℕ) (d : Entry) (
   pub sized : z ≡ wordsOf t (at file (f .slot) size)
 
 module _ {t : List ℕ} {n : Header} {c : Caller} {a : ℕ} {d : Entry} {f : Seen} {z : ℕ} (u : Used t n c a d f z) where
-  held-is : d .held ≡ wordsOf t (at process (c .slot) (heldAt file a))
+  pub held-is : d .held ≡ wordsOf t (at process (c .slot) (heldAt file a))
   held-is = ap (λ (x : Entry). x .held) (u .entry)
 
-  used-is : d .used ≡ wordsOf t (at process (c .slot) (usedAt file a))
+  pub used-is : d .used ≡ wordsOf t (at process (c .slot) (usedAt file a))
   used-is = ap (λ (x : Entry). x .used) (u .entry)
 
   -- a filled entry holds a file's seid
-  form : leb entries a ≡ false → eqb (d .held) 0 ≡ false → formed (configuration t) file (d .held) ≡ true
+  pub form : leb entries a ≡ false → eqb (d .held) 0 ≡ false → formed (configuration t) file (d .held) ≡ true
   form l some =
       let e = descriptor (configuration t) (wordsOf t) (u .sound .records) (c .slot) a (u .sound .caller) (leb-false entries a l) in
       rw held-is (e .held (λ q. eqb-false (d .held) 0 some (held-is ∙ q)) .form)
 
   -- the code's number is the rules'; what follows may be known by the form
-  module _ (bytes : ℕ) (held : Bool) (number : ℕ) (read write : Bool) (b : ℕ) (xs ys : List Refusal)
+  module _ (held : Bool) (number : ℕ) (read write : Bool) (xs ys : List Refusal)
       (rest : formed (configuration t) file (d .held) ≡ true → firstRefusal xs ≡ firstRefusal ys) where
-    by-entry : (l some : Bool) → leb entries a ≡ l → eqb (d .held) 0 ≡ some → firstRefusal (usedTests bytes a (d .held) held number f read write (n .blocks) b xs)
-        ≡ firstRefusal (ruleTests (configuration t) (wordsOf t) (c .slot) bytes a (d .held) held number read write b ys)
+    by-entry : (l some : Bool) → leb entries a ≡ l → eqb (d .held) 0 ≡ some → firstRefusal (useTests a (d .held) held number f read write ++ xs)
+        ≡ firstRefusal (ruleTests (wordsOf t) (c .slot) a (d .held) held number read write ys)
     unfolding present
     by-entry true some l q = rw l
     by-entry false true l q = rw (l, q)
     by-entry false false l q =
         let formed-so = form l q in
-        rw (l, q, rest formed-so, blocks-is (u .sound .known), seen-formed (u .sound .known) (c .slot) file (d .held) (u .seen) formed-so)
+        rw (l, q, rest formed-so, seen-formed (u .sound .known) (c .slot) file (d .held) (u .seen) formed-so)
 
-    same-number : firstRefusal (usedTests bytes a (d .held) held number f read write (n .blocks) b xs)
-        ≡ firstRefusal (ruleTests (configuration t) (wordsOf t) (c .slot) bytes a (d .held) held number read write b ys)
+    pub same-number : firstRefusal (useTests a (d .held) held number f read write ++ xs)
+        ≡ firstRefusal (ruleTests (wordsOf t) (c .slot) a (d .held) held number read write ys)
     same-number = by-entry (leb entries a) (eqb (d .held) 0) refl refl
 
   pub stretch-fits : {x : ℕ} → x ≡ n .blocks → x * blockBytes < 2 ^ 64
   stretch-fits xe = omega (arith, xe, blocks-is (u .sound .known), shape (u .sound .known) .few-blocks)
 
   module _ (formed-so : formed (configuration t) file (d .held) ≡ true) where
-    at-slot : f .slot ≡ indexOf (d .held)
+    pub at-slot : f .slot ≡ indexOf (d .held)
     at-slot = slot-is (u .sound .known) (c .slot) file (d .held) (u .seen) formed-so
 
     -- the file's stretch is within the store, and its size within the stretch, also where the record is free
-    stretch-of : (m : ℕ) → m ≡ storeBytes (configuration t) → {v x : ℕ} → x ≡ n .blocks → v ≡ f .slot → v * (x * blockBytes) + x * blockBytes ≤ m
-    stretch-of m long xe ve =
-        let span = blocks (configuration t) * blockBytes in
-        let l = mul-le-mul-right span (slot-in (u .sound .known) (c .slot) file (d .held) (u .seen) formed-so) in
-        let s : suc (f .slot) * span ≡ f .slot * span + span = native.Mathlib.Nat.suc-mul (f .slot) span in
-        rw (xe, ve, blocks-is (u .sound .known)) (omega arith)
+    pub stretch-of : (m : ℕ) → m ≡ storeBytes (configuration t) → {v x : ℕ} → x ≡ n .blocks → v ≡ f .slot → v * (x * blockBytes) + x * blockBytes ≤ m
+    stretch-of m long xe ve = stretch-in (u .sound .known) (slot-in (u .sound .known) (c .slot) file (d .held) (u .seen) formed-so) m long xe ve
 
-    size-of : z ≤ blocks (configuration t)
+    pub size-of : z ≤ blocks (configuration t)
     size-of =
         let x = file-record (configuration t) (wordsOf t) (u .sound .records) (f .slot) (slot-in (u .sound .known) (c .slot) file (d .held) (u .seen) formed-so) in
         elim (ℕ-discrete (wordsOf t (at file (f .slot) live)) 1) [
@@ -146,33 +148,36 @@ module _ {t : List ℕ} {n : Header} {c : Caller} {a : ℕ} {d : Entry} {f : See
 -- ---- the two calls: e is the number that the code has found
 
 abbrev pub readTests : ℕ → ℕ → Entry → Seen → ℕ → ℕ → ℕ → List Refusal
-readTests bytes a d f z blocks b = usedTests bytes a (d .held) (reads (d .used)) XnotReadable f true false blocks b ((leb z b ⇒ XendOfFile) ∷ [])
+readTests bytes a d f z blocks b =
+    (not (eqb bytes blockBytes) ⇒ XbSz) ∷ useTests a (d .held) (reads (d .used)) XnotReadable f true false ++ (leb blocks b ⇒ XbadBlockNo) ∷ (leb z b ⇒ XendOfFile) ∷ []
 
 abbrev pub writeTests : ℕ → ℕ → Entry → Seen → ℕ → ℕ → List Refusal
-writeTests bytes a d f blocks b = usedTests bytes a (d .held) (writes (d .used)) XnotWritable f false true blocks b []
+writeTests bytes a d f blocks b =
+    (not (eqb bytes blockBytes) ⇒ XbSz) ∷ useTests a (d .held) (writes (d .used)) XnotWritable f false true ++ (leb blocks b ⇒ XbadBlockNo) ∷ []
 
 -- the slot, the block and the file's blocks as the code has them: v, y and x
 module _ {t : List ℕ} {n : Header} {c : Caller} {a : ℕ} {d : Entry} {f : Seen} {z : ℕ} (u : Used t n c a d f z) (st : List ℕ) (b : ℕ) (buf : List ℕ) {e : ℕ} where
-  pub read-told : {held : Bool} {e1 e2 : ℕ} → held ≡ reads (d .used) → e1 ≡ orRefuse 0 (not (eqb (length buf) blockBytes)) XbSz
-      → e2 ≡ refusing e1 (blockTests a (d .held) held XnotReadable f true false (n .blocks) b) → e ≡ orRefuse e2 (leb z b) XendOfFile
+  pub read-told : {held : Bool} {e1 e2 e3 : ℕ} → held ≡ reads (d .used) → e1 ≡ orRefuse 0 (not (eqb (length buf) blockBytes)) XbSz
+      → e2 ≡ refusing e1 (useTests a (d .held) held XnotReadable f true false) → e3 ≡ orRefuse e2 (leb (n .blocks) b) XbadBlockNo → e ≡ orRefuse e3 (leb z b) XendOfFile
       → e ≡ firstRefusal (readTests (length buf) a d f z (n .blocks) b)
-  read-told held long tests end = rw (end, tests, held, long) (refusing-first (readTests (length buf) a d f z (n .blocks) b) refl)
+  read-told held long tests block end = rw (end, block, tests, held, long) (refusing-first (readTests (length buf) a d f z (n .blocks) b) refl)
 
-  pub write-told : {held : Bool} {e1 : ℕ} → held ≡ writes (d .used) → e1 ≡ orRefuse 0 (not (eqb (length buf) blockBytes)) XbSz
-      → e ≡ refusing e1 (blockTests a (d .held) held XnotWritable f false true (n .blocks) b) → e ≡ firstRefusal (writeTests (length buf) a d f (n .blocks) b)
-  write-told held long tests = rw (tests, held, long) (refusing-first (writeTests (length buf) a d f (n .blocks) b) refl)
+  pub write-told : {held : Bool} {e1 e2 : ℕ} → held ≡ writes (d .used) → e1 ≡ orRefuse 0 (not (eqb (length buf) blockBytes)) XbSz
+      → e2 ≡ refusing e1 (useTests a (d .held) held XnotWritable f false true) → e ≡ orRefuse e2 (leb (n .blocks) b) XbadBlockNo
+      → e ≡ firstRefusal (writeTests (length buf) a d f (n .blocks) b)
+  write-told held long tests block = rw (block, tests, held, long) (refusing-first (writeTests (length buf) a d f (n .blocks) b) refl)
 
   module _ (told : e ≡ firstRefusal (readTests (length buf) a d f z (n .blocks) b)) where
-    size-test : formed (configuration t) file (d .held) ≡ true
-        → firstRefusal ((leb z b ⇒ XendOfFile) ∷ []) ≡ firstRefusal ((leb (wordsOf t (at file (indexOf (d .held)) size)) b ⇒ XendOfFile) ∷ [])
-    size-test g = rw (u .sized, at-slot u g)
+    block-test : formed (configuration t) file (d .held) ≡ true → firstRefusal ((leb (n .blocks) b ⇒ XbadBlockNo) ∷ (leb z b ⇒ XendOfFile) ∷ [])
+        ≡ firstRefusal ((leb (blocks (configuration t)) b ⇒ XbadBlockNo) ∷ (leb (wordsOf t (at file (indexOf (d .held)) size)) b ⇒ XendOfFile) ∷ [])
+    block-test g = rw (blocks-is (u .sound .known), u .sized, at-slot u g)
 
     pub read-number : e ≡ firstRefusal (ruleAt t (λ h q. readBlock h q st (c .slot) a b buf) .refusals)
     unfolding readBlock
     read-number =
         told
-        ∙ same-number u (length buf) (reads (d .used)) XnotReadable true false b ((leb z b ⇒ XendOfFile) ∷ [])
-        ((leb (wordsOf t (at file (indexOf (d .held)) size)) b ⇒ XendOfFile) ∷ []) size-test
+        ∙ ap (cond (not (eqb (length buf) blockBytes)) XbSz) (same-number u (reads (d .used)) XnotReadable true false ((leb (n .blocks) b ⇒ XbadBlockNo) ∷ (leb z b ⇒ XendOfFile) ∷ [])
+        ((leb (blocks (configuration t)) b ⇒ XbadBlockNo) ∷ (leb (wordsOf t (at file (indexOf (d .held)) size)) b ⇒ XendOfFile) ∷ []) block-test)
         ∙ rw (held-is u, used-is u)
 
     module _ (none : e ≡ 0) where
@@ -198,7 +203,11 @@ module _ {t : List ℕ} {n : Header} {c : Caller} {a : ℕ} {d : Entry} {f : See
   module _ (told : e ≡ firstRefusal (writeTests (length buf) a d f (n .blocks) b)) where
     pub write-number : e ≡ firstRefusal (ruleAt t (λ h q. writeBlock h q (c .slot) a b buf) .refusals)
     unfolding writeBlock
-    write-number = told ∙ same-number u (length buf) (writes (d .used)) XnotWritable false true b [] [] (λ _. refl) ∙ rw (held-is u, used-is u)
+    write-number =
+        told
+        ∙ ap (cond (not (eqb (length buf) blockBytes)) XbSz) (same-number u (writes (d .used)) XnotWritable false true ((leb (n .blocks) b ⇒ XbadBlockNo) ∷ [])
+        ((leb (blocks (configuration t)) b ⇒ XbadBlockNo) ∷ []) (λ _. rw (blocks-is (u .sound .known))))
+        ∙ rw (held-is u, used-is u)
 
     module _ (none : e ≡ 0) where
       write-clear : Clear (writeTests (length buf) a d f (n .blocks) b)

@@ -31,11 +31,13 @@ use Rattle.rules.specs.Call17.{status}
 use Rattle.rules.specs.Call18.{accessOf}
 use Rattle.rules.specs.Call19.{remap}
 use Rattle.rules.specs.Call20.{pageAccess}
-use Rattle.rules.specs.Step.{ruleOf, badCaller, badCode, carriedOut, wholeRule, step}
+use Rattle.rules.specs.Call21.{regrade}
+use Rattle.rules.specs.Step.{regradeCode, ruleOf, badCaller, badCode, carriedOut, wholeRule, step}
 use Rattle.laws.proofs.Tests.{split}
 use Rattle.calls.specs.declared.Answer.{Answer}
 use Rattle.calls.specs.Left.{said, ruleAt, answerOf, tableOf, storeOf, bufferOf, Left}
 use Rattle.calls.specs.Blocks.{ReadLeft, WriteLeft}
+use Rattle.calls.specs.Regrade.{RegradeLeft}
 use Rattle.calls.specs.Calls.{giveUpRule}
 use Rattle.calls.specs.Did.{stateOf, callOf, ruleAnswer, Did, Through, ruleIn, Plain}
 use Rattle.calls.proofs.Leaves.{left-same}
@@ -242,3 +244,9 @@ module _ (t s : List ℕ) (p code a b c : ℕ) (buffer : List ℕ) {r : Answer} 
       let k = status (configuration t) (rd (configuration t) t) p a buffer in
       through-by k (coded t s p a b c buffer e) (x .0) (table-plain (configuration t) t k (told-plain (configuration t) (rd (configuration t) t) p a buffer .0))
       (store-plain (configuration t) s k (told-plain (configuration t) (rd (configuration t) t) p a buffer .1)) (x .1)
+
+  pub through-21 : {t′ s′ : List ℕ} → code ≡ regradeCode → RegradeLeft t s p a b c buffer r t′ s′ → Through t s buffer (ruleIn t s p code a b c buffer) r t′ s′ buffer
+  unfolding ruleOf
+  through-21 e x =
+      let k = regrade (configuration t) (rd (configuration t) t) s p a b c buffer in
+      through-by k (coded t s p a b c buffer e) (x .left .answer) (x .left .table) (x .store) (x .buffer)

@@ -191,16 +191,16 @@ module _ {t : List ℕ} {n : Header} {c : Caller} (sound : Sound t n c) (a b : �
     unfolding create
     create-seid = new-seid sound file slot (create-room none) xe se ∙ rw (slot, sound .home)
 
-    pub create-words : {o place : ℕ} {t₁ t₂ : List ℕ} → o ≡ recordOf n file (f .index) → t₁ ≡ madeAt t o (x + 1) u g a 0 0
+    pub create-words : {o place : ℕ} {t₁ t₂ : List ℕ} → o ≡ recordOf n file (f .index) → t₁ ≡ madeAt t o (x + 1) u g a 0 0 1
         → place ≡ recordOf n process (c .slot) + heldAt file d → t₂ ≡ set (set t₁ place s) (place + 1) b
         → t₂ ≡ write (configuration t) t (ruleAt t (λ h q. create h q (c .slot) a b buffer) .effects .words)
     unfolding create
     create-words oe e₁ pe e₂ =
         e₂
         ∙ rw (e₁, oe, pe, begins (sound .known) file (f .index), spot (sound .known) (at process (c .slot) (heldAt file d)), new-seid sound file slot (create-room none) xe se, xe, ue, ge)
-        (sym (made-is (configuration t) t file (f .index) (wordsOf t (at file (f .index) serial) + 1) (wordsOf t (at process (c .slot) owner)) (wordsOf t (at process (c .slot) group)) a 0 0
+        (sym (made-is (configuration t) t file (f .index) (wordsOf t (at file (f .index) serial) + 1) (wordsOf t (at process (c .slot) owner)) (wordsOf t (at process (c .slot) group)) a 0 0 1
         (entered file (c .slot) d (seid (class file) (f .index) (wordsOf t (at file (f .index) serial) + 1)) b)
-        ∙ entered-is (configuration t) (madeAt t (offset (configuration t) (at file (f .index) 0)) (wordsOf t (at file (f .index) serial) + 1) (wordsOf t (at process (c .slot) owner)) (wordsOf t (at process (c .slot) group)) a 0 0) file (c .slot) d (seid (class file) (f .index) (wordsOf t (at file (f .index) serial) + 1)) b [] refl)
+        ∙ entered-is (configuration t) (madeAt t (offset (configuration t) (at file (f .index) 0)) (wordsOf t (at file (f .index) serial) + 1) (wordsOf t (at process (c .slot) owner)) (wordsOf t (at process (c .slot) group)) a 0 0 1) file (c .slot) d (seid (class file) (f .index) (wordsOf t (at file (f .index) serial) + 1)) b [] refl)
         ∙ rw (slot, entry, sound .home))
 
 -- ---- 8: open. The search for a clash: x is entry d of process p

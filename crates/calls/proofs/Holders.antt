@@ -46,11 +46,11 @@ module _ {t : List ℕ} {n : Header} {c : Caller} (sound : Sound t n c) where
 -- ---- what is written
 
 -- a new object's record
-pub made-is : (h t : List ℕ) (k : Kind) (i s u g b x y : ℕ) (ws : List Word)
-    → write h t ((at k i live ≔ 1) ∷ (at k i serial ≔ s) ∷ (at k i owner ≔ u) ∷ (at k i group ≔ g) ∷ (at k i 4 ≔ b) ∷ (at k i 5 ≔ x) ∷ (at k i 6 ≔ y) ∷ (at k i 7 ≔ 1) ∷ ws)
-    ≡ write h (madeAt t (offset h (at k i 0)) s u g b x y) ws
+pub made-is : (h t : List ℕ) (k : Kind) (i s u g b x y z : ℕ) (ws : List Word)
+    → write h t ((at k i live ≔ 1) ∷ (at k i serial ≔ s) ∷ (at k i owner ≔ u) ∷ (at k i group ≔ g) ∷ (at k i 4 ≔ b) ∷ (at k i 5 ≔ x) ∷ (at k i 6 ≔ y) ∷ (at k i 7 ≔ z) ∷ ws)
+    ≡ write h (madeAt t (offset h (at k i 0)) s u g b x y z) ws
 unfolding madeAt fourAt
-made-is h t k i s u g b x y ws =
+made-is h t k i s u g b x y z ws =
     let five : offset h (at k i 5) ≡ offset h (at k i 0) + 4 + 1 = omega arith in
     let six : offset h (at k i 6) ≡ offset h (at k i 0) + 4 + 2 = omega arith in
     let seven : offset h (at k i 7) ≡ offset h (at k i 0) + 4 + 3 = omega arith in

@@ -16,6 +16,7 @@ pub mod Queues
 pub mod Posts
 pub mod Statuses
 pub mod BlocksLaws
+pub mod RegradeLaws
 pub mod Codes
 pub mod Whole
 pub mod Link

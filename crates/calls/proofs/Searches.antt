@@ -156,10 +156,18 @@ class-small process = omega arith
 class-small segment = omega arith
 class-small file = omega arith
 
+-- in any cell
+pub taken-in : {t : List ℕ} {n : Header} → Known t n → (k : Kind) (b : ℕ) {x : Slot} → b < cells (configuration t) → x ≡ slotFound (configuration t) (wordsOf t) k b
+    → x .none ≡ false → FreeSlot (configuration t) (wordsOf t) k b (x .index)
+taken-in {t} known k b l found room = rw found (free-slot (configuration t) (wordsOf t) (shape known) b l k (rw found at room))
+
+pub seid-made : (k : Kind) {i z s : ℕ} → i < maxSlots → z < maxSerial → s ≡ seidOf (class k) i (z + 1) → s ≡ seid (class k) i (z + 1)
+seid-made k {i} {z} l m se = se ∙ seid-fits (class k) i (z + 1) (class-small k) l (omega arith)
+
+-- in the caller's
 module _ {t : List ℕ} {n : Header} {c : Caller} (sound : Sound t n c) (k : Kind) {x : Slot} (found : x ≡ slotFound (configuration t) (wordsOf t) k (c .cell)) (room : x .none ≡ false) where
   pub taken : FreeSlot (configuration t) (wordsOf t) k (c .cell) (x .index)
-  taken =
-      rw found (free-slot (configuration t) (wordsOf t) (shape (sound .known)) (c .cell) (omega (arith, home-in sound, cells-is (sound .known))) k (rw found at room))
+  taken = taken-in (sound .known) k (c .cell) (omega (arith, home-in sound, cells-is (sound .known))) found room
 
   pub serial-rises : {z : ℕ} → z ≡ wordsOf t (at k (x .index) serial) → z < maxSerial
   serial-rises ze = omega (arith, ze, taken .not-worn)
@@ -167,8 +175,8 @@ module _ {t : List ℕ} {n : Header} {c : Caller} (sound : Sound t n c) (k : Kin
   pub new-seid : {z s : ℕ} → z ≡ wordsOf t (at k (x .index) serial) → s ≡ seidOf (class k) (x .index) (z + 1)
       → s ≡ seid (class k) (x .index) (wordsOf t (at k (x .index) serial) + 1)
   new-seid {z} ze se =
-      let i : x .index < 256 = omega (arith, taken .in-range, shape (sound .known) .few k) in
-      se ∙ seid-fits (class k) (x .index) (z + 1) (class-small k) i (omega (arith, serial-rises ze)) ∙ rw ze
+      let i : x .index < maxSlots = omega (arith, taken .in-range, shape (sound .known) .few k) in
+      seid-made k i (serial-rises ze) se ∙ rw ze
 
 -- the run of the caller's cell is within the table
 pub run-slots : {t : List ℕ} {n : Header} {c : Caller} → Sound t n c → (kind : Kind) {k from m : ℕ} → k ≡ cellSlotsWord kind → from ≡ firstBy (configuration t) k (c .cell)

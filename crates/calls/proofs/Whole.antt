@@ -8,13 +8,13 @@ use lib.Dec.{ltb, leb, eqb}
 use lib.ListN.{length, getD}
 use borrow.Author.Tests.{leb-false, ltb-false, eqb-false}
 use Rattle.rules.specs.Claim.{Holds, test, _&_}
-use Rattle.rules.specs.Layout.{process, segment, file, cells, blocks, configuration, slots, cellOf, flowMatrix, storeBytes, at, live}
+use Rattle.rules.specs.Layout.{process, segment, file, cells, blocks, guard, configuration, slots, cellOf, flowMatrix, storeBytes, at, live}
 use Rattle.rules.specs.WellFormed.{wellFormed, lengthsExact, configured}
 use Rattle.rules.specs.SetUp.{canSetUp}
 use Rattle.rules.specs.Step.{badCaller, badCode, lastCode, step}
 use Rattle.laws.proofs.Tests.{or-left, or-right, and-left, and-both, and-right}
 use Rattle.laws.proofs.Claims.{holds}
-use Rattle.laws.proofs.Places.{conf-cells, conf-slots, conf-blocks}
+use Rattle.laws.proofs.Places.{conf-word, conf-cells, conf-slots, conf-blocks}
 use Rattle.layout.specs.declared.Header.{Header}
 use Rattle.layout.specs.Header.{headerOf}
 use Rattle.calls.specs.declared.Caller.{Caller}
@@ -27,12 +27,14 @@ use Rattle.calls.proofs.Codes.{bad-table, bad-caller, bad-code, done}
 
 -- the header's words are the configuration's
 pub header-conf : (t : List ℕ) → headerOf t ≡ headerOf (configuration t)
+unfolding guard
 header-conf t = λ i. record {
   cells = sym (conf-cells t) i;
   processes = sym (conf-slots t process) i;
   segments = sym (conf-slots t segment) i;
   files = sym (conf-slots t file) i;
   blocks = sym (conf-blocks t) i;
+  guard = sym (conf-word t 5 (omega arith)) i;
 }
 
 -- a well-formed table can be set up
@@ -96,7 +98,7 @@ pub no-table : (t s : List ℕ) (p code a b c : ℕ) (buffer : List ℕ) {x : Bo
     → Did (step (stateOf t s) (callOf p code a b c buffer)) r t s buffer
 no-table t s p code a b c buffer xe f re = bad-table t s p code a b c buffer (sym xe ∙ f) re
 
--- a good code is 1 to 20
+-- a good code is 1 to 21
 pub good-code : (code : ℕ) {z : Bool} → z ≡ badCode code → z ≡ false → (1 ≤ code) × (code ≤ lastCode)
 unfolding badCode
 good-code code e f =

@@ -9,7 +9,7 @@ use lib.Dec.{ltb, eqb}
 use lib.ListN.{getD}
 use borrow.Author.Tests.{lt-ltb, le-ltb, eq-eqb, ne-eqb}
 use Rattle.rules.specs.Words.{sumBelow}
-use Rattle.rules.specs.Layout.{maxSlots, maxSerial, Kind, process, segment, file, headerWords, cellWords, recordWords, cells, slots, slotsWord, blocks, cellWord, cellSlotsWord, configuration, firstSlot, cellOf, Addr, at, base, offset, rd, live}
+use Rattle.rules.specs.Layout.{maxSlots, maxSerial, Kind, process, segment, file, headerWords, cellWords, recordWords, cells, slots, slotsWord, blocks, guard, cellWord, cellSlotsWord, configuration, firstSlot, cellOf, Addr, at, base, offset, rd, live}
 use Rattle.laws.proofs.Below.{sum-more, sum-grows}
 use Rattle.laws.proofs.Search.{lowest-is, lowest-none}
 use Rattle.laws.proofs.Places.{conf-cells, conf-slots, conf-blocks, conf-cell}
@@ -42,6 +42,9 @@ module _ {t : List ℕ} {n : Header} (s : Known t n) where
 
   pub blocks-is : n .blocks ≡ blocks (configuration t)
   blocks-is = ap (λ (x : Header). x .blocks) (s .header)
+
+  pub guard-is : n .guard ≡ guard (configuration t)
+  guard-is = ap (λ (x : Header). x .guard) (s .header)
 
   pub slots-is : (k : Kind) → slotsOf n k ≡ slots (configuration t) k
   slots-is process = ap (λ (x : Header). x .processes) (s .header)

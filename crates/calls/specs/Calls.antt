@@ -6,7 +6,7 @@ use lib.Dec.{leb, eqb}
 use Rattle.rules.specs.Layout.{Kind, process, file, Addr, at, entries, heldAt}
 use Rattle.rules.specs.Modes.{validModes, reads, writes}
 use Rattle.rules.specs.Rights.{mayRead, mayWrite, lacks, access}
-use Rattle.rules.specs.Errors.{XbadModes, XdapViol, XbadOd, XnoObj, XbadBlockNo}
+use Rattle.rules.specs.Errors.{XbadModes, XdapViol, XbadOd, XnoObj}
 use Rattle.rules.specs.Rule.{Refusal, _⇒_, effect, Rule, rule}
 use Rattle.rules.specs.Find.{givenUp}
 use Rattle.calls.specs.declared.objects.Seen.{Seen}
@@ -24,11 +24,10 @@ openTests f b =
     (not (validModes b) ⇒ XbadModes) ∷ findTests f file (not (f .flows) || (writes b && not (f .own)))
     ++ (lacks (f .rights) (reads b) (writes b) ⇒ XdapViol) ∷ []
 
--- calls 13 and 14, past the buffer's length: entry a holds s, with the mode or not, and f is seen of it
-abbrev pub blockTests : ℕ → ℕ → Bool → ℕ → Seen → Bool → Bool → ℕ → ℕ → List Refusal
-blockTests a s held number f read write blocks b =
-    (leb entries a ⇒ XbadOd) ∷ (eqb s 0 ⇒ XbadOd) ∷ (not held ⇒ number) ∷ (not (f .present) ⇒ XnoObj) ∷ (lacks (f .rights) read write ⇒ XdapViol)
-    ∷ (leb blocks b ⇒ XbadBlockNo) ∷ []
+-- calls 13, 14 and 21, of the entry: a holds s, with the mode or not, and f is seen of it
+abbrev pub useTests : ℕ → ℕ → Bool → ℕ → Seen → Bool → Bool → List Refusal
+useTests a s held number f read write =
+    (leb entries a ⇒ XbadOd) ∷ (eqb s 0 ⇒ XbadOd) ∷ (not held ⇒ number) ∷ (not (f .present) ⇒ XnoObj) ∷ (lacks (f .rights) read write ⇒ XdapViol) ∷ []
 
 -- call 3: "Access is the owner's read and write bits"
 abbrev pub ownerAccess : ℕ → ℕ

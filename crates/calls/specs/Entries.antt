@@ -29,9 +29,9 @@ givenUpAt t k entry object n own kept =
 unfoldable pub fourAt : List ℕ → ℕ → ℕ → ℕ → ℕ → ℕ → List ℕ
 fourAt t i a b c d = set (set (set (set t i a) (i + 1) b) (i + 2) c) (i + 3) d
 
--- a new object's record of eight words, with one holder
-unfoldable pub madeAt : List ℕ → ℕ → ℕ → ℕ → ℕ → ℕ → ℕ → ℕ → List ℕ
-madeAt t i s u g b x y = fourAt (fourAt t i 1 s u g) (i + 4) b x y 1
+-- a new object's record of eight words
+unfoldable pub madeAt : List ℕ → ℕ → ℕ → ℕ → ℕ → ℕ → ℕ → ℕ → ℕ → List ℕ
+madeAt t i s u g b x y z = fourAt (fourAt t i 1 s u g) (i + 4) b x y z
 
 -- the entry at a place comes to hold s, used so; the object whose record begins at another place has one holder more, where it is of the holder's cell
 unfoldable pub takenUpAt : List ℕ → Kind → ℕ → ℕ → ℕ → ℕ → Bool → List ℕ

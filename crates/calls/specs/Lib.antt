@@ -9,6 +9,7 @@ pub mod Calls
 pub mod Holding
 pub mod Mail
 pub mod Blocks
+pub mod Regrade
 pub mod Told
 pub mod Did
 pub mod Tray

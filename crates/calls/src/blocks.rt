@@ -8,7 +8,7 @@ ghost use Rattle.rules.specs.Words.{part};
 ghost use Rattle.rules.specs.Layout.{blockBytes, configuration, flowMatrix, storeBytes};
 ghost use Rattle.calls.specs.World.{Sound};
 ghost use Rattle.calls.specs.Refusing.{refusing};
-ghost use Rattle.calls.specs.Calls.{blockTests};
+ghost use Rattle.calls.specs.Calls.{useTests};
 ghost use Rattle.calls.specs.Blocks.{ReadLeft, WriteLeft};
 use crate::Answer;
 use crate::Caller;
@@ -42,24 +42,23 @@ use words::put_bytes;
 use words::put_zeros;
 use words::wide;
 
-// What a block is to be used for.
-struct Use {
-    held: bool,
-    number: u32,
-    read: bool,
-    write: bool,
+// What a file's blocks are to be used for.
+pub(crate) struct Use {
+    pub held: bool,
+    pub number: u32,
+    pub read: bool,
+    pub write: bool,
 }
 
-// What refuses block b by entry a, which holds s: past the last entry or empty; not held so, which has a number of its own; stale; today's owner bits; no such block.
-fn bad_use(e: u32, a: u32, s: u32, u: Use, f: Seen, blocks: u32, b: u32) -> u32
-    ensures { λ r. ⌜ r ≡ refusing e (blockTests a s (u .held) (u .number) f (u .read) (u .write) blocks b) ⌝ }
+// What refuses the use of a file by entry a, which holds s: past the last entry or empty; not held so, which has a number of its own; stale; today's owner bits.
+pub(crate) fn bad_use(e: u32, a: u32, s: u32, u: Use, f: Seen) -> u32
+    ensures { λ r. ⌜ r ≡ refusing e (useTests a s (u .held) (u .number) f (u .read) (u .write)) ⌝ }
 {
     let e = or_refuse(e, ENTRIES <= wide(a), XBAD_OD);
     let e = or_refuse(e, s == 0, XBAD_OD);
     let e = or_refuse(e, !u.held, u.number);
     let e = or_refuse(e, !f.present, XNO_OBJ);
-    let e = or_refuse(e, lacks(f.rights, u.read, u.write), XDAP_VIOL);
-    or_refuse(e, blocks <= b, XBAD_BLOCK_NO)
+    or_refuse(e, lacks(f.rights, u.read, u.write), XDAP_VIOL)
 }
 
 // Block b of a file's stretch, n bytes from f * n on, is copied out.
@@ -131,7 +130,8 @@ pub(crate) fn read_block(
         write: false,
     };
     let e = or_refuse(XOK, buffer.len() != BLOCK_BYTES, XB_SZ);
-    let e = bad_use(e, a, d.held, u, f, n.blocks, b);
+    let e = bad_use(e, a, d.held, u, f);
+    let e = or_refuse(e, n.blocks <= b, XBAD_BLOCK_NO);
     let e = or_refuse(e, size <= b, XEND_OF_FILE);
     if e != XOK {
         return refused(e);
@@ -165,7 +165,8 @@ pub(crate) fn write_block(
         write: true,
     };
     let e = or_refuse(XOK, buffer.len() != BLOCK_BYTES, XB_SZ);
-    let e = bad_use(e, a, d.held, u, f, n.blocks, b);
+    let e = bad_use(e, a, d.held, u, f);
+    let e = or_refuse(e, n.blocks <= b, XBAD_BLOCK_NO);
     if e != XOK {
         return refused(e);
     }

@@ -23,6 +23,8 @@ use crate::map::page_access;
 use crate::map::remap;
 use crate::processes::release_process;
 use crate::processes::spawn;
+use crate::regrade::regrade;
+use crate::regrade::slot_in;
 use crate::room::free_slot;
 use crate::segments::access_of;
 use crate::segments::build_segment;
@@ -130,7 +132,7 @@ fn on_map(
     b: u32,
     c: u32,
 ) -> Answer
-    requires { ⌜ Sound (now t) n me × (m ≡ flowMatrix (configuration (now t))) × (19 ≤ code) × (code ≤ lastCode) ⌝ }
+    requires { ⌜ Sound (now t) n me × (m ≡ flowMatrix (configuration (now t))) × (19 ≤ code) × (code ≤ 20) ⌝ }
     ensures { λ r. ⌜ ((s buffer : List ℕ) → Plain (now (t .entry)) (me .slot) code a b c r (now (t .exit)) s buffer) ⌝ }
 {
     match code {
@@ -139,6 +141,7 @@ fn on_map(
     }
 }
 
+// By code; past the others' the desk's.
 pub(crate) fn carry_out(
     t: &mut [u32],
     store: &mut [u8],
@@ -163,5 +166,9 @@ pub(crate) fn carry_out(
     if code <= 18 {
         return on_contents(t, store, n, m, me, code, a, b, c, buffer);
     }
-    on_map(t, n, m, me, code, a, b, c)
+    if code <= 20 {
+        return on_map(t, n, m, me, code, a, b, c);
+    }
+    let g = slot_in(t, n, b);
+    regrade(t, store, n, m, me, g, a, b, c, buffer)
 }

@@ -125,7 +125,7 @@ pub(crate) fn put_four(t: &mut [u32], i: usize, a: u32, b: u32, c: u32, d: u32)
     put(t, i + 3, d);
 }
 
-// The record of a new segment or file, which has one holder. It begins at a place; x and y are its fifth and sixth word.
+// The record of a new segment or file. It begins at a place; x and y are the words behind the bits, and the last counts the holders.
 pub(crate) fn make(
     t: &mut [u32],
     from: usize,
@@ -135,12 +135,13 @@ pub(crate) fn make(
     bits: u32,
     x: u32,
     y: u32,
+    holders: u32,
 )
     requires { ⌜ from < 2 ^ 44 ⌝ }
-    ensures { λ _. ⌜ now (t .exit) ≡ madeAt (now (t .entry)) from serial owner group bits x y ⌝ }
+    ensures { λ _. ⌜ now (t .exit) ≡ madeAt (now (t .entry)) from serial owner group bits x y holders ⌝ }
 {
     put_four(t, from, 1, serial, owner, group);
-    put_four(t, from + BITS, bits, x, y, 1);
+    put_four(t, from + BITS, bits, x, y, holders);
 }
 
 // The entry at a place holds s, used so.

@@ -128,6 +128,7 @@ pub(crate) fn create(t: &mut [u32], n: Header, c: Caller, f: Slot, a: u32, b: u3
         a,
         0,
         0,
+        1,
     );
     enter(t, n.entry_at(Kind::File, me, d), s, b);
     answered(s, d)

@@ -1,4 +1,4 @@
-// The twenty calls over the lent table, store and buffer.
+// The twenty-one calls over the lent table, store and buffer.
 ghost use mathlib.Core.Path.{_≡_};
 ghost use Rattle.rules.specs.Layout.{configuration};
 ghost use Rattle.rules.specs.Step.{badCaller, badCode, step};
@@ -32,12 +32,13 @@ mod map;
 mod objects;
 mod pages;
 mod processes;
+mod regrade;
 mod room;
 mod segments;
 mod status;
 mod trays;
 
-const LAST_CODE: u32 = 20;
+const LAST_CODE: u32 = 21;
 
 // "An answer is the number and two words." A host in C takes it as it stands.
 #[repr(C)]
@@ -75,7 +76,7 @@ pub(crate) fn bad_caller(t: &[u32], n: Header, p: u32) -> bool
     (n.processes <= p) | (live != 1)
 }
 
-// "3 code not 1..18"; "codes now run to 20"
+// "3 code not 1..18"; "codes now run to 20"; and the desk's
 pub(crate) fn bad_code(code: u32) -> bool
     ensures { λ r. ⌜ r ≡ badCode code ⌝ }
 {

@@ -124,6 +124,7 @@ pub(crate) fn build_segment(
         bits,
         sharable,
         size,
+        1,
     );
     enter(t, n.entry_at(Kind::Segment, me, d), s, owner_access(bits));
     answered(s, d)

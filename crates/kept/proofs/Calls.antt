@@ -26,6 +26,7 @@ use Rattle.rules.specs.Call17.{statusOf}
 use Rattle.rules.specs.Call18.{accessOf}
 use Rattle.rules.specs.Call19.{remap}
 use Rattle.rules.specs.Call20.{pageAccess}
+use Rattle.rules.specs.Call21.{regrade}
 use Rattle.rules.specs.Step.{Call, ruleOf}
 use Rattle.laws.proofs.Refusals.{without}
 use Rattle.kept.proofs.Keeps.{KeptBy, Caller, keeps-none}
@@ -45,6 +46,7 @@ use Rattle.kept.proofs.Keep14
 use Rattle.kept.proofs.Keep15
 use Rattle.kept.proofs.Keep16
 use Rattle.kept.proofs.Keep19
+use Rattle.kept.proofs.Keep21
 use Rattle.laws.proofs.Codes.{by-code, by-bits, by-status}
 
 module _ (h : List ℕ) (r : Addr → ℕ) (st : List ℕ) (k : Call) where
@@ -73,12 +75,13 @@ module _ (h : List ℕ) (r : Addr → ℕ) (st : List ℕ) (k : Call) where
         call-18 = λ e x. keeps-none h r (me .fine);
         call-19 = λ e. Keep19.keeps h r p me (k .a) (k .b) (k .c) (k .buffer);
         call-20 = λ e x. keeps-none h r (me .fine);
+        call-21 = λ e. Keep21.keeps h r st p me (k .a) (k .b) (k .c) (k .buffer);
         other = λ x. keeps-none h r (me .fine);
       })
 
   -- no refusal of any call has that number
   pub numbers : without XbTab (ruleOf h r st k .refusals) ≡ true
-  unfolding spawn releaseProcess buildSegment rendezvous releaseSegment setAccess create openFile close link unlink readBlock writeBlock post receive accessOf remap pageAccess
+  unfolding spawn releaseProcess buildSegment rendezvous releaseSegment setAccess create openFile close link unlink readBlock writeBlock post receive accessOf remap pageAccess regrade
   numbers =
       let P : Rule → Type 0 = λ x. without XbTab (x .refusals) ≡ true in
       by-code h k (λ f. P (f r st)) (record {
@@ -102,6 +105,7 @@ module _ (h : List ℕ) (r : Addr → ℕ) (st : List ℕ) (k : Call) where
         call-18 = λ e. refl;
         call-19 = λ e. refl;
         call-20 = λ e. refl;
+        call-21 = λ e. refl;
         other = refl;
       })
     where

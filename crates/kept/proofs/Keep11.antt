@@ -29,9 +29,9 @@ module _ (h : List ℕ) (r : Addr → ℕ) (p : ℕ) (c : Caller h r p) (s : ℕ
       keeps-object h r (c .fine) file tt i (f .parts .index-in) (freed-in file i) (record {
         others = elsewhere file i (freed-in file i) r;
         own-object = freed-record r file i _ (c .fine .own file i (f .parts .index-in) .serial-fits);
-        same-serial = freed-serial file i r;
+        serial-grown = omega (arith, freed-serial file i r);
         same-holders = z opens (omega arith) (λ x. omega arith) ∙ sym none;
-        same-live = λ x. absurd (omega arith);
+        steady = λ x. absurd (omega arith);
       })
 
   held-then : (n m : ℕ) → (n ≡ 0 → ⊥) → eqb n 1 && eqb m 0 ≡ false → n - 1 ≡ 0 → 1 ≤ m

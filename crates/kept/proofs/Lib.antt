@@ -32,6 +32,7 @@ pub mod Keep14
 pub mod Keep15
 pub mod Keep16
 pub mod Keep19
+pub mod Keep21
 pub mod Calls
 pub mod Stepped
 pub mod Kept

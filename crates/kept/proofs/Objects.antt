@@ -50,7 +50,7 @@ keeps-word h r w k o i il lives n v lo hi a =
     keeps-object h r w k o i il in-it (record {
       others = elsewhere k i in-it r;
       own-object = own-word h r k o i (w .own k i il) lives n v lo a;
-      same-serial = word-past r k i n v serial (λ e. omega arith);
+      serial-grown = omega (arith, word-past r k i n v serial (λ e. omega arith));
       same-holders = word-past r k i n v (holders k) (λ e. omega arith);
-      same-live = λ x. word-past r k i n v live (λ e. omega arith);
+      steady = λ x e. (word-past r k i n v live (λ e. omega arith) ∙ e, word-past r k i n v serial (λ e. omega arith));
     })

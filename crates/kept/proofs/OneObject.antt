@@ -1,9 +1,9 @@
--- A change of one object that keeps a reading fine: its serial and its holders stay, and it stays live while it has any.
+-- A change of one object that keeps a reading fine: its serial does not fall, its holders stay, and while it has any it stays live with its serial.
 use mathlib.Core.Path.{_≡_, refl, sym, _∙_}
 use mathlib.Core.List.{List}
 use Prim.Native.Nat.{ℕ, _≤_, _<_}
 use native.Mathlib.Omega.{arith}
-use Rattle.rules.specs.Layout.{Kind, process, slots, cellOf, Addr, at, live, serial, queue, entries, heldAt, usedAt, messageAt, holders}
+use Rattle.rules.specs.Layout.{Kind, process, slots, cellOf, Addr, at, serial, queue, entries, heldAt, usedAt, messageAt, holders}
 use Rattle.rules.specs.Seid.{indexOf}
 use Rattle.laws.proofs.Seids.{is-formed}
 use Rattle.laws.proofs.Object.{Object, no-process}
@@ -16,16 +16,16 @@ module _ (h : List ℕ) (r q : Addr → ℕ) where
   pub record ObjectChanged (k : Kind) (i : ℕ) : Type 0 where
     pub others : (l : Kind) (m j : ℕ) → (l ≡ k → m ≡ i → ⊥) → q (at l m j) ≡ r (at l m j)
     pub own-object : Own h q k i
-    pub same-serial : q (at k i serial) ≡ r (at k i serial)
+    pub serial-grown : r (at k i serial) ≤ q (at k i serial)
     pub same-holders : q (at k i (holders k)) ≡ r (at k i (holders k))
-    pub same-live : 1 ≤ r (at k i (holders k)) → q (at k i live) ≡ r (at k i live)
+    pub steady : 1 ≤ r (at k i (holders k)) → Steady h r q k i
 
   module _ (w : Fine h r) (k : Kind) (o : Object k) (i : ℕ) (il : i < slots h k) (x : ObjectChanged k i) where
     processes-stay : (p j : ℕ) → q (at process p j) ≡ r (at process p j)
     processes-stay p j = x .others process p j (λ e f. no-process k o (sym e))
 
     pub object-grown : Grown h r q
-    object-grown = by-record (λ l m. m < slots h l → r (at l m serial) ≤ q (at l m serial)) k i (λ l. omega (arith, x .same-serial))
+    object-grown = by-record (λ l m. m < slots h l → r (at l m serial) ≤ q (at l m serial)) k i (λ l. x .serial-grown)
         (λ l m n b. omega (arith, x .others l m serial n))
 
     -- what an own-cell entry names has holders
@@ -37,7 +37,7 @@ module _ (h : List ℕ) (r q : Addr → ℕ) where
         let some : 1 ≤ r (at l (indexOf v) (holders l)) =
         rw (w .counted l s (indexOf v) (f .index-in)) (named-counted h r l (indexOf v) p d pl dl
         (named-is h r l p d (indexOf v) (record { same-cell = c; same-class = f .class-is; same-index = refl }))) in
-        by-record (λ l m. 1 ≤ r (at l m (holders l)) → Steady h r q l m) k i (λ a e. (x .same-live a ∙ e, x .same-serial))
+        by-record (λ l m. 1 ≤ r (at l m (holders l)) → Steady h r q l m) k i (x .steady)
         (λ l m n a. same-steady h r q l m (λ j. x .others l m j n)) l (indexOf v) some
 
     pub object-changed : Fine h q

@@ -47,7 +47,7 @@ module _ (s : State) (bytes : List ℕ) (r : Record) where
       same-carried (recordRule conf s bytes r) (wholeRule conf s (callIn bytes r)) refl
       (rw (e, tested (wellFormed (s .table) (length (s .store))) w) refl)
 
-  not-zero : outsideNumber s r ≡ 0 → ⊥
+  pub not-zero : outsideNumber s r ≡ 0 → ⊥
   not-zero =
       split _ (badCaller conf (rd conf (s .table)) (r .caller))
       (λ e. rw e (λ f. omega arith))

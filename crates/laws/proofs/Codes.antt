@@ -29,7 +29,8 @@ use Rattle.rules.specs.Call17.{status, statusOf}
 use Rattle.rules.specs.Call18.{accessOf}
 use Rattle.rules.specs.Call19.{remap}
 use Rattle.rules.specs.Call20.{pageAccess}
-use Rattle.rules.specs.Step.{Call, ruleOf}
+use Rattle.rules.specs.Call21.{regrade}
+use Rattle.rules.specs.Step.{Call, regradeCode, ruleOf}
 use Rattle.laws.proofs.Tests.{split, cond-both}
 
 pub record Each (h : List ℕ) (k : Call) (P : ((Addr → ℕ) → List ℕ → Rule) → Type 0) : Type 0 where
@@ -53,6 +54,7 @@ pub record Each (h : List ℕ) (k : Call) (P : ((Addr → ℕ) → List ℕ → 
   pub call-18 : k .code ≡ 18 → P (λ r st. accessOf h r (k .caller) (k .a) (k .buffer))
   pub call-19 : k .code ≡ 19 → P (λ r st. remap h r (k .caller) (k .a) (k .b) (k .c) (k .buffer))
   pub call-20 : k .code ≡ 20 → P (λ r st. pageAccess h r (k .caller) (k .a) (k .buffer))
+  pub call-21 : k .code ≡ regradeCode → P (λ r st. regrade h r st (k .caller) (k .a) (k .b) (k .c) (k .buffer))
   -- a code that is no call's
   pub other : P (λ r st. rule [] (effect 0 0 (k .buffer) [] []))
 
@@ -62,7 +64,7 @@ module _ (h : List ℕ) (k : Call) (P : ((Addr → ℕ) → List ℕ → Rule) �
   by-code x =
       or 1 (x .call-1) (or 2 (x .call-2) (or 3 (x .call-3) (or 4 (x .call-4) (or 5 (x .call-5) (or 6 (x .call-6) (or 7 (x .call-7) (or 8 (x .call-8)
       (or 9 (x .call-9) (or 10 (x .call-10) (or 11 (x .call-11) (or 12 (x .call-12) (or 13 (x .call-13) (or 14 (x .call-14) (or 15 (x .call-15) (or 16 (x .call-16)
-      (or 17 (x .call-17) (or 18 (x .call-18) (or 19 (x .call-19) (or 20 (x .call-20) (x .other))))))))))))))))))))
+      (or 17 (x .call-17) (or 18 (x .call-18) (or 19 (x .call-19) (or 20 (x .call-20) (or regradeCode (x .call-21) (x .other)))))))))))))))))))))
     where
       or : {f g : (Addr → ℕ) → List ℕ → Rule} (n : ℕ) → (k .code ≡ n → P f) → P g → P (λ r st. cond (eqb (k .code) n) (f r st) (g r st))
       or {f} {g} n p q = split _ (eqb (k .code) n) (λ e. rw e (p (eqb-true (k .code) n e))) (λ e. rw e q)

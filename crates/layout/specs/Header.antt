@@ -2,7 +2,7 @@
 use mathlib.Core.List.{List}
 use Prim.Native.Nat.{ℕ, _+_, _*_}
 use lib.ListN.{getD}
-use Rattle.rules.specs.Layout.{Kind, process, segment, file, headerWords, cellWords, recordWords, cells, slots, blocks, Addr}
+use Rattle.rules.specs.Layout.{Kind, process, segment, file, headerWords, cellWords, recordWords, cells, slots, blocks, guard, Addr}
 use Rattle.layout.specs.declared.Header.{Header}
 
 -- those of a table, or of its configuration
@@ -14,6 +14,7 @@ headerOf h =
       segments = slots h segment;
       files = slots h file;
       blocks = blocks h;
+      guard = guard h;
     }
 
 abbrev pub slotsOf : Header → Kind → ℕ

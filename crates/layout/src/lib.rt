@@ -16,6 +16,7 @@ use rules::DESIGNATORS;
 use rules::FILE_CLASS;
 use rules::FILE_WORDS;
 use rules::FILES;
+use rules::GUARD;
 use rules::HEADER_WORDS;
 use rules::OPENS;
 use rules::PROCESS_BITS;
@@ -98,6 +99,7 @@ pub struct Header {
     pub segments: u32,
     pub files: u32,
     pub blocks: u32,
+    pub guard: u32,
 }
 
 pub fn header_of(t: &[u32]) -> Header
@@ -108,12 +110,14 @@ pub fn header_of(t: &[u32]) -> Header
     let segments = word(t, SEGMENTS);
     let files = word(t, FILES);
     let blocks = word(t, BLOCKS);
+    let guard = word(t, GUARD);
     Header {
         cells,
         processes,
         segments,
         files,
         blocks,
+        guard,
     }
 }
 

@@ -151,7 +151,7 @@ module _ (t : List ℕ) {st l : List ℕ} {x : Session} {t₀ : List ℕ} (e : (
     {x′ : Session} {t′ st′ l′ : List ℕ} {read handed : ℕ} (a : Sofar x t₀ st l x′ t′ st′ l′ read handed) (m : Sized t₀ st l) where
   enough : Lent t st l
   enough = record {
-    table = omega (arith, m .words, ap length (e .1), length-sets t headerNumbers (0 ∷ 0 ∷ 0 ∷ []));
+    table = omega (arith, m .words, ap length (e .1), length-sets t headerNumbers (0 ∷ 0 ∷ []));
     store = omega (arith, m .bytes);
     buffer = omega (arith, m .buffer);
   }

@@ -8,7 +8,7 @@ use lib.ListN.{replicate}
 use borrow.Author.Tests.{eq-eqb, ne-eqb}
 use Rattle.rules.specs.Words.{allBelow, someBelow, sumBelow, countBelow, lowest, orRather, least, tabFrom, part, word4}
 use Rattle.rules.specs.Level.{Level, level, has, within, equals, flowsTo}
-use Rattle.rules.specs.Layout.{maxSerial, Kind, process, file, cells, slots, blocks, cellWord, levelOf, configuration, firstSlot, cellOf, flows, at, rd, live, serial}
+use Rattle.rules.specs.Layout.{maxSerial, Kind, process, file, cells, slots, blocks, guard, cellWord, levelOf, configuration, firstSlot, cellOf, flows, at, rd, live, serial}
 use Rattle.rules.specs.Seid.{class, seid, classOf, indexOf, serialOf, isSeid, seidAt, orSelf, present}
 use Rattle.rules.specs.Modes.{validModes, reads, writes}
 use Rattle.rules.specs.Rights.{rights, mayRead, mayWrite, access}
@@ -70,7 +70,7 @@ creation = record { caller = 0; code = 7; a = 420; b = 3; c = 0; buffer = [] }
 -- the second slot is taken, and the first stays as it is
 second-taken : (step first-worn creation .answered ≡ answer XOK (seid (class file) 1 1) 0)
     × (rd two-slots (next first-worn creation .table) (at file 0 live) ≡ 0) × (rd two-slots (next first-worn creation .table) (at file 0 serial) ≡ maxSerial)
-unfolding allBelow someBelow sumBelow countBelow lowest orRather least tabFrom part word4 within equals flowsTo cells slots blocks cellWord levelOf configuration firstSlot cellOf flows rd seid classOf indexOf serialOf isSeid seidAt orSelf present validModes reads writes headerOk cellOk levelsDistinct sumsMatch configured lengthsExact recordOk heldOk currentOk entryOk parentOk heldOnce messageOk pageOk processOk ownEntry ownEntries segmentSize segmentOk fileOk recordsOk wellFormed freeSlot freeEntry create canSetUp firstProcesses freshTable setUpTable ruleOf badCaller badCode carriedOut wholeRule step
+unfolding allBelow someBelow sumBelow countBelow lowest orRather least tabFrom part word4 within equals flowsTo cells slots blocks guard cellWord levelOf configuration firstSlot cellOf flows rd seid classOf indexOf serialOf isSeid seidAt orSelf present validModes reads writes headerOk cellOk levelsDistinct sumsMatch configured lengthsExact recordOk heldOk currentOk entryOk parentOk heldOnce messageOk pageOk processOk ownEntry ownEntries segmentSize segmentOk fileOk recordsOk wellFormed freeSlot freeEntry create canSetUp firstProcesses freshTable setUpTable ruleOf badCaller badCode carriedOut wholeRule step
 second-taken = (refl, refl, refl)
 
 -- ---- a post up

@@ -64,13 +64,16 @@ bits-past file e = omega (arith, e)
 makes-creates : (j : Kind) (n : ℕ) → Makes j n → creates n ≡ true
 makes-creates process n e = rw e
 makes-creates segment n e = rw e
-makes-creates file n e = rw e
+makes-creates file n e = elim (ℕ-discrete n 7) [
+  | yes x ↦ rw x
+  | no x ↦ rw (e x)
+]
 
 -- ---- a slot comes to life by a creating call alone, and then with a serial of its own
 
 module _ (h : List ℕ) (r : Addr → ℕ) (st : List ℕ) (k : Call) where
   lifeless : creates (k .code) ≡ false → (x : Word) → Wrote h r k x → Lifeless x
-  lifeless f x (made {j} m l room s) e = both-ways (creates (k .code)) (makes-creates j (k .code) m) f
+  lifeless f x (made {j} m l room low s) e = both-ways (creates (k .code)) (makes-creates j (k .code) m) f
   lifeless f x (filled j {n} y w) e = absurd (entry-past j n w e)
   lifeless f x (emptied j y w) e = refl
   lifeless f x (paged {n = n} y l) e = let z : n ≡ live = e in absurd (omega arith)

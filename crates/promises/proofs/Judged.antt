@@ -7,7 +7,7 @@ use lib.ListN.{set, replicate}
 use Rattle.rules.specs.Words.{allBelow, sumBelow, countBelow, lowest}
 use Rattle.rules.specs.Claim.{test}
 use Rattle.rules.specs.Level.{within, equals, flowsTo}
-use Rattle.rules.specs.Layout.{headerWords, cellWords, process, segment, file, recordWords, cells, slots, blocks, cellWord, levelOf, configuration, firstSlot, cellOf, flows, Addr, at, rd, live, serial, owner, group, parent, queue, zero7, heldAt, usedAt, messageAt, pageAt, bits, sharable, size, references, opens}
+use Rattle.rules.specs.Layout.{headerWords, cellWords, process, segment, file, recordWords, cells, slots, blocks, guard, cellWord, levelOf, configuration, firstSlot, cellOf, flows, Addr, at, rd, live, serial, owner, group, parent, queue, zero7, heldAt, usedAt, messageAt, pageAt, bits, sharable, size, references, opens}
 use Rattle.rules.specs.Seid.{class, seid, classOf, indexOf, serialOf, isSeid}
 use Rattle.rules.specs.Modes.{validModes, writes}
 use Rattle.rules.specs.Rights.{asksWrite, validAccess}
@@ -61,6 +61,9 @@ but a v = write conf used ((a ≔ v) ∷ [])
 abbrev butSecurity : ℕ → List ℕ
 butSecurity v = set used (headerWords + cellWords * 1) v
 
+abbrev butGuard : ℕ → List ℕ
+butGuard v = set used 5 v
+
 abbrev right : List ℕ → Bool
 right t = test (wellFormed t bytes)
 
@@ -94,6 +97,9 @@ pub record Judged : Type 0 where
   pub level-moved : right (butSecurity 2) ≡ true
   pub levels-equal : right (butSecurity 1) ≡ false
   pub no-flow : right (butSecurity 0) ≡ false
+  -- the guard word names one of the two cells, or none
+  pub guard-last : right (butGuard 2) ≡ true
+  pub guard-past : right (butGuard 3) ≡ false
   -- a hall has 256 slots of a kind at the most
   pub hall : test (headerOk (16 ∷ 256 ∷ 256 ∷ 256 ∷ 64 ∷ 0 ∷ 0 ∷ 0 ∷ [])) ≡ true
   pub hall-over : test (headerOk (16 ∷ 256 ∷ 256 ∷ 257 ∷ 64 ∷ 0 ∷ 0 ∷ 0 ∷ [])) ≡ false
@@ -101,7 +107,7 @@ pub record Judged : Type 0 where
   pub byte-too-many : test (wellFormed used (bytes + 1)) ≡ false
 
 pub judged : Judged
-unfolding allBelow sumBelow countBelow lowest within equals flowsTo cells slots blocks cellWord levelOf configuration firstSlot cellOf flows rd seid classOf indexOf serialOf isSeid validModes writes asksWrite validAccess headerOk cellOk levelsDistinct sumsMatch configured lengthsExact recordOk heldOk currentOk entryOk parentOk heldOnce messageOk pageOk processOk ownEntry ownEntries segmentSize segmentOk fileOk recordsOk wellFormed canSetUp firstProcesses freshTable setUpTable
+unfolding allBelow sumBelow countBelow lowest within equals flowsTo cells slots blocks guard cellWord levelOf configuration firstSlot cellOf flows rd seid classOf indexOf serialOf isSeid validModes writes asksWrite validAccess headerOk cellOk levelsDistinct sumsMatch configured lengthsExact recordOk heldOk currentOk entryOk parentOk heldOnce messageOk pageOk processOk ownEntry ownEntries segmentSize segmentOk fileOk recordsOk wellFormed canSetUp firstProcesses freshTable setUpTable
 judged =
     record {
       not-set-up = refl;
@@ -126,6 +132,8 @@ judged =
       level-moved = refl;
       levels-equal = refl;
       no-flow = refl;
+      guard-last = refl;
+      guard-past = refl;
       hall = refl;
       hall-over = refl;
       word-too-many = refl;

@@ -15,6 +15,7 @@ pub mod Released
 pub mod Wear
 pub mod Map
 pub mod Shared
+pub mod Regraded
 pub mod Single
 pub mod Gone
 pub mod Edges

@@ -6,7 +6,7 @@ use Prim.Native.String.{String}
 use lib.ListN.{replicate}
 use Rattle.rules.specs.Words.{allBelow, someBelow, sumBelow, countBelow, lowest, orRather, least, tabFrom, part, word4}
 use Rattle.rules.specs.Level.{within, equals, flowsTo}
-use Rattle.rules.specs.Layout.{cells, slots, blocks, cellWord, levelOf, configuration, firstSlot, cellOf, flows, rd}
+use Rattle.rules.specs.Layout.{cells, slots, blocks, guard, cellWord, levelOf, configuration, firstSlot, cellOf, flows, rd}
 use Rattle.rules.specs.Seid.{seid, classOf, indexOf, serialOf, isSeid, seidAt, orSelf, present}
 use Rattle.rules.specs.Modes.{validModes, reads, writes, excludesReaders, excludesWriters, clash}
 use Rattle.rules.specs.Rights.{rights, mayRead, mayWrite, lacks, asksRead, asksWrite, validAccess, access}
@@ -32,10 +32,10 @@ abbrev pub lines : List String → List ℕ
 lines [] = []
 lines (s ∷ ss) = ascii s ++ (newline ++ lines ss)
 
--- "Two cells, security 1 and 3, integrity, compartments, owner and group 0, two process and two file slots each, no segment slots, B 1."
+-- "Two cells, security 1 and 3, integrity, compartments, owner and group 0, two process and two file slots each, no segment slots, B 1." (02, CR 9: no guard cell.)
 abbrev pub configuration-bytes : List ℕ
 configuration-bytes =
-    numbers (2 ∷ 4 ∷ 0 ∷ 4 ∷ 1 ∷ [])
+    numbers (2 ∷ 4 ∷ 0 ∷ 4 ∷ 1 ∷ 0 ∷ [])
     ++ (numbers (1 ∷ 0 ∷ 0 ∷ 2 ∷ 0 ∷ 2 ∷ 0 ∷ 0 ∷ [])
     ++ numbers (3 ∷ 0 ∷ 0 ∷ 2 ∷ 0 ∷ 2 ∷ 0 ∷ 0 ∷ []))
 
@@ -68,5 +68,5 @@ pub the-listing : listing (configuration-bytes ++ calls-bytes)
     ∷ "7 XOK 2164260866 0"
     ∷ "8 XnoObj 0 0"
     ∷ [])
-unfolding allBelow someBelow sumBelow countBelow lowest orRather least tabFrom part word4 within equals flowsTo cells slots blocks cellWord levelOf configuration firstSlot cellOf flows rd seid classOf indexOf serialOf isSeid seidAt orSelf present validModes reads writes excludesReaders excludesWriters clash rights mayRead mayWrite lacks asksRead asksWrite validAccess access headerOk cellOk levelsDistinct sumsMatch configured lengthsExact recordOk heldOk currentOk entryOk parentOk heldOnce messageOk pageOk processOk ownEntry ownEntries segmentSize segmentOk fileOk recordsOk wellFormed ascii errorNames errorName sameAddr over rightsAt freeSlot freeEntry zeros oneLess pageLeft pagesSet emptied givenUp create clashesAt clashes openFile close block readBlock firstProcesses freshTable ruleOf badCaller badCode carriedOut wholeRule step groups numberFrom numbersFrom configurationIn replayable callIn scriptIn decimalIn hex showsBuffer line linesFrom heading startOf scriptListing listing
+unfolding allBelow someBelow sumBelow countBelow lowest orRather least tabFrom part word4 within equals flowsTo cells slots blocks guard cellWord levelOf configuration firstSlot cellOf flows rd seid classOf indexOf serialOf isSeid seidAt orSelf present validModes reads writes excludesReaders excludesWriters clash rights mayRead mayWrite lacks asksRead asksWrite validAccess access headerOk cellOk levelsDistinct sumsMatch configured lengthsExact recordOk heldOk currentOk entryOk parentOk heldOnce messageOk pageOk processOk ownEntry ownEntries segmentSize segmentOk fileOk recordsOk wellFormed ascii errorNames errorName sameAddr over rightsAt freeSlot freeEntry zeros oneLess pageLeft pagesSet emptied givenUp create clashesAt clashes openFile close block readBlock firstProcesses freshTable ruleOf badCaller badCode carriedOut wholeRule step groups numberFrom numbersFrom configurationIn replayable callIn scriptIn decimalIn hex showsBuffer line linesFrom heading startOf scriptListing listing
 the-listing = refl

@@ -1,5 +1,5 @@
 -- A process's messages stand where they stood after every call but a release of it and a receive by it; a post may have added one behind them.
-use mathlib.Core.Path.{_≡_, sym, ap, _∙_}
+use mathlib.Core.Path.{_≡_, sym, ap}
 use mathlib.Core.Bool.{_&&_}
 use mathlib.Core.List.{List, []}
 use Prim.Native.Nat.{ℕ, _≤_, _<_}
@@ -83,7 +83,7 @@ module _ (h : List ℕ) (r : Addr → ℕ) (st : List ℕ) (k : Call) (p : ℕ) 
   module _ (unreleased : k .code ≡ 2 → indexOf given ≡ p → ⊥) (unreceived : k .code ≡ 16 → caller ≡ p → ⊥) where
     -- (the slot that spawn takes is not live)
     sparing : (k .code ≡ 15 → indexOf given ≡ p → ⊥) → (x : Word) → Wrote h r k x → Spares p x
-    sparing unposted x (made {j} {c} m l room s) e f = absurd (omega (arith, slot-untaken h r j c room .is-free, lived j _ e f))
+    sparing unposted x (made {j} {c} m l room low s) e f = absurd (omega (arith, slot-untaken h r j c room .is-free, lived j _ e f))
       where
         lived : (j : Kind) (i : ℕ) → j ≡ process → i ≡ p → r (at j i live) ≡ 1
         lived j i e f = rw (e, f) lives

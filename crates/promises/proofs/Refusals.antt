@@ -33,6 +33,7 @@ use Rattle.rules.specs.Call17.{statusOf}
 use Rattle.rules.specs.Call18.{accessOf}
 use Rattle.rules.specs.Call19.{remap}
 use Rattle.rules.specs.Call20.{pageAccess}
+use Rattle.rules.specs.Call21.{regrade}
 use Rattle.laws.proofs.Tests.{cond-true, cond-false, cond-both, split}
 use Rattle.laws.proofs.Claims.{tested}
 use Rattle.laws.proofs.Refusals.{Clear, numbered, clear}
@@ -120,7 +121,7 @@ module _ (s : State) (k : Call) where
 
   -- every refusal has a number
   all-numbered : numbered (refusals s k) ≡ true
-  unfolding wholeRule spawn releaseProcess buildSegment rendezvous releaseSegment setAccess create openFile close link unlink readBlock writeBlock post receive accessOf remap pageAccess
+  unfolding wholeRule spawn releaseProcess buildSegment rendezvous releaseSegment setAccess create openFile close link unlink readBlock writeBlock post receive accessOf remap pageAccess regrade
   all-numbered =
       let P : Rule → Type 0 = λ x. numbered (x .refusals) ≡ true in
       by-code conf k (λ f. P (f reading (s .store))) (record {
@@ -144,6 +145,7 @@ module _ (s : State) (k : Call) where
         call-18 = λ e. refl;
         call-19 = λ e. refl;
         call-20 = λ e. refl;
+        call-21 = λ e. refl;
         other = refl;
       })
     where
@@ -162,7 +164,7 @@ module _ (s : State) (k : Call) where
   -- ---- the buffer
 
   own-buffer : (k .code ≡ 13 → ⊥) → (k .code ≡ 16 → ⊥) → (k .code ≡ 17 → ⊥) → effects s k .buffer ≡ k .buffer
-  unfolding wholeRule spawn releaseProcess buildSegment rendezvous releaseSegment setAccess create openFile close link unlink writeBlock post accessOf remap pageAccess
+  unfolding wholeRule spawn releaseProcess buildSegment rendezvous releaseSegment setAccess create openFile close link unlink writeBlock post accessOf remap pageAccess regrade
   own-buffer a b c =
       let P : Rule → Type 0 = λ x. x .effects .buffer ≡ k .buffer in
       by-code conf k (λ f. P (f reading (s .store))) (record {
@@ -186,6 +188,7 @@ module _ (s : State) (k : Call) where
         call-18 = λ e. refl;
         call-19 = λ e. refl;
         call-20 = λ e. refl;
+        call-21 = λ e. refl;
         other = refl;
       })
 
@@ -196,7 +199,7 @@ module _ (s : State) (k : Call) where
     | no n ↦ refused n .buffer
   ]
 
-  -- ---- the call's own list, behind "1 table or length bad; 2 caller out of range or not live; 3 code not 1..20"
+  -- ---- the call's own list, behind "1 table or length bad; 2 caller out of range or not live; 3 code not 1..21"
 
   abbrev pub own : Rule
   own = ruleOf (configuration (s .table)) (rd (configuration (s .table)) (s .table)) (s .store) k

@@ -165,7 +165,7 @@ module _ (h : List ℕ) (r : Addr → ℕ) (st : List ℕ) (k : Call) (me : Call
     (shared : r (at segment i sharable) ≡ 0 → ⊥) where
   -- of what calls other than 2 and 5 write
   sparing : (k .code ≡ 2 → ⊥) → (k .code ≡ 5 → ⊥) → (x : Word) → Wrote h r k x → Spares i x
-  sparing a b x (made {j = j} {c = c} f l room y) n m z e =
+  sparing a b x (made {j = j} {c = c} f l room low y) n m z e =
       omega (arith, slot-untaken h r j c room .is-free, lived j _ (ap (λ (b : Addr). b .kind) e) (ap (λ (b : Addr). b .slot) e))
     where
       lived : (j : Kind) (m : ℕ) → segment ≡ j → i ≡ m → r (at j m live) ≡ 1

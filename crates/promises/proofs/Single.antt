@@ -1,15 +1,15 @@
--- No identifier is handed out twice: in a run from set-up, and from any well-formed state, two creating calls (1, 3 or 7) that succeed never answer the same seid,
+-- No identifier is handed out twice: in a run from set-up, and from any well-formed state, two creating calls (1, 3, 7 or 21) that succeed never answer the same seid,
 -- though objects go and their slots are used again; nor is a first process's ever answered.
 use mathlib.Core.Path.{_≡_, refl, sym, ap, _∙_}
 use mathlib.Core.Bool.{Bool, true, false, _||_}
 use mathlib.Core.List.{List, _++_}
 use Prim.Native.Nat.{ℕ, _+_, _≤_, _<_}
 use native.Mathlib.Omega.{arith}
-use lib.Dec.{eqb}
+use lib.Dec.{ltb, leb, eqb}
 use lib.ListN.{length}
-use borrow.Author.Tests.{eqb-true}
+use borrow.Author.Tests.{leb-false, eqb-true}
 use Rattle.rules.specs.Claim.{Holds}
-use Rattle.rules.specs.Layout.{maxSerial, Kind, process, segment, file, cells, slots, configuration, firstSlot, cellOf, Addr, at, rd, live, serial, entries, heldAt, usedAt}
+use Rattle.rules.specs.Layout.{maxSerial, maxBits, Kind, process, segment, file, cells, slots, configuration, firstSlot, cellOf, Addr, at, rd, live, serial, entries, heldAt, usedAt}
 use Rattle.rules.specs.Seid.{class, seid, classOf, indexOf, serialOf}
 use Rattle.rules.specs.Errors.{XOK}
 use Rattle.rules.specs.Rule.{Rule, over}
@@ -17,21 +17,24 @@ use Rattle.rules.specs.Find.{freeSlot, noSlot, freeEntry, entered}
 use Rattle.rules.specs.Call01.{spawn}
 use Rattle.rules.specs.Call03.{buildSegment}
 use Rattle.rules.specs.Call07.{create}
+use Rattle.rules.specs.Call21.{carried, regrade}
 use Rattle.rules.specs.SetUp.{canSetUp, setUpTable}
-use Rattle.rules.specs.Step.{State, Call, step, next, run, ruleOf, wholeRule}
-use Rattle.laws.proofs.Tests.{or-rest, split}
+use Rattle.rules.specs.Step.{State, Call, step, next, run, regradeCode, ruleOf, wholeRule}
+use Rattle.laws.proofs.Tests.{or-left, or-rest, split}
 use Rattle.laws.proofs.Seids.{class-seid, index-seid, serial-seid, class-inj}
-use Rattle.laws.proofs.Shape.{good-of}
+use Rattle.laws.proofs.Shape.{in-run, good-of}
+use Rattle.laws.proofs.Slots.{free-slot}
 use Rattle.laws.proofs.Written.{nil, also, over-append, over-miss}
 use Rattle.laws.proofs.Object.{Object, no-process}
 use Rattle.laws.proofs.Refusals.{Clear}
 use Rattle.kept.proofs.Records.{elsewhere, in-first, words-some}
 use Rattle.kept.proofs.Made.{placed}
 use Rattle.kept.proofs.Keeps.{Caller}
-use Rattle.kept.proofs.Found.{own-slot, free-entry}
+use Rattle.kept.proofs.Found.{free-entry}
 use Rattle.kept.proofs.Exchange.{entered-in}
 use Rattle.kept.proofs.Created.{made, made-in, made-word}
 use Rattle.kept.proofs.Keep01.{spawned-in, spawned-word}
+use Rattle.kept.proofs.Keep21.{regraded-in, regraded-word}
 use Rattle.kept.proofs.Kept.{Well, kept, conf-kept, run-kept, run-conf-kept, run-serials-kept}
 use Rattle.promises.proofs.Refusals.{own, own-clear, done}
 use Rattle.promises.proofs.After.{its-caller, read-after}
@@ -39,7 +42,7 @@ use Rattle.promises.proofs.Fresh.{set-up-formed, set-up-configuration, 
 
 -- the calls that give a new object's seid, as their first result
 abbrev pub creates : ℕ → Bool
-creates n = eqb n 1 || (eqb n 3 || eqb n 7)
+creates n = eqb n 1 || (eqb n 3 || (eqb n 7 || eqb n regradeCode))
 
 -- ---- one creating call
 
@@ -60,12 +63,19 @@ module _ (h : List ℕ) (r : Addr → ℕ) (k : Call) (me : Caller h r (k .calle
   abbrev free : Kind → ℕ
   free j = freeSlot h r j (cellOf h process (k .caller))
 
+  -- of any cell: the caller's own, or the one that call 21 names
+  handed-in : (c : ℕ) → c < cells h → (j : Kind) (x : Rule) → noSlot h r j c ≡ false
+      → x .effects .first ≡ seid (class j) (freeSlot h r j c) (r (at j (freeSlot h r j c) serial) + 1)
+      → over r (x .effects .words) (at j (freeSlot h r j c) serial) ≡ r (at j (freeSlot h r j c) serial) + 1
+      → ((l : Kind) (i : ℕ) → (l ≡ j → i ≡ freeSlot h r j c → ⊥) → over r (x .effects .words) (at l i live) ≡ r (at l i live)) → Handed h r x
+  handed-in c l j x room given left beside =
+      let f = free-slot h r (me .shape) c l j room in
+      record { kind = j; slot = freeSlot h r j c; in-range = f .in-range; not-worn = f .not-worn; given = given; left = left; beside = beside }
+
   handed : (j : Kind) (x : Rule) → noSlot h r j cell ≡ false → x .effects .first ≡ seid (class j) (free j) (r (at j (free j) serial) + 1)
       → over r (x .effects .words) (at j (free j) serial) ≡ r (at j (free j) serial) + 1
       → ((l : Kind) (i : ℕ) → (l ≡ j → i ≡ free j → ⊥) → over r (x .effects .words) (at l i live) ≡ r (at l i live)) → Handed h r x
-  handed j x room given left beside =
-      let f = own-slot h r (k .caller) me j room in
-      record { kind = j; slot = free j; in-range = f .in-range; not-worn = f .not-worn; given = given; left = left; beside = beside }
+  handed = handed-in cell (in-run h (me .shape) process (k .caller) (me .in-range) .0)
 
   -- an object's serial, where its words are followed by an entry for it
   object-serial : (j : Kind) → Object j → (i d : ℕ) → d < entries → (s u g b x y v a : ℕ) → over r (made j i s u g b x y ++ entered j (k .caller) d v a) (at j i serial) ≡ s
@@ -85,7 +95,7 @@ module _ (h : List ℕ) (r : Addr → ℕ) (k : Call) (me : Caller h r (k .calle
       not-live l m p w low e = let same : live ≡ w = ap (λ (b : Addr). b .word) e in omega arith
 
   pub by-rule : (st : List ℕ) → creates (k .code) ≡ true → Clear (ruleOf h r st k .refusals) → Handed h r (ruleOf h r st k)
-  unfolding ruleOf spawn buildSegment create
+  unfolding ruleOf spawn buildSegment create regrade
   by-rule st t = split _ (eqb (k .code) 1)
       (λ e. rw (eqb-true (k .code) 1 e) (λ ok. handed process _ (ok .1 .1 .0) refl (spawned-word r (k .caller) (k .a) (k .b) (k .c) (free process) _ serial)
       (λ l m. elsewhere process (free process) (spawned-in r (k .caller) (k .a) (k .b) (k .c) (free process) _) r l m live)))
@@ -93,10 +103,15 @@ module _ (h : List ℕ) (r : Addr → ℕ) (k : Call) (me : Caller h r (k .calle
       (λ e. rw (eqb-true (k .code) 3 e) (λ ok. handed segment _ (ok .1 .1 .1 .0) refl
       (object-serial segment tt (free segment) (freeEntry r segment (k .caller)) (free-entry r segment (k .caller) (ok .1 .1 .0) .in-record) _ _ _ _ _ _ _ _)
       (object-beside segment tt (free segment) (freeEntry r segment (k .caller)) (free-entry r segment (k .caller) (ok .1 .1 .0) .in-record) _ _ _ _ _ _ _ _)))
-      (λ m. rw (eqb-true (k .code) 7 (or-rest (eqb (k .code) 3) (eqb (k .code) 7) (or-rest (eqb (k .code) 1) _ t n) m))
-      (λ ok. handed file _ (ok .1 .1 .1 .0) refl
+      (λ m. split _ (eqb (k .code) 7)
+      (λ e. rw (eqb-true (k .code) 7 e) (λ ok. handed file _ (ok .1 .1 .1 .0) refl
       (object-serial file tt (free file) (freeEntry r file (k .caller)) (free-entry r file (k .caller) (ok .1 .1 .0) .in-record) _ _ _ _ _ _ _ _)
-      (object-beside file tt (free file) (freeEntry r file (k .caller)) (free-entry r file (k .caller) (ok .1 .1 .0) .in-record) _ _ _ _ _ _ _ _))))
+      (object-beside file tt (free file) (freeEntry r file (k .caller)) (free-entry r file (k .caller) (ok .1 .1 .0) .in-record) _ _ _ _ _ _ _ _)))
+      (λ o. rw (eqb-true (k .code) regradeCode (or-rest (eqb (k .code) 7) _ (or-rest (eqb (k .code) 3) _ (or-rest (eqb (k .code) 1) _ t n) m) o))
+      (λ ok. let x = carried h r st (k .caller) (k .a) (k .b) (k .c) (k .buffer) in
+      handed-in (k .b) (leb-false (cells h) (k .b) (or-left (leb (cells h) (k .b)) (ltb maxBits (k .c)) (ok .1 .1 .0))) file _ (ok .1 .1 .1 .1 .1 .1 .1 .1 .0) refl
+      (regraded-word r x (freeSlot h r file (k .b)) _ serial)
+      (λ l i. elsewhere file (freeSlot h r file (k .b)) (regraded-in x (freeSlot h r file (k .b)) _) r l i live)))))
 
 -- ---- two of them
 

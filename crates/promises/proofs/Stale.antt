@@ -33,7 +33,8 @@ use Rattle.rules.specs.Call17.{status, statusOf}
 use Rattle.rules.specs.Call18.{accessOf}
 use Rattle.rules.specs.Call19.{remap}
 use Rattle.rules.specs.Call20.{pageAccess}
-use Rattle.rules.specs.Step.{State, Call, step, ruleOf, badCode, wholeRule}
+use Rattle.rules.specs.Call21.{regrade}
+use Rattle.rules.specs.Step.{State, Call, step, regradeCode, ruleOf, badCode, wholeRule}
 use Rattle.laws.proofs.Tests.{and-both, passed, not-of, refuted, both-ways, or-rest, split, cond-both, cond-false}
 use Rattle.laws.proofs.Seids.{class-pos, class-some, class-inj, is-formed, present-is}
 use Rattle.laws.proofs.Shape.{good-of}
@@ -61,11 +62,11 @@ takes file n = eqb n 8 || (eqb n 10 || (eqb n 11 || (eqb n 12 || eqb n 17)))
 abbrev pub Names : List ℕ → (Addr → ℕ) → ℕ → ℕ → Type 0
 Names h r code v = (j : Kind) × (takes j code ≡ true) × (formed h j v ≡ true) × (present r j v ≡ true)
 
--- the calls that use an entry for objects of a kind: 13 and 14 a descriptor, 6, 18 and 19 a designator
+-- the calls that use an entry for objects of a kind: 13, 14 and 21 a descriptor, 6, 18 and 19 a designator
 abbrev pub usesEntry : Kind → ℕ → Bool
 usesEntry process n = false
 usesEntry segment n = eqb n 6 || (eqb n 18 || eqb n 19)
-usesEntry file n = eqb n 13 || eqb n 14
+usesEntry file n = eqb n 13 || (eqb n 14 || eqb n regradeCode)
 
 -- the call that gives up an entry
 abbrev pub givesUpEntry : Kind → ℕ
@@ -164,7 +165,7 @@ module _ (s : State) (k : Call) where
   -- (an incoming designator is an entry: 16 is none)
   pub stale-entry : (j : Kind) → usesEntry j (k .code) ≡ true → (k .code ≡ 19 → k .a < entries) → present (rd (configuration (s .table)) (s .table)) j (entryHolds j) ≡ false
       → step s k .answered .error ≡ XOK → ⊥
-  unfolding ruleOf setAccess accessOf remap readBlock writeBlock
+  unfolding ruleOf setAccess accessOf remap readBlock writeBlock regrade
   stale-entry process u in-entries gone e = both-ways true refl (sym u)
   stale-entry segment u in-entries gone e =
       let c = own-clear s k e in
@@ -177,9 +178,11 @@ module _ (s : State) (k : Call) where
       passed _ (rw t at (q .1 .1 .0))))) gone
   stale-entry file u in-entries gone e =
       let c = own-clear s k e in
-      both-ways (present r file (entryHolds file)) (either (eqb (k .code) 13) (eqb (k .code) 14) u
+      both-ways (present r file (entryHolds file)) (either (eqb (k .code) 13) _ u
       (λ e. let q = rw (eqb-true (k .code) 13 e) at c in passed _ (q .1 .1 .1 .1 .0))
-      (λ e. let q = rw (eqb-true (k .code) 14 e) at c in passed _ (q .1 .1 .1 .1 .0))) gone
+      (λ u. either (eqb (k .code) 14) (eqb (k .code) regradeCode) u
+      (λ e. let q = rw (eqb-true (k .code) 14 e) at c in passed _ (q .1 .1 .1 .1 .0))
+      (λ e. let q = rw (eqb-true (k .code) regradeCode e) at c in passed _ (q .1 .1 .1 .1 .1 .1 .0)))) gone
 
   -- a page whose designator is stale is refused by call 20
   pub stale-page : k .code ≡ 20 → present (rd (configuration (s .table)) (s .table)) segment pageHolds ≡ false → step s k .answered .error ≡ XOK → ⊥

@@ -1,8 +1,8 @@
 -- 02, CR 10, "Wear slots evenly": what the search for a free slot finds; that there is room exactly when there was by 01's rule; and that in every run from set-up on a
 -- slot is used at most once more often than another of its cell that is free whenever it is taken (`evenly`, `all-evenly`, at the end).
 use mathlib.Core.Path.{_≡_, refl, sym, ap, _∙_}
-use mathlib.Core.Bool.{Bool, false}
-use mathlib.Core.List.{List, [], _∷_, _++_}
+use mathlib.Core.Bool.{false}
+use mathlib.Core.List.{List, [], _∷_}
 use mathlib.Core.Logic.{_⊎_, inl, inr, ⊎-elim}
 use Prim.Native.Nat.{ℕ, zero, suc, _+_, _≤_, _<_}
 use native.Mathlib.Omega.{arith}
@@ -11,20 +11,20 @@ use lib.Dec.{leb}
 use lib.ListN.{length}
 use Rattle.rules.specs.Words.{lowest, least}
 use Rattle.rules.specs.Claim.{Holds}
-use Rattle.rules.specs.Layout.{maxSerial, Kind, process, segment, file, recordWords, cells, slots, configuration, cellSlots, firstSlot, cellOf, Addr, at, Valid, rd, live, serial, owner, group, bits, holders, queue, messagesAt}
+use Rattle.rules.specs.Layout.{maxSerial, Kind, process, segment, file, cells, slots, configuration, cellSlots, firstSlot, cellOf, Addr, at, rd, live, serial, owner, group, bits}
 use Rattle.rules.specs.Errors.{XOK}
-use Rattle.rules.specs.Rule.{Word, _≔_, over}
+use Rattle.rules.specs.Rule.{Word}
 use Rattle.rules.specs.Find.{canTake, freeSlot, noSlot}
 use Rattle.rules.specs.SetUp.{canSetUp, firstProcesses, setUpTable}
 use Rattle.rules.specs.Step.{State, Call, step, next, run}
 use Rattle.laws.proofs.Written.{AllOf, nil, also, all-map, all-append, over-either}
 use Rattle.laws.proofs.Least.{least-room}
 use Rattle.laws.proofs.Shape.{Shape, in-run, good-of}
-use Rattle.laws.proofs.Slots.{InRun, run-slot, run-cell, Untaken, FreeSlot, free-slot, slot-untaken, slot-in-run, slot-smallest}
+use Rattle.laws.proofs.Slots.{InRun, Untaken, FreeSlot, free-slot, slot-smallest}
 use Rattle.kept.proofs.Records.{words-some}
 use Rattle.kept.proofs.Made.{object-words}
 use Rattle.kept.proofs.Kept.{Well, kept, conf-kept, serials-kept}
-use Rattle.promises.proofs.Refusals.{own, own-clear, refused}
+use Rattle.promises.proofs.Refusals.{own-clear, refused}
 use Rattle.promises.proofs.After.{its-caller, read-after}
 use Rattle.promises.proofs.Writes.{EntryWord, Wrote, made, filled, emptied, paged, counted, freed-word, cleared, linked, sized, set-bits, posted, received, writes}
 use Rattle.promises.proofs.Fresh.{blank, set-up-formed, set-up-configuration, set-up-reads}
@@ -87,7 +87,7 @@ module _ (h : List ℕ) (r : Addr → ℕ) (k : Call) (j : Kind) (i : ℕ) where
   bits-past file e = omega arith
 
   counts : (x : Word) → Wrote h r k x → here ≡ x .at → Counts (x .value)
-  counts x (made {j = l} {c = c} m in-cells room one-more) e =
+  counts x (made {j = l} {c = c} m in-cells room low one-more) e =
       let kind : j ≡ l = ap (λ (b : Addr). b .kind) e in
       let slot : i ≡ freeSlot h r l c = ap (λ (b : Addr). b .slot) e in
       inr (one-more (sym (word-of x e)) ∙ ap (λ (b : Addr). r b + 1) (at-same kind slot), record { cell = c; in-cells = in-cells; room = rw kind room; found = rw kind (sym slot) })

@@ -1,13 +1,13 @@
 -- What each call writes, word by word, said once: `writes`, at the end. What no call changes follows from it.
-use mathlib.Core.Path.{_≡_, refl, sym, ap, _∙_}
+use mathlib.Core.Path.{_≡_, refl}
 use mathlib.Core.Bool.{false, _&&_, not}
-use mathlib.Core.List.{List, [], _∷_, _++_}
+use mathlib.Core.List.{List, [], _∷_}
 use Prim.Native.Nat.{ℕ, zero, suc, _+_, _*_, _-_, _≤_, _<_}
 use native.Mathlib.Omega.{arith}
-use lib.Dec.{ltb, eqb}
+use lib.Dec.{ltb, leb, eqb}
 use borrow.Author.Tests.{ltb-true, leb-false}
-use Rattle.rules.specs.Layout.{Kind, process, segment, file, recordWords, cells, cellOf, Addr, at, live, serial, owner, group, queue, entries, heldAt, usedAt, messages, messageWords, messagesAt, messageAt, pages, pagesAt, pageAt, bits, size, holders, links, opens}
-use Rattle.rules.specs.Seid.{indexOf, orSelf, present, seidAt}
+use Rattle.rules.specs.Layout.{maxBits, Kind, process, segment, file, recordWords, cells, cellOf, Addr, at, live, serial, owner, group, parent, queue, entries, heldAt, usedAt, messages, messageWords, messagesAt, messageAt, pages, pagesAt, pageAt, bits, size, holders, links, opens}
+use Rattle.rules.specs.Seid.{indexOf, orSelf, present}
 use Rattle.rules.specs.Rule.{Word, _≔_, Rule, over}
 use Rattle.rules.specs.Find.{inOwnCell, entered, oneMore, zeros, freed, kept, oneLess, pageLeft, pagesSet, pagesCleared, emptied as emptiedEntry, givenUp, freeSlot, noSlot, freeEntry}
 use Rattle.rules.specs.Call01.{spawn}
@@ -29,8 +29,9 @@ use Rattle.rules.specs.Call16.{movedUp, receive}
 use Rattle.rules.specs.Call18.{accessOf}
 use Rattle.rules.specs.Call19.{remap}
 use Rattle.rules.specs.Call20.{pageAccess}
-use Rattle.rules.specs.Step.{Call, ruleOf}
-use Rattle.laws.proofs.Tests.{and-right}
+use Rattle.rules.specs.Call21.{regrade}
+use Rattle.rules.specs.Step.{Call, regradeCode, ruleOf}
+use Rattle.laws.proofs.Tests.{and-right, or-left}
 use Rattle.laws.proofs.Written.{AllOf, nil, also, all-append, all-if, all-tab}
 use Rattle.laws.proofs.Object.{Object}
 use Rattle.laws.proofs.Refusals.{Clear}
@@ -66,15 +67,15 @@ Frees process n = ⊥
 Frees segment n = (n ≡ 2 → ⊥) → n ≡ 5
 Frees file n = (n ≡ 2 → ⊥) → (n ≡ 9 → ⊥) → n ≡ 11
 
--- the call that makes an object of a kind
+-- the calls that make an object of a kind
 abbrev pub Makes : Kind → ℕ → Type 0
 Makes process n = n ≡ 1
 Makes segment n = n ≡ 3
-Makes file n = n ≡ 7
+Makes file n = (n ≡ 7 → ⊥) → n ≡ regradeCode
 
 pub data Wrote (h : List ℕ) (r : Addr → ℕ) (k : Call) : Word → Type 0 where
-  -- a word of a record made in a free slot of a cell: its serial is one more
-  made : {j : Kind} {c n v : ℕ} → Makes j (k .code) → c < cells h → noSlot h r j c ≡ false → (n ≡ serial → v ≡ r (at j (freeSlot h r j c) serial) + 1)
+  -- one of the first eight words of a record made in a free slot of a cell: its serial is one more
+  made : {j : Kind} {c n v : ℕ} → Makes j (k .code) → c < cells h → noSlot h r j c ≡ false → n < 8 → (n ≡ serial → v ≡ r (at j (freeSlot h r j c) serial) + 1)
       → Wrote h r k (at j (freeSlot h r j c) n ≔ v)
   -- an entry of the caller's filled, or used otherwise; an entry given up
   filled : (j : Kind) {n v : ℕ} → Fills j (k .code) → EntryWord j n → Wrote h r k (at process (k .caller) n ≔ v)
@@ -165,34 +166,45 @@ module _ (h : List ℕ) (r : Addr → ℕ) (k : Call) where
   unfolding unlinked
   of-unlinked e i = all-if (Wrote h r k) (eqb (r (at file i links)) 1 && eqb (r (at file i opens)) 0) _ _ (λ t. of-freed file tt (λ n m. e) i) (λ t. also linked nil)
 
-  -- ---- a record made: the caller's cell has room
+  -- ---- a record made in a cell that has room
+
+  module _ (c : ℕ) (l : c < cells h) (j : Kind) (makes : Makes j (k .code)) (room : noSlot h r j c ≡ false) where
+    new-word : (n v : ℕ) → n < 8 → (n ≡ serial → ⊥) → Wrote h r k (at j (freeSlot h r j c) n ≔ v)
+    new-word n v m x = made makes l room m (λ e. absurd (x e))
+
+    -- live, serial, owner and group, and what comes after them
+    of-made : (u g : ℕ) {ws : List Word} → Writes ws
+        → let i : ℕ = freeSlot h r j c in
+        Writes ((at j i live ≔ 1) ∷ (at j i serial ≔ r (at j i serial) + 1) ∷ (at j i owner ≔ u) ∷ (at j i group ≔ g) ∷ ws)
+    of-made u g ws =
+        also (new-word live 1 (omega arith) (λ e. omega arith)) (also (made {n = serial} makes l room (omega arith) (λ e. refl))
+        (also (new-word owner u (omega arith) (λ e. omega arith)) (also (new-word group g (omega arith) (λ e. omega arith)) ws)))
+
+    -- an object's other four
+    of-object : (u g b x y z : ℕ) → let i : ℕ = freeSlot h r j c in
+        Writes ((at j i live ≔ 1) ∷ (at j i serial ≔ r (at j i serial) + 1) ∷ (at j i owner ≔ u) ∷ (at j i group ≔ g)
+        ∷ (at j i 4 ≔ b) ∷ (at j i 5 ≔ x) ∷ (at j i 6 ≔ y) ∷ (at j i 7 ≔ z) ∷ [])
+    of-object u g b x y z = of-made u g
+        (also (new-word 4 b (omega arith) (λ e. omega arith)) (also (new-word 5 x (omega arith) (λ e. omega arith)) (also (new-word 6 y (omega arith) (λ e. omega arith))
+        (also (new-word 7 z (omega arith) (λ e. omega arith)) nil))))
 
   module _ (me : Caller h r (k .caller)) where
     mine : cellOf h process (k .caller) < cells h
     mine = in-run h (me .shape) process (k .caller) (me .in-range) .0
 
-    new-word : (j : Kind) → Makes j (k .code) → noSlot h r j (cellOf h process (k .caller)) ≡ false → (n v : ℕ) → (n ≡ serial → ⊥)
-        → Wrote h r k (at j (freeSlot h r j (cellOf h process (k .caller))) n ≔ v)
-    new-word j m room n v x = made m mine room (λ e. absurd (x e))
-
-    new-serial : (j : Kind) → Makes j (k .code) → noSlot h r j (cellOf h process (k .caller)) ≡ false
-        → Wrote h r k (at j (freeSlot h r j (cellOf h process (k .caller))) serial ≔ r (at j (freeSlot h r j (cellOf h process (k .caller))) serial) + 1)
-    new-serial j m room = made m mine room (λ e. refl)
-
-    -- the words of any list that begins with live and serial and goes on with others
     of-spawned : k .code ≡ 1 → Clear (spawn h r (k .caller) (k .a) (k .b) (k .c) (k .buffer) .refusals) → Writes (spawn h r (k .caller) (k .a) (k .b) (k .c) (k .buffer) .effects .words)
     unfolding spawn
     of-spawned e ok =
-        let w = new-word process e (ok .1 .1 .0) in
-        also (w 0 _ (λ e. omega arith)) (also (new-serial process e (ok .1 .1 .0)) (also (w 2 _ (λ e. omega arith)) (also (w 3 _ (λ e. omega arith)) (also (w 4 _ (λ e. omega arith)) (also (w 6 _ (λ e. omega arith)) nil)))))
+        let w = new-word (cellOf h process (k .caller)) mine process e (ok .1 .1 .0) in
+        of-made (cellOf h process (k .caller)) mine process e (ok .1 .1 .0) (k .a) (k .b)
+        (also (w parent _ (omega arith) (λ e. omega arith)) (also (w (bits process) (k .c) (omega arith) (λ e. omega arith)) nil))
 
-    of-object : (j : Kind) → Makes j (k .code) → noSlot h r j (cellOf h process (k .caller)) ≡ false → (u g b x y : ℕ)
-        → let i : ℕ = freeSlot h r j (cellOf h process (k .caller)) in
-        Writes ((at j i 0 ≔ 1) ∷ (at j i 1 ≔ r (at j i serial) + 1) ∷ (at j i 2 ≔ u) ∷ (at j i 3 ≔ g) ∷ (at j i 4 ≔ b) ∷ (at j i 5 ≔ x) ∷ (at j i 6 ≔ y) ∷ (at j i 7 ≔ 1) ∷ [])
-    of-object j m room u g b x y =
-        let w = new-word j m room in
-        also (w 0 _ (λ e. omega arith)) (also (new-serial j m room) (also (w 2 _ (λ e. omega arith)) (also (w 3 _ (λ e. omega arith)) (also (w 4 _ (λ e. omega arith))
-        (also (w 5 _ (λ e. omega arith)) (also (w 6 _ (λ e. omega arith)) (also (w 7 _ (λ e. omega arith)) nil)))))))
+    of-regraded : (st : List ℕ) → k .code ≡ regradeCode → Clear (regrade h r st (k .caller) (k .a) (k .b) (k .c) (k .buffer) .refusals)
+        → Writes (regrade h r st (k .caller) (k .a) (k .b) (k .c) (k .buffer) .effects .words)
+    unfolding regrade
+    of-regraded st e ok =
+        let cell = leb-false (cells h) (k .b) (or-left (leb (cells h) (k .b)) (ltb maxBits (k .c)) (ok .1 .1 .0)) in
+        of-object (k .b) cell file (λ n. e) (ok .1 .1 .1 .1 .1 .1 .1 .1 .0) _ _ _ _ _ _
 
     -- ---- mail
 
@@ -228,11 +240,11 @@ writes h r st k me =
     by-code h k (λ f. P (f r st)) (record {
       call-1 = λ e. of-spawned h r k me e;
       call-2 = λ e ok. of-released h r k e;
-      call-3 = λ e ok. all-append _ (of-object h r k me segment e (ok .1 .1 .1 .0) _ _ _ _ _) (of-filled h r k segment tt tt (freeEntry r segment p) _ _ (free-entry r segment p (ok .1 .1 .0) .in-record));
+      call-3 = λ e ok. all-append _ (of-object h r k (cellOf h process p) (mine h r k me) segment e (ok .1 .1 .1 .0) _ _ _ _ _ 1) (of-filled h r k segment tt tt (freeEntry r segment p) _ _ (free-entry r segment p (ok .1 .1 .0) .in-record));
       call-4 = λ e ok. all-append _ (of-filled h r k segment tt tt (freeEntry r segment p) _ _ (free-entry r segment p (ok .1 .1 .1 .1 .1 .1 .1 .0) .in-record)) (of-more h r k r p segment tt _);
       call-5 = λ e ok. of-given-up h r k r segment tt (λ n. e) p itself (k .a) _ (leb-false entries (k .a) (ok .0));
       call-6 = λ e ok. let l = leb-false entries (k .a) (ok .1 .0) in also (filled segment tt (omega arith, omega arith)) nil;
-      call-7 = λ e ok. all-append _ (of-object h r k me file e (ok .1 .1 .1 .0) _ _ _ _ _) (of-filled h r k file tt (λ n. absurd (n e)) (freeEntry r file p) _ _ (free-entry r file p (ok .1 .1 .0) .in-record));
+      call-7 = λ e ok. all-append _ (of-object h r k (cellOf h process p) (mine h r k me) file (λ n. absurd (n e)) (ok .1 .1 .1 .0) _ _ _ _ _ 1) (of-filled h r k file tt (λ n. absurd (n e)) (freeEntry r file p) _ _ (free-entry r file p (ok .1 .1 .0) .in-record));
       call-8 = λ e ok. all-append _ (of-filled h r k file tt (λ n. e) (freeEntry r file p) _ _ (free-entry r file p (ok .1 .1 .1 .1 .1 .1 .0) .in-record)) (of-more h r k r p file tt _);
       call-9 = λ e ok. of-given-up h r k r file tt (λ n m. absurd (m e)) p itself (k .a) _ (leb-false entries (k .a) (ok .0));
       call-10 = λ e ok. also linked nil;
@@ -246,5 +258,6 @@ writes h r st k me =
       call-18 = λ e ok. nil;
       call-19 = λ e ok. of-pages h r k p itself _;
       call-20 = λ e ok. nil;
+      call-21 = λ e. of-regraded h r k me st e;
       other = λ ok. nil;
     })

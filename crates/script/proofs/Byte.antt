@@ -141,24 +141,24 @@ cells-range c e = holds (replayable c) e .0 .0 .0
 pub refused : (vs : List ℕ) (x : Taken (List ℕ)) → 0 < length vs → (1 ≤ getD vs 0 0 → getD vs 0 0 ≤ maxCells → ⊥) → accepted (cellsThen vs x) ≡ bad
 unfolding accepted cellsThen
 refused vs bad h n = refl
-refused vs (took ws after) h n = rw (not-taken (vs ++ (0 ∷ 0 ∷ 0 ∷ []) ++ ws) (first vs h))
+refused vs (took ws after) h n = rw (not-taken (vs ++ (0 ∷ 0 ∷ []) ++ ws) (first vs h))
   where
-    first : (vs : List ℕ) → 0 < length vs → getD (vs ++ (0 ∷ 0 ∷ 0 ∷ []) ++ ws) 0 0 ≡ getD vs 0 0
+    first : (vs : List ℕ) → 0 < length vs → getD (vs ++ (0 ∷ 0 ∷ []) ++ ws) 0 0 ≡ getD vs 0 0
     first [] h = absurd (omega arith)
     first (v ∷ vs) h = refl
 
     not-taken : (c : List ℕ) → getD c 0 0 ≡ getD vs 0 0 → test (replayable c) ≡ false
     not-taken c f = refuted (test (replayable c)) (λ t. let w = cells-range c t in n (rw f at (w .0)) (rw f at (w .1)))
 
-module _ (r : Reader) (t l : List ℕ) (b v : ℕ) (e : r .stage ≡ Header) (h : Good r t l) (w : (r .last ≡ 4) × Roomy t) (f : fedBy (r .part) b ≡ fed.Done v) (ge : r .last ≤ r .field) where
+module _ (r : Reader) (t l : List ℕ) (b v : ℕ) (e : r .stage ≡ Header) (h : Good r t l) (w : (r .last ≡ 5) × Roomy t) (f : fedBy (r .part) b ≡ fed.Done v) (ge : r .last ≤ r .field) where
   abbrev t′ : List ℕ
   t′ = set t (r .field) v
 
-  four : r .field ≡ 4
-  four = omega (arith, h .within, w .0)
+  at-last : r .field ≡ 5
+  at-last = omega (arith, h .within, w .0)
 
-  five : take (r .field) t ++ (v ∷ []) ≡ take headerNumbers t′
-  five = sym (take-more t (r .field) v (omega (arith, four, w .1 .room))) ∙ ap (λ (j : ℕ). take (j + 1) t′) four
+  header-read : take (r .field) t ++ (v ∷ []) ≡ take headerNumbers t′
+  header-read = sym (take-more t (r .field) v (omega (arith, at-last, w .1 .room))) ∙ ap (λ (j : ℕ). take (j + 1) t′) at-last
 
   cells-of : getD (take headerNumbers t′) 0 0 ≡ getD t′ 0 0
   cells-of = getD-take headerNumbers t′ 0 0 (omega arith)
@@ -167,7 +167,7 @@ module _ (r : Reader) (t l : List ℕ) (b v : ℕ) (e : r .stage ≡ Header) (h 
   unfolding headerThen
   header-whole s =
       number-last Header r t l b e h (λ r t l s. refl) v s f ge
-      ∙ ap (λ (vs : List ℕ). configured (accepted (headerThen (took vs s)))) five
+      ∙ ap (λ (vs : List ℕ). configured (accepted (headerThen (took vs s)))) header-read
       ∙ ap (λ (c : ℕ). configured (accepted (cellsThen (take headerNumbers t′) (numbers (cellWords * c) s)))) cells-of
 
   header-refused : (1 ≤ getD t′ 0 0 → getD t′ 0 0 ≤ maxCells → ⊥) → Faulty r t l (b ∷ [])
@@ -179,14 +179,14 @@ module _ (r : Reader) (t l : List ℕ) (b v : ℕ) (e : r .stage ≡ Header) (h 
             ∙ ap faultAt (sym e);
       }
     where
-      some : (l : List ℕ) → 5 ≤ length l → 0 < length (take headerNumbers l)
+      some : (l : List ℕ) → headerNumbers ≤ length l → 0 < length (take headerNumbers l)
       some [] x = absurd (omega arith)
       some (y ∷ l) x = omega arith
 
   header-next : (c : ℕ) → suc c ≡ cellWords * getD t′ 0 0 → getD t′ 0 0 ≤ maxCells → Onward r t l (b ∷ []) (awaiting Cells c (r .nums)) t′ l
   header-next c q few =
       record {
-        good = record { small = small-start; within = omega arith; six = h .six; buffer = h .buffer; here = (q, few, roomy-header t (r .field) v (omega (arith, four)) (w .1)) };
+        good = record { small = small-start; within = omega arith; six = h .six; buffer = h .buffer; here = (q, few, roomy-header t (r .field) v (omega (arith, at-last)) (w .1)) };
         stage = ap callingAt (sym e);
         table = λ z. absurd (true≢false (sym z ∙ ap callingAt e));
         size = length-set t (r .field) v;
@@ -239,8 +239,8 @@ module _ (r : Reader) (t l : List ℕ) (b v : ℕ) (e : r .stage ≡ Cells) (h :
         cells = rw (cells-kept t (r .field) v) (w .1);
         same = λ ys.
             number-last Cells r t l b e h (λ r t l s. refl) v ys f ge
-            ∙ ap (λ (ws : List ℕ). configured (accepted (took (take headerNumbers t ++ (0 ∷ 0 ∷ 0 ∷ []) ++ ws) ys))) all-cells
-            ∙ ap (λ (vs : List ℕ). configured (accepted (took (vs ++ (0 ∷ 0 ∷ 0 ∷ []) ++ take (cellWords * getD t″ 0 0) (drop headerWords t″)) ys))) (sym (header-kept t (r .field) v))
+            ∙ ap (λ (ws : List ℕ). configured (accepted (took (take headerNumbers t ++ (0 ∷ 0 ∷ []) ++ ws) ys))) all-cells
+            ∙ ap (λ (vs : List ℕ). configured (accepted (took (vs ++ (0 ∷ 0 ∷ []) ++ take (cellWords * getD t″ 0 0) (drop headerWords t″)) ys))) (sym (header-kept t (r .field) v))
             ∙ ap (λ (c : List ℕ). configured (accepted (took c ys))) (whole t″ (roomy-cell t (r .field) v (w .2)));
       }
 

@@ -51,7 +51,7 @@ going-byte p vs k b s h = ap (thenNumbers vs k) (read-byte p b s h) ∙ go (fedB
 
 -- ---- the configuration: its cells' numbers, then the whole
 unfoldable pub cellsThen : List ℕ → Taken (List ℕ) → Taken (List ℕ)
-cellsThen vs (took ws after) = took (vs ++ (0 ∷ 0 ∷ 0 ∷ []) ++ ws) after
+cellsThen vs (took ws after) = took (vs ++ (0 ∷ 0 ∷ []) ++ ws) after
 cellsThen vs bad = bad
 
 unfoldable pub headerThen : Taken (List ℕ) → Taken (List ℕ)
@@ -62,14 +62,14 @@ pub configuration-in : (s : List ℕ) → configurationIn s ≡ headerThen (numb
 unfolding configurationIn headerThen cellsThen
 configuration-in s = go (numbers headerNumbers s)
   where
-    inner : (vs : List ℕ) (x : Taken (List ℕ)) → elim x as (λ y. Taken (List ℕ)) [ took ws after ↦ took (vs ++ (0 ∷ 0 ∷ 0 ∷ []) ++ ws) after | bad ↦ bad ] ≡ cellsThen vs x
+    inner : (vs : List ℕ) (x : Taken (List ℕ)) → elim x as (λ y. Taken (List ℕ)) [ took ws after ↦ took (vs ++ (0 ∷ 0 ∷ []) ++ ws) after | bad ↦ bad ] ≡ cellsThen vs x
     inner vs (took ws after) = refl
     inner vs bad = refl
 
     go : (x : Taken (List ℕ)) → elim x as (λ y. Taken (List ℕ)) [
       | took vs rest ↦
           elim (numbers (cellWords * getD vs 0 0) rest) as (λ y. Taken (List ℕ)) [
-            | took ws after ↦ took (vs ++ (0 ∷ 0 ∷ 0 ∷ []) ++ ws) after
+            | took ws after ↦ took (vs ++ (0 ∷ 0 ∷ []) ++ ws) after
             | bad ↦ bad
           ]
       | bad ↦ bad

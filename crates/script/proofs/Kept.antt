@@ -18,11 +18,10 @@ pub take-more-past : (n : ℕ) (l : List ℕ) (i v : ℕ) → n + i < length l �
 take-more-past n l i v h = rw (drop-set-add n l i v) (take-more (drop n l) i v (let e = length-drop n l in omega arith))
 
 -- a word of the header, and a word of a cell
-pub roomy-header : (t : List ℕ) (f v : ℕ) → f ≤ 4 → Roomy t → Roomy (set t f v)
+pub roomy-header : (t : List ℕ) (f v : ℕ) → f ≤ 5 → Roomy t → Roomy (set t f v)
 roomy-header t f v h p =
     record {
       room = rw (length-set t f v) (p .room);
-      zero5 = getD-set-other t f 5 v 0 (λ e. omega arith) ∙ p .zero5;
       zero6 = getD-set-other t f 6 v 0 (λ e. omega arith) ∙ p .zero6;
       zero7 = getD-set-other t f 7 v 0 (λ e. omega arith) ∙ p .zero7;
     }
@@ -31,7 +30,6 @@ pub roomy-cell : (t : List ℕ) (f v : ℕ) → Roomy t → Roomy (set t (header
 roomy-cell t f v p =
     record {
       room = rw (length-set t (headerWords + f) v) (p .room);
-      zero5 = getD-set-other t (headerWords + f) 5 v 0 (λ e. omega arith) ∙ p .zero5;
       zero6 = getD-set-other t (headerWords + f) 6 v 0 (λ e. omega arith) ∙ p .zero6;
       zero7 = getD-set-other t (headerWords + f) 7 v 0 (λ e. omega arith) ∙ p .zero7;
     }
@@ -42,14 +40,14 @@ cells-kept t f v = getD-set-other t (headerWords + f) 0 v 0 (λ e. omega arith)
 pub header-kept : (t : List ℕ) (f v : ℕ) → take headerNumbers (set t (headerWords + f) v) ≡ take headerNumbers t
 header-kept t f v = take-set-le headerNumbers t (headerWords + f) v (omega arith)
 
--- the configuration is the header's numbers, three zeros and the cells' numbers
-three-zeros : (t : List ℕ) → Roomy t → take 3 (drop 5 t) ≡ 0 ∷ 0 ∷ 0 ∷ []
-three-zeros t p =
-    rw (drop-cons t 5 0 (omega (arith, p .room)), drop-cons t 6 0 (omega (arith, p .room)), drop-cons t 7 0 (omega (arith, p .room)), p .zero5, p .zero6, p .zero7)
+-- the configuration is the header's numbers, two zeros and the cells' numbers
+two-zeros : (t : List ℕ) → Roomy t → take 2 (drop 6 t) ≡ 0 ∷ 0 ∷ []
+two-zeros t p =
+    rw (drop-cons t 6 0 (omega (arith, p .room)), drop-cons t 7 0 (omega (arith, p .room)), p .zero6, p .zero7)
 
-pub whole : (t : List ℕ) → Roomy t → take headerNumbers t ++ (0 ∷ 0 ∷ 0 ∷ []) ++ take (cellWords * getD t 0 0) (drop headerWords t) ≡ configuration t
+pub whole : (t : List ℕ) → Roomy t → take headerNumbers t ++ (0 ∷ 0 ∷ []) ++ take (cellWords * getD t 0 0) (drop headerWords t) ≡ configuration t
 unfolding configuration cells
 whole t p =
-    ap (λ (l : List ℕ). (take 5 t ++ l) ++ take (cellWords * getD t 0 0) (drop headerWords t)) (sym (three-zeros t p))
-    ∙ ap (λ (l : List ℕ). l ++ take (cellWords * getD t 0 0) (drop headerWords t)) (sym (take-add 5 3 t))
+    ap (λ (l : List ℕ). (take 6 t ++ l) ++ take (cellWords * getD t 0 0) (drop headerWords t)) (sym (two-zeros t p))
+    ∙ ap (λ (l : List ℕ). l ++ take (cellWords * getD t 0 0) (drop headerWords t)) (sym (take-add 6 2 t))
     ∙ sym (take-add headerWords (cellWords * getD t 0 0) t)

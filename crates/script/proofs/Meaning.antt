@@ -58,15 +58,14 @@ faultAt g = faultOf (callingAt g)
 
 -- ---- a reader that can come up
 
--- room for every configuration, and the header's three zeros
+-- room for every configuration, and the header's two zeros
 pub record Roomy (t : List ℕ) : Type 0 where
   pub room : headerWords + cellWords * maxCells ≤ length t
-  pub zero5 : getD t 5 0 ≡ 0
   pub zero6 : getD t 6 0 ≡ 0
   pub zero7 : getD t 7 0 ≡ 0
 
 abbrev pub GoodAt : Stage → Reader → List ℕ → Type 0
-GoodAt Header r t = (r .last ≡ 4) × Roomy t
+GoodAt Header r t = (r .last ≡ 5) × Roomy t
 GoodAt Cells r t = (suc (r .last) ≡ cellWords * getD t 0 0) × (getD t 0 0 ≤ maxCells) × Roomy t
 GoodAt Numbers r t = r .last ≡ 5
 GoodAt Bytes r t = (suc (r .last) ≡ getD (r .nums) 5 0) × (getD (r .nums) 5 0 ≤ maxBuffer)

@@ -90,7 +90,7 @@ piece-told r t l (b ∷ s) i h =
 -- a new reader reads a configuration
 pub at-start : (t l s : List ℕ) → meaning newReader t l s ≡ configured (accepted (configurationIn s))
 unfolding meaning
-at-start t l s = ap (λ (x : Taken (List ℕ)). configured (accepted x)) (sym (configuration-in s ∙ ap headerThen (going-start [] 4 s)))
+at-start t l s = ap (λ (x : Taken (List ℕ)). configured (accepted x)) (sym (configuration-in s ∙ ap headerThen (going-start [] 5 s)))
 
 -- a reader between calls reads a call
 between-is : (r : Reader) (t l : List ℕ) → Good r t l → isBetween r ≡ true → (r .stage ≡ Numbers) × (r .field ≡ 0) × (r .part ≡ start) × (r .last ≡ 5)

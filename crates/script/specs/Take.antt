@@ -82,7 +82,7 @@ withPart r p = record { stage = r .stage; part = p; field = r .field; last = r .
 
 -- ---- a number is whole: v, number `field` of the stage
 
--- the configuration's numbers are kept in the table, past the header's three zeros where they are the cells'
+-- the configuration's numbers are kept in the table, past the header's two zeros where they are the cells'
 abbrev pub keptTableAt : Stage → ℕ → ℕ → List ℕ → List ℕ
 keptTableAt Header f v t = set t f v
 keptTableAt Cells f v t = set t (headerWords + f) v

@@ -51,7 +51,7 @@ pub struct Moved {
     pub next: usize,
 }
 
-const LAST_OF_HEADER: u32 = 4;
+const LAST_OF_HEADER: u32 = 5;
 
 const LAST_OF_CALL: u32 = 5;
 

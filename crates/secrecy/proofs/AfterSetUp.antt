@@ -8,7 +8,8 @@ use Rattle.rules.specs.Claim.{Holds}
 use Rattle.rules.specs.Layout.{configuration}
 use Rattle.rules.specs.SetUp.{canSetUp, freshTable, setUpTable}
 use Rattle.rules.specs.Step.{State, Call, run}
-use Rattle.rules.specs.Observer.{Closed, Agree, remaining, replies}
+use Rattle.rules.specs.Observer.{Closed, Agree, replies}
+use Rattle.rules.specs.Regrade.{events, withoutRefused, AsksNone}
 use Rattle.promises.proofs.Fresh.{set-up-table, set-up-formed}
 use Rattle.secrecy.proofs.View.{Stretches}
 use Rattle.secrecy.proofs.Demand3.{two-runs}
@@ -28,7 +29,8 @@ same-set-up C t u a b x y e s =
     record { configurations = ap configuration same; records = λ q v i. rw same; stretches = s }
 
 pub from-set-up : (C : ℕ → Bool) (t u a b : List ℕ) → Holds (canSetUp t (length a)) → Holds (canSetUp u (length b)) → configuration t ≡ configuration u
-    → let h : List ℕ = configuration (setUp t a .table) in Closed h C → Stretches h C a b → (ks js : List Call) → remaining h C ks ≡ remaining h C js
+    → let h : List ℕ = configuration (setUp t a .table) in Closed h C → Stretches h C a b → (ks js : List Call)
+    → withoutRefused (events h C (setUp t a) ks) ≡ withoutRefused (events h C (setUp u b) js) → AsksNone h C (setUp t a) ks
     → (replies h C (setUp t a) ks ≡ replies h C (setUp u b) js) × Agree C (run (setUp t a) ks) (run (setUp u b) js)
 from-set-up C t u a b x y e cl s =
     two-runs C (setUp t a) (setUp u b) (set-up-formed t (length a) x) (set-up-formed u (length b) y) cl (same-set-up C t u a b x y e s)

@@ -1,32 +1,34 @@
 -- A rule carried out: what a set of cells sees of it. The same for every call.
 use mathlib.Core.Path.{_≡_, refl, sym, ap, _∙_}
-use mathlib.Core.Bool.{Bool, true, false, true≢false}
-use mathlib.Core.List.{List, [], _∷_}
-use Prim.Native.Nat.{ℕ, _+_, _*_}
-use lib.Dec.{eqb}
+use mathlib.Core.Bool.{Bool, true, false, _||_, not, true≢false}
+use mathlib.Core.List.{List, [], _∷_, _++_}
+use Prim.Native.Nat.{ℕ, _+_, _*_, _<_}
+use native.Mathlib.Omega.{arith}
+use lib.Dec.{ltb, eqb}
 use lib.ListN.{length}
 use lib.Seq.{sets, length-sets}
-use borrow.Author.Tests.{eqb-true, eqb-false}
+use borrow.Author.Tests.{eqb-true, eqb-false, ltb-true, ne-eqb}
 use Rattle.rules.specs.Layout.{file, cellOf, flows, Addr, Valid, rd, tableWords, storeBytes, stretch}
-use Rattle.rules.specs.Rule.{Word, Bytes, Effect, Rule, firstRefusal, write, store}
-use Rattle.rules.specs.Step.{State, carriedOut}
+use Rattle.rules.specs.Rule.{Refusal, _⇒_, Word, Bytes, Effect, Rule, firstRefusal, write, store}
+use Rattle.rules.specs.Step.{State, answer, carriedOut}
 use Rattle.rules.specs.Observer.{Closed}
-use Rattle.laws.proofs.Tests.{split, both-ways, refuted}
-use Rattle.laws.proofs.Written.{AllOf, nil, also, all-map, over-miss, rd-write, over-at}
+use Rattle.laws.proofs.Tests.{split, and-left, and-right, failed, both-ways, refuted}
+use Rattle.laws.proofs.Written.{AllOf, nil, also, all-map, over-miss, over-at, rd-write}
 use Rattle.laws.proofs.Stored.{sets-both, stretch-apart}
+use Rattle.laws.proofs.Refusals.{Clear, numbered, without, clear}
 use Rattle.secrecy.proofs.Shown.{Ups, UpBytes, WritesUp, up-effect, up-test, Hidden, Alike-effects, same-effect, hidden, Alike, alike-effect, alike-test}
 use Rattle.secrecy.proofs.View.{Stretches}
 
 -- ---- refusals
 
 -- where no refusal answers, each of the tests is false
-granted : {h : List ℕ} {c : ℕ} {k : Rule} → WritesUp h c k → firstRefusal (k .refusals) ≡ 0 → Ups h c (k .effects .words) × AllOf (UpBytes h c) (k .effects .bytes)
+pub granted : {h : List ℕ} {c : ℕ} {k : Rule} → WritesUp h c k → firstRefusal (k .refusals) ≡ 0 → Ups h c (k .effects .words) × AllOf (UpBytes h c) (k .effects .bytes)
 granted (up-effect u b) e = (u, b)
 granted (up-test {b = b} {n = n} {rs = rs} z g) e = split _ b
     (λ t. absurd (eqb-false n 0 z (rw t at e)))
     (λ f. granted (g f) (rw f at e))
 
-same-refusal : {h : List ℕ} {C : ℕ → Bool} {k l : Rule} → Alike h C k l → firstRefusal (k .refusals) ≡ firstRefusal (l .refusals)
+pub same-refusal : {h : List ℕ} {C : ℕ → Bool} {k l : Rule} → Alike h C k l → firstRefusal (k .refusals) ≡ firstRefusal (l .refusals)
 same-refusal (alike-effect a) = refl
 same-refusal (alike-test {b = b} {d = d} z e g) = split _ b (λ t. rw (← e, t)) (λ f. rw (← e, f) (same-refusal (g f)))
 
@@ -35,6 +37,48 @@ granted-alike (alike-effect a) e = a
 granted-alike (alike-test {b = b} {n = n} z q g) e = split _ b
     (λ t. absurd (eqb-false n 0 z (rw t at e)))
     (λ f. granted-alike (g f) (rw f at e))
+
+-- where another refusal answers than the last of a list, the last is not looked at
+pub last-unasked : (rs : List Refusal) (x y : Bool) (n : ℕ) → (firstRefusal (rs ++ (x ⇒ n) ∷ []) ≡ 0 → ⊥) → (firstRefusal (rs ++ (x ⇒ n) ∷ []) ≡ n → ⊥)
+    → firstRefusal (rs ++ (x ⇒ n) ∷ []) ≡ firstRefusal (rs ++ (y ⇒ n) ∷ [])
+last-unasked [] true y n z o = absurd (o refl)
+last-unasked [] false y n z o = absurd (z refl)
+last-unasked (r ∷ rs) x y n z o = split _ (r .test)
+    (λ e. rw e)
+    (λ e. rw e (last-unasked rs x y n (rw e at z) (rw e at o)))
+
+-- where the last answers, or none, those before it do not hold
+pub clear-before : (rs : List Refusal) (x : Bool) (n : ℕ) → numbered rs ≡ true → without n rs ≡ true
+    → eqb (firstRefusal (rs ++ (x ⇒ n) ∷ [])) 0 || eqb (firstRefusal (rs ++ (x ⇒ n) ∷ [])) n ≡ true → Clear rs
+clear-before [] x n a b e = tt
+clear-before (r ∷ rs) x n a b e = split _ (r .test)
+    (λ t.
+    let some = lt-eqb (r .number) (ltb-true 0 (r .number) (and-left (ltb 0 (r .number)) (numbered rs) a)) in
+    let other = failed (eqb (r .number) n) (and-left (not (eqb (r .number) n)) (without n rs) b) in
+    both-ways (eqb (r .number) 0 || eqb (r .number) n) (rw t at e) (rw (some, other)))
+    (λ f. (f, clear-before rs x n (and-right (ltb 0 (r .number)) (numbered rs) a) (and-right (not (eqb (r .number) n)) (without n rs) b) (rw f at e)))
+  where
+    lt-eqb : (m : ℕ) → 0 < m → eqb m 0 ≡ false
+    lt-eqb m l = ne-eqb m 0 (λ e. omega arith)
+
+-- where none answers, the last does not hold
+pub last-clear : (rs : List Refusal) (x : Bool) (n : ℕ) → numbered (rs ++ (x ⇒ n) ∷ []) ≡ true → firstRefusal (rs ++ (x ⇒ n) ∷ []) ≡ 0 → x ≡ false
+last-clear rs x n a e = last-of rs (clear (rs ++ (x ⇒ n) ∷ []) a e)
+  where
+    last-of : (rs : List Refusal) → Clear (rs ++ (x ⇒ n) ∷ []) → x ≡ false
+    last-of [] c = c .0
+    last-of (r ∷ rs) c = last-of rs (c .1)
+
+-- the number that a call answers is its first refusal's
+pub error-is : (h : List ℕ) (s : State) (buffer : List ℕ) (k : Rule) → carriedOut h s buffer k .answered .error ≡ firstRefusal (k .refusals)
+unfolding carriedOut
+error-is h s buffer k = split _ (eqb (firstRefusal (k .refusals)) 0) (λ e. rw e (sym (eqb-true _ 0 e))) (λ e. rw e)
+
+-- a refusal changes nothing, and its answer and buffer hang on its number alone
+pub refuses : (h : List ℕ) (s : State) (buffer : List ℕ) (k : Rule) (n : ℕ) → firstRefusal (k .refusals) ≡ n → eqb n 0 ≡ false
+    → carriedOut h s buffer k ≡ record { answered = answer n 0 0; state = s; buffer = buffer }
+unfolding carriedOut
+refuses h s buffer k n e z = rw (e, z)
 
 -- ---- what two states show to the set, under one configuration h
 
@@ -111,12 +155,17 @@ module _ (h : List ℕ) (C : ℕ → Bool) where
       (λ e. let u = granted g (eqb-true _ 0 e) in rw e (hide-effect c (k .effects) cl out (u .0) (u .1) s z))
       (λ e. rw e (record { records = λ a v i. refl; stretches = λ f i x y w. refl }))
 
-  alike-done : {c d : ℕ} {e f : Effect} → Alike-effects h C e f → Ups h c (e .words) → Ups h d (f .words) → (s t : State) → Sized h s → Sized h t → AgreeAt h C s t
+  -- the same words and bytes, whatever the answers
+  pub same-done : (c : ℕ) (e f : Effect) → e .words ≡ f .words → e .bytes ≡ f .bytes → Ups h c (e .words) → (s t : State) → Sized h s → Sized h t → AgreeAt h C s t
       → AgreeAt h C (done s e) (done t f)
-  alike-done {e = e} (same-effect q) u w s t zs zt a = rw (← q) (record {
+  same-done c e f p q u s t zs zt a = rw (← p, ← q) (record {
     records = λ b v i. same-words (s .table) (t .table) (zs .words) (zt .words) u b v (a .records b v i);
     stretches = same-bytes (e .bytes) (s .store) (t .store) (zs .bytes ∙ sym (zt .bytes)) (a .stretches);
   })
+
+  alike-done : {c d : ℕ} {e f : Effect} → Alike-effects h C e f → Ups h c (e .words) → Ups h d (f .words) → (s t : State) → Sized h s → Sized h t → AgreeAt h C s t
+      → AgreeAt h C (done s e) (done t f)
+  alike-done {c} {e = e} {f = f} (same-effect q) u w s t zs zt a = same-done c e f (ap (λ (x : Effect). x .words) q) (ap (λ (x : Effect). x .bytes) q) u s t zs zt a
   alike-done (hidden o n) u w s t zs zt a = record {
     records = λ b v i. sym (hide-words (s .table) (zs .words) u o b v i) ∙ a .records b v i ∙ hide-words (t .table) (zt .words) w n b v i;
     stretches = a .stretches;

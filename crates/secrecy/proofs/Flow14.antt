@@ -28,7 +28,7 @@ written-own : {h : List ℕ} {p : ℕ} {r : Addr → ℕ} → View.Here h p r �
 written-own {h} {p} {r} v w d l n m =
     View.entry-at h r w p file d (v .there) tt l .writes-own (eqb-false (r (at process p (heldAt file d))) 0 n) (passed (writes (r (at process p (usedAt file d)))) m)
 
-size-fits : {h : List ℕ} {p : ℕ} {r : Addr → ℕ} → View.Here h p r → Holds (recordsOk h r) → (s : ℕ) → indexOf s < slots h file → not (present r file s) ≡ false
+pub size-fits : {h : List ℕ} {p : ℕ} {r : Addr → ℕ} → View.Here h p r → Holds (recordsOk h r) → (s : ℕ) → indexOf s < slots h file → not (present r file s) ≡ false
     → r (at file (indexOf s) size) ≤ blocks h
 size-fits {h} {p} {r} v w s l e = file-record h r w (indexOf s) l .alive (is-present r file s (passed (present r file s) e) .is-live) .size-fits
 

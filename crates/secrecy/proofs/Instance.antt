@@ -10,7 +10,7 @@ use borrow.Author.Tests.{ltb-true}
 use Rattle.rules.specs.Words.{allBelow, someBelow, sumBelow, countBelow, lowest, orRather, least, tabFrom, part}
 use Rattle.rules.specs.Claim.{test}
 use Rattle.rules.specs.Level.{within, equals, flowsTo}
-use Rattle.rules.specs.Layout.{Kind, process, file, recordWords, live, serial, owner, bits, links, size, cells, slots, blocks, cellWord, levelOf, configuration, firstSlot, cellOf, flows, at, rd}
+use Rattle.rules.specs.Layout.{Kind, process, file, recordWords, live, serial, owner, bits, links, size, cells, slots, blocks, guard, cellWord, levelOf, configuration, firstSlot, cellOf, flows, at, rd}
 use Rattle.rules.specs.Seid.{seid, classOf, indexOf, serialOf, isSeid, seidAt, orSelf, present}
 use Rattle.rules.specs.Modes.{validModes, reads, writes, excludesReaders, excludesWriters, clash}
 use Rattle.rules.specs.Rights.{rights, mayRead, mayWrite, lacks, asksRead, asksWrite, validAccess, access}
@@ -31,11 +31,11 @@ use Rattle.secrecy.proofs.CellFlow.{flows-trans}
 use Rattle.secrecy.proofs.Shown.{Up, Ups, UpBytes}
 use Rattle.secrecy.proofs.Apply.{Sized, hide-effect}
 use Rattle.secrecy.proofs.Steps.{from-configuration}
-use Rattle.secrecy.proofs.Demand3.{one-observer}
+use Rattle.secrecy.proofs.Demand3.{no-guard}
 
 -- the rules' definitions that the examples compute with: to open this is to open them
 unfoldable pub open-rules : Unit {0}
-unfolding freshTable firstProcesses allBelow someBelow sumBelow countBelow lowest orRather least tabFrom part within equals flowsTo cells slots blocks cellWord levelOf configuration firstSlot cellOf flows rd seid classOf indexOf serialOf isSeid seidAt orSelf present validModes reads writes excludesReaders excludesWriters clash rights mayRead mayWrite lacks asksRead asksWrite validAccess access headerOk cellOk levelsDistinct sumsMatch configured lengthsExact recordOk heldOk currentOk entryOk parentOk heldOnce messageOk pageOk processOk ownEntry ownEntries segmentSize segmentOk fileOk recordsOk wellFormed rightsAt freeSlot freeEntry zeros oneLess pageLeft pagesSet emptied givenUp create clashesAt clashes openFile close block readBlock ruleOf badCaller badCode carriedOut wholeRule step reply stays remaining replies
+unfolding freshTable firstProcesses allBelow someBelow sumBelow countBelow lowest orRather least tabFrom part within equals flowsTo cells slots blocks guard cellWord levelOf configuration firstSlot cellOf flows rd seid classOf indexOf serialOf isSeid seidAt orSelf present validModes reads writes excludesReaders excludesWriters clash rights mayRead mayWrite lacks asksRead asksWrite validAccess access headerOk cellOk levelsDistinct sumsMatch configured lengthsExact recordOk heldOk currentOk entryOk parentOk heldOnce messageOk pageOk processOk ownEntry ownEntries segmentSize segmentOk fileOk recordsOk wellFormed rightsAt freeSlot freeEntry zeros oneLess pageLeft pagesSet emptied givenUp create clashesAt clashes openFile close block readBlock ruleOf badCaller badCode carriedOut wholeRule step reply stays remaining replies
 open-rules = tt
 
 -- "Two cells, security 1 and 3, integrity, compartments, owner and group 0, two process and two file slots each, no segment slots, B 1."
@@ -114,7 +114,7 @@ other-configuration : configuration (other .table) ≡ hall
 unfolding other secret hall fresh open-rules
 other-configuration = refl
 
-low-closed : Closed hall (observer hall 0)
+pub low-closed : Closed hall (observer hall 0)
 low-closed c d f g = flows-trans hall c d 0 f g
 
 -- the high cell does not flow to the observer, and what differs lies in it
@@ -147,6 +147,11 @@ pub same-remaining : remaining hall (observer hall 0) listing ≡ remaining hall
 unfolding listing others hall open-rules
 same-remaining = refl
 
+-- the hall has no guard cell, so nothing more is asked of the calls
+pub unguarded : guard hall ≡ 0
+unfolding hall guard
+unguarded = refl
+
 -- Demand 3 at work: the low caller of 01's listing gets the same answers whatever stands and happens in the high cell.
 pub at-work : (replies hall (observer hall 0) fresh listing ≡ replies hall (observer hall 0) other others) × Agree (observer hall 0) (run fresh listing) (run other others)
-at-work = (rw fresh-configuration at (one-observer 0 fresh other fresh-formed other-formed)) agreed listing others same-remaining
+at-work = (rw fresh-configuration at (no-guard (observer hall 0) fresh other fresh-formed other-formed)) low-closed agreed listing others same-remaining unguarded

@@ -25,11 +25,16 @@ pub mod Flow17
 pub mod Flow18
 pub mod Flow19
 pub mod Flow20
+pub mod Flow21
 pub mod Apply
 pub mod Steps
 pub mod Runs
+pub mod Regrades
 pub mod Demand3
+pub mod TrayRegrades
 pub mod Tray
 pub mod AfterSetUp
 pub mod Instance
 pub mod TrayInstance
+pub mod Desk
+pub mod TrayDesk

@@ -6,32 +6,44 @@
 -- (`SameParts`); in each run these parts lie apart from those of the records struck out (`Apart`). Then the remaining records get the same answers, their parts
 -- hold the same bytes at the end, and the states agree (`SameTrays`).
 --
+-- Regrades, call 21, add to the premises what CR 9 asks of runs (Demand3), record by record (rules/specs/TrayRegrade): `as-asked` says it so, `two-trays` asks for less, and
+-- where no record is a regrade, or there is no guard, nothing more is asked (`no-regrades`, `no-guard`).
+--
 -- It is the two-run theorem (Unwind) of a machine that holds a state and a byte slice and takes one record after the other.
 use mathlib.Core.Path.{_≡_, refl, sym, ap, ap₂, _∙_}
 use mathlib.Core.Bool.{Bool, true, false, cond, _&&_, _||_, not}
 use mathlib.Core.Option.{Option, none, some}
-use mathlib.Core.List.{List, [], _∷_}
+use mathlib.Core.List.{List, [], _∷_, _++_}
 use Prim.Native.Nat.{ℕ, _+_, _≤_, _<_}
 use native.Mathlib.Omega.{arith}
 use lib.Dec.{leb, ltb}
 use lib.ListN.{length, getD}
 use lib.Seq.{sets, length-sets}
 use borrow.Author.Tests.{leb-true, le-leb, lt-ltb}
-use Rattle.rules.specs.Layout.{configuration, rd}
+use Rattle.rules.specs.Layout.{configuration, guard, rd}
+use Rattle.rules.specs.Copy.{Copy}
+use Rattle.rules.specs.Call21.{carried}
 use Rattle.rules.specs.Rule.{firstRefusal}
 use Rattle.rules.specs.Step.{State, Call, Answer, answer, Outcome, Reply, badCaller, badCode, step, next, reply}
 use Rattle.rules.specs.Observer.{observer, Closed, Agree, stays}
 use Rattle.rules.specs.Tray.{Record, partOf, callIn, inside, recordRule, recordStep, withAnswer, Tray, inOrder, mostRecords, afterTray, staysIn, remainingIn, asked, within, seen, hidden, Apart, SameParts}
+use Rattle.rules.specs.Regrade.{into, accepted, Event, remains, brings, withoutRefused, guardWithin, NamesNone, asks}
+use Rattle.rules.specs.TrayRegrade.{callsIn, acceptedIn, eventIn, eventsIn, asksIn, AsksNoneIn}
 use Rattle.laws.proofs.Tests.{and-left, and-right, and-both, or-by-left, or-by-right, not-of, both-ways, refuted, split, cond-true, cond-false}
 use Rattle.laws.proofs.Stored.{sets-out, sets-both}
+use Rattle.laws.proofs.Written.{AllOf}
 use Rattle.laws.proofs.Parts.{part-short, same-part, sets-part}
 use Rattle.kept.proofs.Kept.{Well}
 use Rattle.kept.proofs.Recorded.{outsideNumber, inside-is-step, outside-is-refused, record-kept, record-conf-kept}
 use Rattle.promises.proofs.Tray.{tray-runs, buffer-fits, tray-conf-kept}
 use Rattle.secrecy.proofs.CellFlow.{flows-trans}
-use Rattle.secrecy.proofs.Unwind.{push, pushed, runs, trace, views, Unwinds, two-runs}
+use Rattle.secrecy.proofs.Unwind.{push, pushed, runs, trace, views, Along, Unwinds, two-runs}
 use Rattle.secrecy.proofs.Apply.{AgreeAt, agree-sym, agree-trans}
-use Rattle.secrecy.proofs.Steps.{WellUnder, at-configuration, from-configuration, struck-out, same-caller, remains}
+use Rattle.secrecy.proofs.Steps as steps
+use Rattle.secrecy.proofs.Steps.{WellUnder, at-configuration, from-configuration, struck-out, both-bring, same-caller}
+use Rattle.secrecy.proofs.Runs.{label-if, none-struck, Labelled, a-call, a-copy, labelled, pushed-if, view-if, given, given-if}
+use Rattle.secrecy.proofs.Regrades.{calls, NoRegrade, quiet-other, Guarded, quiet-guarded, all-calls, guarded-none, guarded-within, none-within}
+use Rattle.secrecy.proofs.TrayRegrades.{accepted-inside, accepted-outside, asks-inside, inside-of, well-after, names-none-in, only-records, other-asks-none-in}
 
 -- what a record asks
 abbrev ask : Record → Record
@@ -70,24 +82,22 @@ module _ (h : List ℕ) (C : ℕ → Bool) (P : ℕ → Bool) where
   abbrev after : Hall → Placed → Hall
   after m k = onward m (k .it)
 
-  abbrev view : Hall → Placed → Record
-  view m k = withAnswer (k .it) (out m (k .it) .answered)
+  -- what is told of a record, as of a call (Runs): what it asks where it remains, and what it brings into the set where it is struck out
+  abbrev copied : Hall → Record → Copy
+  copied m r = carried h (rd h (m .state .table)) (m .state .store) (r .caller) (r .a) (r .b) (r .c) (partOf (m .bytes) r)
 
-  label-if : Bool → Record → Option Record
-  label-if b r = cond b (some r) none
+  abbrev brought : Hall → Record → Bool
+  brought m r = into h C (callIn (m .bytes) r) && acceptedIn (m .state) (m .bytes) r
 
-  label : Hall → Placed → Option Record
-  label m k = label-if (staysIn h C (k .it)) (ask (k .it))
+  label : Hall → Placed → Option (Event Record)
+  label m k = label-if (staysIn h C (k .it)) (brought m (k .it)) (ask (k .it)) (copied m (k .it))
 
-  none-struck : (b : Bool) (r : Record) → label-if b r ≡ none → b ≡ false
-  unfolding label-if
-  none-struck true r e = cc
-  none-struck false r e = refl
+  view : Hall → Placed → Option Record
+  view m k = view-if (staysIn h C (k .it)) (withAnswer (k .it) (out m (k .it) .answered))
 
-  some-stays : (b : Bool) (r l : Record) → label-if b r ≡ some l → (b ≡ true) × (r ≡ l)
-  unfolding label-if
-  some-stays true r l e = (refl, cc)
-  some-stays false r l e = (cc, cc)
+  -- a remaining record asks about no cell outside the set
+  abbrev Allowed : Hall → Placed → Type 0
+  Allowed m k = staysIn h C (k .it) ≡ true → asksIn (m .state) (m .bytes) (k .it) ≡ true → C (k .it .b) ≡ true
 
   -- a byte of a part
   is-within : (r : Record) (i : ℕ) → r .offset ≤ i → i < r .offset + r .length → within r i ≡ true
@@ -112,27 +122,58 @@ module _ (h : List ℕ) (C : ℕ → Bool) (P : ℕ → Bool) where
   look-same : (m n : Hall) → m ≡ n → Look m n
   look-same m n e = rw (← e) (record { states = record { records = λ a v i. refl; stretches = λ f i x y w. refl }; long = refl; same = λ i p. refl })
 
-  struck : (m : Hall) (k : Placed) → WellUnder h (m .state) → Closed h C → staysIn h C (k .it) ≡ false → Look m (after m k)
+  -- a struck-out record whose part lies inside leaves the bytes in P as they were
+  apart-same : (m : Hall) (k : Placed) → WellUnder h (m .state) → staysIn h C (k .it) ≡ false → inside (m .bytes) (k .it) ≡ true
+      → (i : ℕ) → P i ≡ true → getD (m .bytes) i 0 ≡ getD (after m k .bytes) i 0
+  apart-same m k f e t i q =
+      let r = k .it in
+      let c : Call = callIn (m .bytes) r in
+      let b = buffer-fits (m .state) c in
+      let p = part-short (m .bytes) (r .offset) (r .length) in
+      sym (ap (λ (y : Outcome). getD (sets (m .bytes) (r .offset) (y .buffer)) i 0) (inside-is-step (m .state) (m .bytes) r (f .formed) t)
+      ∙ sets-out (step (m .state) c .buffer) (m .bytes) (r .offset) i
+      (λ a l. both-ways (P i) q (k .apart e i (is-within r i a (omega arith)))))
+
+  struck : (m : Hall) (k : Placed) → WellUnder h (m .state) → Closed h C → staysIn h C (k .it) ≡ false → brought m (k .it) ≡ false → Look m (after m k)
   unfolding stays
-  struck m k f cl e =
+  struck m k f cl e n =
       let r = k .it in
       let c : Call = callIn (m .bytes) r in
       split _ (inside (m .bytes) r)
       (λ t.
       let o = inside-is-step (m .state) (m .bytes) r (f .formed) t in
-      let b = buffer-fits (m .state) c in
-      let p = part-short (m .bytes) (r .offset) (r .length) in
+      let unbrought : into h C c && accepted (m .state) c ≡ false = rw (accepted-inside h (m .state) f (m .bytes) r t) at n in
       record {
-        states = rw o (struck-out h (m .state) f c C cl e);
+        states = rw o (struck-out h C cl (m .state) f c e unbrought);
         long = sym (length-sets (m .bytes) (r .offset) (out m r .buffer));
-        same = λ i q. sym (ap (λ (y : Outcome). getD (sets (m .bytes) (r .offset) (y .buffer)) i 0) o
-            ∙ sets-out (step (m .state) c .buffer) (m .bytes) (r .offset) i
-            (λ a l. both-ways (P i) q (k .apart e i (is-within r i a (omega arith)))));
+        same = apart-same m k f e t;
       })
       (λ t. look-same m (after m k) (sym (outside-same m r t)))
 
+  -- two struck-out records that bring the same
+  is-inside : (m : Hall) (r : Record) → WellUnder h (m .state) → brought m r ≡ true → inside (m .bytes) r ≡ true
+  is-inside m r f e =
+      inside-of h (m .state) f (m .bytes) r (acceptedIn (m .state) (m .bytes) r) (accepted-outside h (m .state) f (m .bytes) r)
+      (and-right (into h C (callIn (m .bytes) r)) (acceptedIn (m .state) (m .bytes) r) e)
+
+  as-call : (m : Hall) (r : Record) → WellUnder h (m .state) → brought m r ≡ true → into h C (callIn (m .bytes) r) && accepted (m .state) (callIn (m .bytes) r) ≡ true
+  as-call m r f e = rw (accepted-inside h (m .state) f (m .bytes) r (is-inside m r f e)) at e
+
+  bring-alike : (m n : Hall) → WellUnder h (m .state) → WellUnder h (n .state) → Look m n → (k j : Placed) → staysIn h C (k .it) ≡ false → staysIn h C (j .it) ≡ false
+      → brought m (k .it) ≡ true → brought n (j .it) ≡ true → copied m (k .it) ≡ copied n (j .it) → Look (after m k) (after n j)
+  bring-alike m n f g a k j x y p q e =
+      let t = is-inside m (k .it) f p in
+      let u = is-inside n (j .it) g q in
+      let s : AgreeAt h C (step (m .state) (callIn (m .bytes) (k .it)) .state) (step (n .state) (callIn (n .bytes) (j .it)) .state) =
+      both-bring h C (m .state) (n .state) f g (a .states) (callIn (m .bytes) (k .it)) (callIn (n .bytes) (j .it)) (as-call m (k .it) f p) (as-call n (j .it) g q) e in
+      record {
+        states = rw (inside-is-step (m .state) (m .bytes) (k .it) (f .formed) t, inside-is-step (n .state) (n .bytes) (j .it) (g .formed) u) s;
+        long = length-sets (m .bytes) (k .it .offset) (out m (k .it) .buffer) ∙ a .long ∙ sym (length-sets (n .bytes) (j .it .offset) (out n (j .it) .buffer));
+        same = λ i w. sym (apart-same m k f x t i w) ∙ a .same i w ∙ apart-same n j g y u i w;
+      }
+
   module _ (cl : Closed h C) (m n : Hall) (f : WellUnder h (m .state)) (g : WellUnder h (n .state)) (a : Look m n) (r : Record)
-      (stay : staysIn h C r ≡ true) (covered : (i : ℕ) → within r i ≡ true → P i ≡ true) where
+      (stay : staysIn h C r ≡ true) (ok : asksIn (m .state) (m .bytes) r ≡ true → C (r .b) ≡ true) (covered : (i : ℕ) → within r i ≡ true → P i ≡ true) where
     abbrev Alike : Type 0
     Alike = (out m r .answered ≡ out n r .answered) × Look (onward m r) (onward n r)
 
@@ -155,7 +196,7 @@ module _ (h : List ℕ) (C : ℕ → Bool) (P : ℕ → Bool) where
         let x = inside-is-step (m .state) (m .bytes) r (f .formed) t in
         let y : out n r ≡ step (n .state) c =
         inside-is-step (n .state) (n .bytes) r (g .formed) (sym same-inside ∙ t) ∙ ap (step (n .state)) (sym (same-call t)) in
-        let z = remains h C cl (m .state) (n .state) f g (a .states) c stay in
+        let z = steps.remains h C cl (m .state) (n .state) f g (a .states) c stay (λ e. ok (asks-inside h (m .state) f (m .bytes) r t ∙ e)) in
         let buffers : out m r .buffer ≡ out n r .buffer = ap (λ (y : Outcome). y .buffer) x ∙ ap (λ (y : Reply). y .buffer) (z .0) ∙ sym (ap (λ (y : Outcome). y .buffer) y) in (
           ap (λ (y : Outcome). y .answered) x ∙ ap (λ (y : Reply). y .answered) (z .0) ∙ sym (ap (λ (y : Outcome). y .answered) y),
           record {
@@ -185,7 +226,28 @@ module _ (h : List ℕ) (C : ℕ → Bool) (P : ℕ → Bool) where
 
   -- ---- the machine unwinds
 
-  unwinds : Closed h C → Unwinds after label view (λ m. WellUnder h (m .state)) Look
+  both : Closed h C → (m n : Hall) (k j : Placed) (l : Event Record) → WellUnder h (m .state) → WellUnder h (n .state) → Look m n → Allowed m k
+      → Labelled (staysIn h C (k .it)) (brought m (k .it)) (ask (k .it)) (copied m (k .it)) l
+      → Labelled (staysIn h C (j .it)) (brought n (j .it)) (ask (j .it)) (copied n (j .it)) l
+      → (view m k ≡ view n j) × Look (after m k) (after n j)
+  unfolding view view-if
+  both cl m n k j l f g a ok (a-call b e) (a-call d i) =
+      let same : ask (j .it) ≡ ask (k .it) = cc in
+      let one = remains-alike cl m n f g a (k .it) b (ok b) (k .covered b) in
+      let stepped : out n (k .it) ≡ out n (j .it) =
+      same-step (n .state) (n .bytes) (k .it) ∙ ap (out n) (sym same) ∙ sym (same-step (n .state) (n .bytes) (j .it)) in
+      let ends : onward n (k .it) ≡ onward n (j .it) =
+      ap₂ (λ (o : Outcome) (at : ℕ). record { state = o .state; bytes = sets (n .bytes) at (o .buffer) }) stepped (ap (λ (r : Record). r .offset) (sym same)) in (
+        ap₂ view-if (b ∙ sym d) (ap₂ withAnswer (sym same) (one .0 ∙ ap (λ (o : Outcome). o .answered) stepped)),
+        rw (← ends) (one .1),
+      )
+  both cl m n k j l f g a ok (a-copy b c e) (a-copy d w i) =
+      let same : copied m (k .it) ≡ copied n (j .it) = cc in
+      (rw (b, d), bring-alike m n f g a k j b d c w same)
+  both cl m n k j l f g a ok (a-call b e) (a-copy d w i) = let z : _≡_ {A = ℕ} 0 1 = cc in absurd (omega arith)
+  both cl m n k j l f g a ok (a-copy b c e) (a-call d i) = let z : _≡_ {A = ℕ} 0 1 = cc in absurd (omega arith)
+
+  unwinds : Closed h C → Unwinds after label view Allowed (λ m. WellUnder h (m .state)) Look
   unfolding label
   unwinds cl = record {
     sym~ = λ m n a. record { states = agree-sym h C (m .state) (n .state) (a .states); long = sym (a .long); same = λ i p. sym (a .same i p) };
@@ -194,23 +256,9 @@ module _ (h : List ℕ) (C : ℕ → Bool) (P : ℕ → Bool) where
       long = a .long ∙ b .long;
       same = λ i p. a .same i p ∙ b .same i p;
     };
-    keep = λ m k f. record {
-      formed = record-kept (m .state) (m .bytes) (k .it) (f .formed);
-      configured = record-conf-kept (m .state) (m .bytes) (k .it) (f .formed) ∙ f .configured;
-    };
-    silent = λ m k f e. struck m k f cl (none-struck (staysIn h C (k .it)) (ask (k .it)) e);
-    alike = λ m n k j l f g a e d.
-        let x = some-stays (staysIn h C (k .it)) (ask (k .it)) l e in
-        let y = some-stays (staysIn h C (j .it)) (ask (j .it)) l d in
-        let same : ask (j .it) ≡ ask (k .it) = y .1 ∙ sym (x .1) in
-        let both = remains-alike cl m n f g a (k .it) (x .0) (k .covered (x .0)) in
-        let steps : out n (k .it) ≡ out n (j .it) =
-        same-step (n .state) (n .bytes) (k .it) ∙ ap (out n) (sym same) ∙ sym (same-step (n .state) (n .bytes) (j .it)) in
-        let ends : onward n (k .it) ≡ onward n (j .it) =
-        ap₂ (λ (o : Outcome) (at : ℕ). record { state = o .state; bytes = sets (n .bytes) at (o .buffer) }) steps (ap (λ (r : Record). r .offset) (sym same)) in (
-          ap₂ withAnswer (sym same) (both .0 ∙ ap (λ (o : Outcome). o .answered) steps),
-          rw (← ends) (both .1),
-        );
+    keep = λ m k f. well-after h (m .state) f (m .bytes) (k .it);
+    silent = λ m k f e. let n = none-struck (staysIn h C (k .it)) (brought m (k .it)) (ask (k .it)) (copied m (k .it)) e in struck m k f cl (n .0) (n .1);
+    alike = λ m n k j l f g a e d ok. both cl m n k j l f g a ok (labelled _ _ (ask (k .it)) _ l e) (labelled _ _ (ask (j .it)) _ l d);
   }
 
   -- ---- a tray is a run of it
@@ -228,27 +276,26 @@ module _ (h : List ℕ) (C : ℕ → Bool) (P : ℕ → Bool) where
       ∷ placed rs (λ i e. sub i (or-by-right (staysIn h C r && within r i) (seen h C rs i) e))
       (λ i e. dis i (or-by-right (not (staysIn h C r) && within r i) (hidden h C rs i) e))
 
-  pushed-if : (b : Bool) (r : Record) (ls : List Record) → pushed (label-if b r) ls ≡ cond b (r ∷ ls) ls
-  unfolding label-if
-  pushed-if true r ls = refl
-  pushed-if false r ls = refl
-
-  push-if : (b : Bool) (r v : Record) (vs : List Record) → push (label-if b r) v vs ≡ cond b (v ∷ vs) vs
-  unfolding label-if
-  push-if true r v vs = refl
-  push-if false r v vs = refl
-
   trace-is : (rs : List Record) (sub : (i : ℕ) → seen h C rs i ≡ true → P i ≡ true) (dis : (i : ℕ) → hidden h C rs i ≡ true → P i ≡ false) (m : Hall)
-      → trace after label m (placed rs sub dis) ≡ remainingIn h C (asked rs)
-  unfolding placed label remainingIn asked
+      → trace after label m (placed rs sub dis) ≡ withoutRefused (eventsIn h C (m .state) (m .bytes) rs)
+  unfolding placed label eventsIn eventIn withoutRefused
   trace-is [] sub dis m = refl
-  trace-is (r ∷ rs) sub dis m = pushed-if (staysIn h C r) (ask r) _ ∙ rw (trace-is rs _ _ (onward m r)) refl
+  trace-is (r ∷ rs) sub dis m =
+      rw (trace-is rs _ _ (onward m r)) (pushed-if (staysIn h C r) (into h C (callIn (m .bytes) r)) (acceptedIn (m .state) (m .bytes) r) (ask r) (copied m r)
+      (eventsIn h C (onward m r .state) (onward m r .bytes) rs))
 
   views-is : (rs : List Record) (sub : (i : ℕ) → seen h C rs i ≡ true → P i ≡ true) (dis : (i : ℕ) → hidden h C rs i ≡ true → P i ≡ false) (m : Hall)
-      → views after label view m (placed rs sub dis) ≡ remainingIn h C (inOrder (m .state) (m .bytes) rs .records)
-  unfolding placed label remainingIn inOrder
+      → given (views after label view m (placed rs sub dis)) ≡ remainingIn h C (inOrder (m .state) (m .bytes) rs .records)
+  unfolding placed label view given remainingIn inOrder
   views-is [] sub dis m = refl
-  views-is (r ∷ rs) sub dis m = push-if (staysIn h C r) (ask r) (withAnswer r (out m r .answered)) _ ∙ rw (views-is rs _ _ (onward m r)) refl
+  views-is (r ∷ rs) sub dis m =
+      given-if (staysIn h C r) (brought m r) (ask r) (copied m r) (withAnswer r (out m r .answered)) _ ∙ rw (views-is rs _ _ (onward m r))
+
+  along-is : (rs : List Record) (sub : (i : ℕ) → seen h C rs i ≡ true → P i ≡ true) (dis : (i : ℕ) → hidden h C rs i ≡ true → P i ≡ false) (m : Hall)
+      → AsksNoneIn h C (m .state) (m .bytes) rs → Along after Allowed m (placed rs sub dis)
+  unfolding placed AsksNoneIn
+  along-is [] sub dis m a = tt
+  along-is (r ∷ rs) sub dis m a = (a .0, along-is rs _ _ (onward m r) (a .1))
 
   runs-is : (rs : List Record) (sub : (i : ℕ) → seen h C rs i ≡ true → P i ≡ true) (dis : (i : ℕ) → hidden h C rs i ≡ true → P i ≡ false) (m : Hall)
       → runs after m (placed rs sub dis) ≡ record { state = inOrder (m .state) (m .bytes) rs .state; bytes = inOrder (m .state) (m .bytes) rs .bytes }
@@ -291,8 +338,10 @@ pub record Premises (h : List ℕ) (C : ℕ → Bool) (rs qs : List Record) (x y
   pub apart′ : Apart h C qs
 
 pub two-trays : (C : ℕ → Bool) (s t : State) → Well s → Well t → let h : List ℕ = configuration (s .table) in Closed h C → Agree C s t
-    → (rs qs : List Record) (x y : List ℕ) → Premises h C rs qs x y → SameTrays h C rs (afterTray s x rs) (afterTray t y qs)
-two-trays C s t ws wt cl a rs qs x y p =
+    → (rs qs : List Record) (x y : List ℕ) → Premises h C rs qs x y
+    → withoutRefused (eventsIn h C s x rs) ≡ withoutRefused (eventsIn h C t y qs) → AsksNoneIn h C s x rs
+    → SameTrays h C rs (afterTray s x rs) (afterTray t y qs)
+two-trays C s t ws wt cl a rs qs x y p told unasked =
     let h : List ℕ = configuration (s .table) in
     let ask-same = p .asked-same in
     let P : ℕ → Bool = seen h C rs in
@@ -306,23 +355,72 @@ two-trays C s t ws wt cl a rs qs x y p =
     let ks = placed h C P rs sub-rs dis-rs in
     let js = placed h C P qs sub-qs dis-qs in
     let look : Look h C P m n = record { states = at-configuration h C s t refl a; long = p .long; same = p .equal } in
-    let z = two-runs (after h C P) (label h C P) (view h C P) (λ m. WellUnder h (m .state)) (Look h C P) (unwinds h C P cl) ks js m n
+    let z = two-runs (after h C P) (label h C P) (view h C P) (Allowed h C P) (λ m. WellUnder h (m .state)) (Look h C P) (unwinds h C P cl) ks js m n
     (record { formed = ws; configured = refl }) (record { formed = wt; configured = sym (a .configurations) }) look
-    (trace-is h C P rs sub-rs dis-rs m ∙ ask-same ∙ sym (trace-is h C P qs sub-qs dis-qs n)) in
+    (along-is h C P rs sub-rs dis-rs m unasked) (trace-is h C P rs sub-rs dis-rs m ∙ told ∙ sym (trace-is h C P qs sub-qs dis-qs n)) in
     let left = tray-runs s x rs ws (p .short) in
     let right = tray-runs t y qs wt (p .short′) in
     let ended : Look h C P (record { state = inOrder s x rs .state; bytes = inOrder s x rs .bytes }) (record { state = inOrder t y qs .state; bytes = inOrder t y qs .bytes })
     = rw (runs-is h C P rs sub-rs dis-rs m, runs-is h C P qs sub-qs dis-qs n) at (z .1) in
     record {
       answers =
-          ap (λ (w : Tray). remainingIn h C (w .records)) left ∙ sym (views-is h C P rs sub-rs dis-rs m) ∙ z .0 ∙ views-is h C P qs sub-qs dis-qs n
+          ap (λ (w : Tray). remainingIn h C (w .records)) left ∙ sym (views-is h C P rs sub-rs dis-rs m) ∙ ap given (z .0) ∙ views-is h C P qs sub-qs dis-qs n
           ∙ sym (ap (λ (w : Tray). remainingIn h C (w .records)) right);
       parts = λ i e. ap (λ (w : Tray). getD (w .bytes) i 0) left ∙ ended .same i e ∙ sym (ap (λ (w : Tray). getD (w .bytes) i 0) right);
       states = from-configuration h C (afterTray s x rs .state) (afterTray t y qs .state) (tray-conf-kept s x rs ws) (tray-conf-kept t y qs wt ∙ sym (a .configurations))
           (rw (left, right) (ended .states));
     }
 
+-- ---- as CR 9 and CR 14 say it
+
+pub as-asked : (C : ℕ → Bool) (s t : State) → Well s → Well t → let h : List ℕ = configuration (s .table) in Closed h C → Agree C s t
+    → (rs qs : List Record) (x y : List ℕ) → Premises h C rs qs x y → eventsIn h C s x rs ≡ eventsIn h C t y qs → (guardWithin h C ≡ true → NamesNone h C (callsIn rs))
+    → SameTrays h C rs (afterTray s x rs) (afterTray t y qs)
+as-asked C s t ws wt cl a rs qs x y p e n =
+    two-trays C s t ws wt cl a rs qs x y p (ap withoutRefused e) (names-none-in (configuration (s .table)) C rs s x (record { formed = ws; configured = refl }) n)
+
 -- one observer, a cell o: the set of the cells that flow to it
 pub one-observer : (o : ℕ) (s t : State) → Well s → Well t → let h : List ℕ = configuration (s .table) in let C : ℕ → Bool = observer h o in Agree C s t
-    → (rs qs : List Record) (x y : List ℕ) → Premises h C rs qs x y → SameTrays h C rs (afterTray s x rs) (afterTray t y qs)
-one-observer o s t ws wt = two-trays (observer (configuration (s .table)) o) s t ws wt (λ c d f g. flows-trans (configuration (s .table)) c d o f g)
+    → (rs qs : List Record) (x y : List ℕ) → Premises h C rs qs x y → eventsIn h C s x rs ≡ eventsIn h C t y qs → (guardWithin h C ≡ true → NamesNone h C (callsIn rs))
+    → SameTrays h C rs (afterTray s x rs) (afterTray t y qs)
+one-observer o s t ws wt = as-asked (observer (configuration (s .table)) o) s t ws wt (λ c d f g. flows-trans (configuration (s .table)) c d o f g)
+
+-- ---- where CR 3's premises are enough
+
+module _ (C : ℕ → Bool) (s t : State) (ws : Well s) (wt : Well t) (cl : Closed (configuration (s .table)) C) (a : Agree C s t) (rs qs : List Record) (x y : List ℕ)
+    (p : Premises (configuration (s .table)) C rs qs x y) where
+  abbrev h : List ℕ
+  h = configuration (s .table)
+
+  left : WellUnder h s
+  left = record { formed = ws; configured = refl }
+
+  right : WellUnder h t
+  right = record { formed = wt; configured = sym (a .configurations) }
+
+  -- P is known of each record's call, and makes it quiet where it is struck out
+  quietly : (P : Call → Type 0) → ((s : State) (bytes : List ℕ) (r : Record) → WellUnder h s → P (callIn [] r) → stays h C (callIn bytes r) ≡ false
+      → into h C (callIn bytes r) && accepted s (callIn bytes r) ≡ false) → AllOf P (callsIn rs) → AllOf P (callsIn qs) → AsksNoneIn h C s x rs
+      → SameTrays h C rs (afterTray s x rs) (afterTray t y qs)
+  quietly P quiet n m unasked = two-trays C s t ws wt cl a rs qs x y p
+      (only-records h C P quiet rs s x left n ∙ ap calls (p .asked-same) ∙ sym (only-records h C P quiet qs t y right m)) unasked
+
+  -- demand 3 of trays as it was: no record of either is a regrade
+  pub no-regrades : AllOf NoRegrade (callsIn rs) → AllOf NoRegrade (callsIn qs) → SameTrays h C rs (afterTray s x rs) (afterTray t y qs)
+  no-regrades n m = quietly NoRegrade (λ s bytes r f q o. quiet-other h C s (callIn bytes r) f q o) n m (other-asks-none-in h C rs s x n)
+
+  guarded : Guarded h C → AsksNoneIn h C s x rs → SameTrays h C rs (afterTray s x rs) (afterTray t y qs)
+  guarded g = quietly (λ k. Unit {0}) (λ s bytes r f q o. quiet-guarded h C g s (callIn bytes r) f q o) (all-calls (callsIn rs)) (all-calls (callsIn qs))
+
+  -- or there is no guard cell, whatever the records
+  pub no-guard : guard h ≡ 0 → SameTrays h C rs (afterTray s x rs) (afterTray t y qs)
+  no-guard z = guarded (guarded-none h C z) (names-none-in h C rs s x left (λ w. both-ways (guardWithin h C) w (none-within h C z)))
+
+  -- "Observers above or equal to the guard get demand 3 only where no regrade asks about a cell that doesn't flow to them."
+  pub above-guard : guardWithin h C ≡ true → AsksNoneIn h C s x rs → SameTrays h C rs (afterTray s x rs) (afterTray t y qs)
+  above-guard w = guarded (guarded-within h C w)
+
+  -- observers that the guard does not flow to: the premise on struck-out regrades is all
+  pub below-guard : guardWithin h C ≡ false → withoutRefused (eventsIn h C s x rs) ≡ withoutRefused (eventsIn h C t y qs)
+      → SameTrays h C rs (afterTray s x rs) (afterTray t y qs)
+  below-guard w told = two-trays C s t ws wt cl a rs qs x y p told (names-none-in h C rs s x left (λ v. both-ways (guardWithin h C) v w))

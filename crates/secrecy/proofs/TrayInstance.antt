@@ -16,8 +16,8 @@ use Rattle.rules.specs.Observer.{observer}
 use Rattle.rules.specs.Tray.{Record, inside, recordRule, recordStep, Tray, inOrder, mostRecords, trayAnswer, afterTray, staysIn, remainingIn, asked, within, seen, hidden, Apart, SameParts}
 use Rattle.laws.proofs.Tests.{and-left, and-right, or-rest, both-ways, refuted, split, cond-true, cond-false, failed}
 use Rattle.laws.proofs.Below.{all-at}
-use Rattle.secrecy.proofs.Tray.{SameTrays, one-observer}
-use Rattle.secrecy.proofs.Instance.{open-rules, hall, fresh, other, fresh-formed, other-formed, fresh-configuration, agreed}
+use Rattle.secrecy.proofs.Tray.{SameTrays, no-guard}
+use Rattle.secrecy.proofs.Instance.{open-rules, hall, fresh, other, fresh-formed, other-formed, fresh-configuration, low-closed, agreed, unguarded}
 
 -- ---- parts that lie apart because a place divides them: the remaining ones end by it, and the struck-out ones begin at it
 
@@ -76,7 +76,7 @@ unfoldable pub bytes′ : List ℕ
 bytes′ = replicate 16 0 ++ replicate 16 7
 
 -- to open this is to open the rules' definitions that the trays compute with
-open-trays : Unit {0}
+unfoldable pub open-trays : Unit {0}
 unfolding open-rules status told inside recordRule recordStep inOrder trayAnswer afterTray remainingIn asked within seen hidden around
 open-trays = tt
 
@@ -113,7 +113,7 @@ night-short′ = leb-true 4 mostRecords refl
 
 -- Demand 3 at work: the low process gets the same answers, and its parts the same bytes, whatever stands and happens in the high cell.
 pub at-work : SameTrays hall low night (afterTray fresh bytes night) (afterTray other bytes′ night′)
-at-work = (rw fresh-configuration at (one-observer 0 fresh other fresh-formed other-formed)) agreed night night′ bytes bytes′ (record {
+at-work = (rw fresh-configuration at (no-guard low fresh other fresh-formed other-formed)) low-closed agreed night night′ bytes bytes′ (record {
   short = night-short;
   short′ = night-short′;
   asked-same = same-asked;
@@ -121,7 +121,7 @@ at-work = (rw fresh-configuration at (one-observer 0 fresh other fresh-formed ot
   equal = same-bytes;
   apart = night-apart;
   apart′ = night-apart′;
-})
+}) unguarded
 
 -- and what it gets: a file and its descriptor; and in its part the status of a process (class 4) of cell 0 at security 1, where the high one finds cell 1 and
 -- security 3 in its own
@@ -151,7 +151,7 @@ pub overlapping-tells : SameTrays hall low over (afterTray fresh bytes over) (af
 unfolding over alone hall fresh bytes open-trays
 overlapping-tells same = let e : _≡_ {A = ℕ} 1 0 = same .parts 1 refl in omega arith
 
-first-error : List Record → ℕ
+unfoldable pub first-error : List Record → ℕ
 first-error [] = 0
 first-error (r ∷ rs) = r .answer .error
 

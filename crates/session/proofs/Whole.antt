@@ -69,19 +69,18 @@ pub record Lent (t st l : List ℕ) : Type 0 where
 
 blank : (t : List ℕ) → mostWords ≤ length t → Roomy (blankTable t)
 blank t h =
-    let e = length-sets t headerNumbers (0 ∷ 0 ∷ 0 ∷ []) in
+    let e = length-sets t headerNumbers (0 ∷ 0 ∷ []) in
     record {
       room = omega arith;
-      zero5 = getD-set-other (set (set t 5 0) 6 0) 7 5 0 0 (λ z. omega arith) ∙ getD-set-other (set t 5 0) 6 5 0 0 (λ z. omega arith) ∙ getD-set-same t 5 0 0 (omega arith);
-      zero6 = getD-set-other (set (set t 5 0) 6 0) 7 6 0 0 (λ z. omega arith) ∙ getD-set-same (set t 5 0) 6 0 0 (rw (length-set t 5 0) (omega arith));
-      zero7 = getD-set-same (set (set t 5 0) 6 0) 7 0 0 (rw (length-set (set t 5 0) 6 0, length-set t 5 0) (omega arith));
+      zero6 = getD-set-other (set t 6 0) 7 6 0 0 (λ z. omega arith) ∙ getD-set-same t 6 0 0 (omega arith);
+      zero7 = getD-set-same (set t 6 0) 7 0 0 (rw (length-set t 6 0) (omega arith));
     }
 
 -- a new session can come up. (The calls are counted in 64 bits: an input is shorter than 2^64 bytes.)
 pub fine-start : (t st l input : List ℕ) → Lent t st l → length input < 2 ^ 64 → Fine newSession (blankTable t) st l input
 fine-start t st l input m n = record {
   good = record { small = small-start; within = omega arith; six = refl; buffer = m .buffer; here = (refl, blank t (m .table)) };
-  long = rw (length-sets t headerNumbers (0 ∷ 0 ∷ 0 ∷ [])) (m .table);
+  long = rw (length-sets t headerNumbers (0 ∷ 0 ∷ [])) (m .table);
   wide = m .store;
   count = omega arith;
   words = λ c. omega arith;

@@ -32,9 +32,9 @@ newSession = record { reader = newReader; lines = 0; words = 0; bytes = 0; over 
 abbrev pub onward : Session → Reader → ℕ → Bool → Session
 onward x r n b = record { reader = r; lines = n; words = x .words; bytes = x .bytes; over = b }
 
--- the lent table at the start: the header's three zeros, which the input does not have, are written
+-- the lent table at the start: the header's two zeros, which the input does not have, are written
 abbrev pub blankTable : List ℕ → List ℕ
-blankTable t = sets t headerNumbers (0 ∷ 0 ∷ 0 ∷ [])
+blankTable t = sets t headerNumbers (0 ∷ 0 ∷ [])
 
 -- "bad configuration" or "bad script"
 abbrev pub faultText : Bool → List ℕ

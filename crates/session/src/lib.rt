@@ -83,11 +83,10 @@ fn greatest(a: usize, b: usize) -> usize
     if a < b { b } else { a }
 }
 
-// A session at the start of an input. The header's three zeros, which the input does not have, are put into the table.
+// A session at the start of an input. The header's two zeros, which the input does not have, are put into the table.
 pub fn start(table: &mut [u32]) -> Session
     ensures { λ r. ⌜ (r ≡ newSession) × (now (table .exit) ≡ blankTable (now (table .entry))) ⌝ }
 {
-    words::put(table, 5, 0);
     words::put(table, 6, 0);
     words::put(table, 7, 0);
     let reader = Reader::new();

@@ -185,6 +185,7 @@ module _ (t : List ℕ) (n : Header) (f : Framed t n) where
             segments-is = h .segments-is ∙ sym (word-kept 2 (omega arith));
             files-is = h .files-is ∙ sym (word-kept 3 (omega arith));
             blocks-is = h .blocks-is ∙ sym (word-kept 4 (omega arith));
+            guard-is = h .guard-is ∙ sym (word-kept 5 (omega arith));
           };
           small = f .small;
           exact =

@@ -7,7 +7,7 @@ use native.Mathlib.Omega.{arith}
 use lib.ListN.{length, getD}
 use borrow.Author.Tests.{ne-eqb}
 use Rattle.rules.specs.Claim.{test, _&_, each}
-use Rattle.rules.specs.Layout.{maxSlots, headerWords, cellWords, Kind, process, segment, file, cells, slots, blocks, cellWord, configuration, base, tableWords}
+use Rattle.rules.specs.Layout.{maxSlots, headerWords, cellWords, Kind, process, segment, file, cells, slots, blocks, guard, cellWord, configuration, base, tableWords}
 use Rattle.rules.specs.WellFormed.{headerOk, cellOk, levelsDistinct, sumsMatch, configured, lengthsExact}
 use Rattle.rules.specs.SetUp.{canSetUp}
 use Rattle.laws.proofs.Claims.{holds}
@@ -27,7 +27,7 @@ cell-word t c k l m = conf-word t (headerWords + cellWords * c + k) (omega arith
 
 -- the header that layout reads has the table's words
 pub header-read : (t : List ℕ) (n : Header) → n ≡ headerOf t → IsHeader t n
-unfolding cells slots blocks
+unfolding cells slots blocks guard
 header-read t n e =
     record {
       cells-is = ap (λ (x : Header). x .cells) e;
@@ -35,6 +35,7 @@ header-read t n e =
       segments-is = ap (λ (x : Header). x .segments) e;
       files-is = ap (λ (x : Header). x .files) e;
       blocks-is = ap (λ (x : Header). x .blocks) e;
+      guard-is = ap (λ (x : Header). x .guard) e;
     }
 
 -- the header's numbers are the configuration's
@@ -57,6 +58,10 @@ module _ (t : List ℕ) (n : Header) (is : IsHeader t n) where
   pub blocks-read : blocks (configuration t) ≡ n .blocks
   unfolding blocks
   blocks-read = head-word t 4 (omega arith) ∙ sym (is .blocks-is)
+
+  pub guard-read : guard (configuration t) ≡ n .guard
+  unfolding guard
+  guard-read = head-word t 5 (omega arith) ∙ sym (is .guard-is)
 
   -- what a good header and exact lengths say of them
   pub small-of : test (headerOk (configuration t)) ≡ true → Small n

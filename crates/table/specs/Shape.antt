@@ -14,6 +14,7 @@ pub record IsHeader (t : List ℕ) (n : Header) : Type 0 where
   pub segments-is : n .segments ≡ getD t 2 0
   pub files-is : n .files ≡ getD t 3 0
   pub blocks-is : n .blocks ≡ getD t 4 0
+  pub guard-is : n .guard ≡ getD t 5 0
 
 -- where a record begins by them, and that it ends within the table
 pub record RecordAt (n : Header) (k : Kind) (i at : ℕ) : Type 0 where

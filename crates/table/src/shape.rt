@@ -38,7 +38,7 @@ fn header_ok(t: &[u32], n: Header) -> bool
             & ((n.segments <= MAX_SLOTS as u32)
                 & ((n.files <= MAX_SLOTS as u32)
                     & (((1 <= n.blocks) & (n.blocks <= MAX_BLOCKS))
-                        & ((t[5] == 0) & ((t[6] == 0) & (t[7] == 0)))))))
+                        & ((n.guard <= n.cells) & ((t[6] == 0) & (t[7] == 0)))))))
 }
 
 fn lengths_exact(t: &[u32], n: Header, store_bytes: usize) -> bool

@@ -4,7 +4,7 @@ use Prim.Native.Nat.{ℕ}
 use lib.ListN.{take, replicate}
 
 abbrev pub errors : ℕ
-errors = 34
+errors = 35
 
 -- the width of a row
 abbrev pub rowBytes : ℕ

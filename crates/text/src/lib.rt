@@ -11,7 +11,7 @@ ghost use Rattle.output.specs.Wrote.{Wrote};
 ghost use Rattle.text.specs.Names.{errors, padded};
 use rules::XOK;
 
-const ERRORS: usize = 34;
+const ERRORS: usize = 35;
 
 // The names of the errors, by number, each filled up with spaces.
 const NAMES: [[u8; 16]; ERRORS] = [
@@ -49,6 +49,7 @@ const NAMES: [[u8; 16]; ERRORS] = [
     *b"XinSgAldMap     ",
     *b"XvrtMmCfl       ",
     *b"XshSg           ",
+    *b"XnoSPriv        ",
 ];
 
 // How long each name is.
@@ -87,6 +88,7 @@ const LENGTHS: [usize; ERRORS] = [
     11,
     9,
     5,
+    8,
 ];
 
 fn name_row(n: u32) -> [u8; 16]

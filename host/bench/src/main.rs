@@ -114,7 +114,8 @@ fn small() -> World {
 
 /// Tables in use of that many cells and slots a cell, one for each seed.
 fn busy(cells: u32, slots: u32, blocks: u32) -> impl Iterator<Item = World> {
-    let mut words = vec![cells, cells * slots, cells * slots, cells * slots, blocks, 0, 0, 0];
+    let guard = cells; // the last, which all others flow to
+    let mut words = vec![cells, cells * slots, cells * slots, cells * slots, blocks, guard, 0, 0];
     for cell in 0..cells {
         words.extend([cell, 15 - cell, 0, slots, slots, slots, 0, 0]);
     }
@@ -360,7 +361,7 @@ fn opens() {
 fn crowd() -> Result<(World, [(&'static str, Seid, u32); 3]), Error> {
     let slots = 64;
     let cell = Cell { processes: slots, files: 4, ..Cell::default() };
-    let mut hall = Monitor::set_up(&Hall { cells: vec![cell], blocks: 1 })?;
+    let mut hall = Monitor::set_up(&Hall { cells: vec![cell], blocks: 1, ..Hall::default() })?;
     let (first, last) = (Caller(0), Caller(slots - 1));
     for _ in 1..slots {
         hall.spawn(first, 0, 0, Bits(0o666))?;

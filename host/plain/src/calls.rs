@@ -97,6 +97,7 @@ fn outcome(
         18 => caller.access(a),
         19 => caller.remap(a, b, c),
         20 => caller.page_access(a),
+        21 => caller.regrade(a, b, c, buffer),
         _ => Err(XbdKcl),
     }
 }
@@ -218,11 +219,10 @@ impl Caller<'_> {
 
     // Slots and entries.
 
-    /// Of the slots of the caller's cell that aren't live and have a serial left, the one with the smallest serial; the lowest
-    /// among equals.
-    fn free_slot(&self, kind: Kind) -> Option<Object> {
+    /// Of the slots of a cell that aren't live and have a serial left, the one with the smallest serial; the lowest among equals.
+    fn free_slot(&self, kind: Kind, cell: usize) -> Option<Object> {
         self.shape
-            .run(kind, self.cell)
+            .run(kind, cell)
             .map(|index| self.slot(kind, index))
             .filter(|&slot| self.word(slot, LIVE) == 0 && self.word(slot, SERIAL) < MAX_SERIAL)
             .min_by_key(|&slot| self.word(slot, SERIAL))
@@ -311,7 +311,7 @@ impl Caller<'_> {
     fn spawn(&mut self, owner: u32, group: u32, bits: u32) -> Outcome {
         refuse_if(owner > MAX_ID || group > MAX_ID || bits > MAX_BITS, XbParam)?;
         refuse_if(self.owner != 0 && (owner != self.owner || group != self.group), XnoPriv)?;
-        let slot = self.free_slot(Kind::Process).ok_or(XnoProc)?;
+        let slot = self.free_slot(Kind::Process, self.cell).ok_or(XnoProc)?;
         let seid = self.occupy(Kind::Process, slot, owner, group);
         self.table[slot.at + PARENT] = self.seid;
         self.table[slot.at + PROCESS_BITS] = bits;
@@ -334,7 +334,7 @@ impl Caller<'_> {
         refuse_if(bits > MAX_BITS || sharable > 1, XbParam)?;
         refuse_if(!segment_size(size), XbSgSz)?;
         let place = self.empty_place(DESIGNATORS).ok_or(XodSpace)?;
-        let slot = self.free_slot(Kind::Segment).ok_or(XnoSpace)?;
+        let slot = self.free_slot(Kind::Segment, self.cell).ok_or(XnoSpace)?;
         let seid = self.occupy(Kind::Segment, slot, self.owner, self.group);
         self.table[slot.at + BITS..=slot.at + HOLDS].copy_from_slice(&[bits, sharable, size, 1]);
         self.put_entry(DESIGNATORS, place, seid, bits & (READ | WRITE));
@@ -427,7 +427,7 @@ impl Caller<'_> {
         refuse_if(bits > MAX_BITS, XbParam)?;
         refuse_if(!valid_modes(modes), XbadModes)?;
         let place = self.empty_place(DESCRIPTORS).ok_or(XodSpace)?;
-        let slot = self.free_slot(Kind::File).ok_or(XnoSpace)?;
+        let slot = self.free_slot(Kind::File, self.cell).ok_or(XnoSpace)?;
         let seid = self.occupy(Kind::File, slot, self.owner, self.group);
         self.table[slot.at + BITS..=slot.at + HOLDS].copy_from_slice(&[bits, 0, 0, 1]);
         self.put_entry(DESCRIPTORS, place, seid, modes);
@@ -524,6 +524,27 @@ impl Caller<'_> {
         stretch[start..start + BLOCK_BYTES].copy_from_slice(buffer);
         *size = (*size).max(block + 1);
         DONE
+    }
+
+    // The regrading desk.
+
+    /// A copy of an open file in any cell, as a new file that nobody has open.
+    fn regrade(&mut self, descriptor: u32, cell: u32, bits: u32, buffer: &[u8]) -> Outcome {
+        refuse_if(self.shape.guard != Some(self.cell), XnoSPriv)?;
+        let &[o1, o0, g1, g0] = buffer else {
+            return Err(XbSz);
+        };
+        refuse_if(cell as usize >= self.shape.cells || bits > MAX_BITS, XbParam)?;
+        let source = self.opened(descriptor, 1, XnotReadable, READ)?;
+        let slot = self.free_slot(Kind::File, cell as usize).ok_or(XnoSpace)?;
+        let size = self.word(source, SIZE);
+        let [owner, group] = [[o1, o0], [g1, g0]].map(|bytes| u32::from(u16::from_be_bytes(bytes)));
+        let seid = self.occupy(Kind::File, slot, owner, group);
+        self.table[slot.at + BITS..=slot.at + HOLDS].copy_from_slice(&[bits, 1, size, 0]);
+        let from = self.shape.stretch(source.index).start;
+        let bytes = size as usize * BLOCK_BYTES;
+        self.store.copy_within(from..from + bytes, self.shape.stretch(slot.index).start);
+        Ok((seid, 0))
     }
 
     // Messages.

@@ -37,4 +37,5 @@ pub enum Error {
     XinSgAldMap = 31,
     XvrtMmCfl = 32,
     XshSg = 33,
+    XnoSPriv = 34,
 }

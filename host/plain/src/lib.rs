@@ -15,7 +15,7 @@ mod tray;
 pub use calls::{Answer, Request, call, clash, granted, valid_modes};
 pub use errors::Error;
 pub use image::{image, image_length, reload};
-pub use replay::{number, replay};
+pub use replay::{HEADER_NUMBERS, number, replay};
 pub use seid::{Kind, Seid};
 pub use table::{Level, Shape, check, setup};
 pub use tray::{MOST_RECORDS, Record, tray};

@@ -9,6 +9,8 @@ use std::io::Write;
 const MAX_REPLAY_SLOTS: u32 = 64;
 const MAX_STORE_BLOCKS: u32 = 64;
 const MAX_BUFFER: usize = 512;
+/// The words of the header that stand in the input: all but its zeros.
+pub const HEADER_NUMBERS: usize = 6;
 
 /// One number in seven-bit groups, low group first, in its shortest form and below 2^32. None if it is cut or bad.
 pub fn number(input: &mut &[u8]) -> Option<u32> {
@@ -32,7 +34,7 @@ pub fn number(input: &mut &[u8]) -> Option<u32> {
 /// The table after set-up, and its store.
 fn configure(input: &mut &[u8]) -> Option<(Vec<u32>, Vec<u8>)> {
     let mut table = vec![0; HEADER_WORDS];
-    for word in &mut table[..5] {
+    for word in &mut table[..HEADER_NUMBERS] {
         *word = number(input)?;
     }
     let [cells, processes, segments, files, blocks, ..] = table[..] else {

@@ -87,6 +87,8 @@ pub struct Slots {
 pub struct Shape {
     pub cells: usize,
     pub blocks: usize,
+    /// The cell of the regrading desk, if there is one.
+    pub guard: Option<usize>,
     pub levels: [Level; MAX_CELLS],
     pub flow: [[bool; MAX_CELLS]; MAX_CELLS],
     slots: [Slots; 3],
@@ -96,14 +98,15 @@ impl Shape {
     /// None if the header, a cell or one of the two lengths is bad.
     pub fn read(table: &[u32], store_bytes: usize) -> Option<Shape> {
         let (header, rest) = table.split_first_chunk::<HEADER_WORDS>()?;
-        let [cells, processes, segments, files, blocks, zeros @ ..] = *header;
+        let [cells, processes, segments, files, blocks, guard, zeros @ ..] = *header;
         let max = MAX_SLOTS as u32;
         let good = (1..=MAX_CELLS as u32).contains(&cells)
             && (1..=max).contains(&processes)
             && segments <= max
             && files <= max
             && (1..=MAX_BLOCKS).contains(&blocks)
-            && zeros == [0; 3];
+            && guard <= cells
+            && zeros == [0; 2];
         if !good {
             return None;
         }
@@ -125,6 +128,7 @@ impl Shape {
         let mut shape = Shape {
             cells,
             blocks,
+            guard: (guard as usize).checked_sub(1),
             levels: [Level::default(); MAX_CELLS],
             flow: [[false; MAX_CELLS]; MAX_CELLS],
             slots: [

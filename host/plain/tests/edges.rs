@@ -18,9 +18,9 @@ fn script(words: &[u32]) -> Vec<u8> {
     bytes
 }
 
-/// The configuration of the listing: two cells, security 1 and 3, two process and two file slots each, B 1.
+/// The configuration of the listing: two cells, security 1 and 3, two process and two file slots each, B 1, no guard.
 fn listing_configuration() -> Vec<u8> {
-    script(&[2, 4, 0, 4, 1, 1, 0, 0, 2, 0, 2, 0, 0, 3, 0, 0, 2, 0, 2, 0, 0])
+    script(&[2, 4, 0, 4, 1, 0, 1, 0, 0, 2, 0, 2, 0, 0, 3, 0, 0, 2, 0, 2, 0, 0])
 }
 
 #[test]
@@ -57,7 +57,7 @@ fn the_listing() {
 fn error_names() {
     let names = "XOK XbTab XbPrSd XbdKcl XbParam XbSz XbSgSz XbadModes XnSgDes XbSgDes XbadOd XbSgSd XnoObj XnoAcc XnoOwner \
                  XnoPriv XdapViol XsgNoAcc XdupSg Xbusy XnotReadable XnotWritable XbadBlockNo XendOfFile XbadLink XodSpace \
-                 XnoSpace XnoProc XpostEh XbNoMes XoutSgAldUmp XinSgAldMap XvrtMmCfl XshSg";
+                 XnoSpace XnoProc XpostEh XbNoMes XoutSgAldUmp XinSgAldMap XvrtMmCfl XshSg XnoSPriv";
     let errors = [
         XOK,
         XbTab,
@@ -93,6 +93,7 @@ fn error_names() {
         XinSgAldMap,
         XvrtMmCfl,
         XshSg,
+        XnoSPriv,
     ];
     assert_eq!(names.split_whitespace().count(), errors.len());
     for (at, (name, error)) in names.split_whitespace().zip(errors).enumerate() {
@@ -276,12 +277,12 @@ fn tempting_all_bits_do_not_help_an_owner() {
 #[test]
 fn order_for_all_calls() {
     let mut hall = Hall::two_levels();
-    for code in [0, 21, 22, u32::MAX] {
+    for code in [0, 22, 23, u32::MAX] {
         assert_eq!(hall.error(0, code, [0; 3]), XbdKcl);
         assert_eq!(hall.error(1, code, [0; 3]), XbPrSd, "not live");
         assert_eq!(hall.error(6, code, [0; 3]), XbPrSd, "out of range");
     }
-    for code in 0..22 {
+    for code in 0..23 {
         let mut short = hall.clone();
         short.table.pop();
         assert_eq!(short.error(9, code, [0; 3]), XbTab);

@@ -413,7 +413,7 @@ fn r19_r20_r24_setup() {
         (2, &[0, 2, 257]),
         (3, &[1, 3, 257]),
         (4, &[0, 63, 65]),
-        (5, &[1]),
+        (5, &[3, 17, u32::MAX]),
         (6, &[1]),
         (7, &[1]),
         (8, &[16]),
@@ -447,8 +447,8 @@ fn r19_r20_r24_setup() {
 fn r25_r26_replay() {
     let bad = b"bad configuration\n".to_vec();
     let heading = b"n error first second\n".to_vec();
-    // One cell, one process, no segments, one file, B 1.
-    let configuration = [1, 1, 0, 1, 1, 0, 0, 0, 1, 0, 1, 0, 0];
+    // One cell, one process, no segments, one file, B 1, no guard.
+    let configuration = [1, 1, 0, 1, 1, 0, 0, 0, 0, 1, 0, 1, 0, 0];
     assert_eq!(replay(&[]), bad);
     assert_eq!(replay(&configuration), heading);
     for cut in 0..configuration.len() {
@@ -477,7 +477,7 @@ fn r25_r26_replay() {
     let listing = body(&[&create[..], &block(14, 0xa5), &block(13, 0)].concat());
     assert_eq!(listing, format!("1 XOK 2164260865 0\n2 XOK 0 0\n3 XOK 0 0 {}\n", "a5".repeat(512)));
     // Files x B is at most 64, also where 01's table would take more.
-    let many = |files: u8, blocks: u8| replay(&[1, 1, 0, files, blocks, 0, 0, 0, 1, 0, files, 0, 0]);
+    let many = |files: u8, blocks: u8| replay(&[1, 1, 0, files, blocks, 0, 0, 0, 0, 1, 0, files, 0, 0]);
     assert_eq!(many(64, 1), heading);
     assert_eq!(many(1, 64), heading);
     assert_eq!(many(0, 64), heading);
@@ -488,7 +488,7 @@ fn r25_r26_replay() {
     assert_eq!(many(65, 1), bad);
     // 64 slots of a kind are as many as replay takes, though set-up takes more.
     let slots =
-        |processes: u8, segments: u8| replay(&[1, processes, segments, 1, 1, 0, 0, 0, processes, segments, 1, 0, 0]);
+        |processes: u8, segments: u8| replay(&[1, processes, segments, 1, 1, 0, 0, 0, 0, processes, segments, 1, 0, 0]);
     assert_eq!(slots(64, 64), heading);
     assert_eq!(slots(65, 64), bad);
     assert_eq!(slots(64, 65), bad);

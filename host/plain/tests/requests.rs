@@ -324,3 +324,137 @@ fn r12_a_bigger_hall() {
         assert!(!hall.good());
     }
 }
+
+/// Three cells, security 1, 3 and 2, of which the second is the guard's: processes 0, 2 and 4 are their first, files 0, 2 and 4 too. B
+/// is 3. Process 2 has file 0, which process 0 made, open for reading at descriptor 0.
+fn desk() -> Hall {
+    let mut hall = Hall::guarded(&[[1, 0, 0, 2, 0, 2, 5, 6], [3, 0, 0, 2, 0, 2, 5, 6], [2, 0, 0, 2, 0, 2, 5, 6]], 3, 2);
+    for byte in &mut hall.store {
+        *byte = 0xee;
+    }
+    hall.done(0, CREATE, [0o640, 3, 0]);
+    hall.done(2, OPEN, [file(0, 1), 1, 0]);
+    hall
+}
+
+fn regrade(hall: &mut Hall, caller: u32, arguments: [u32; 3], buffer: &[u8]) -> (plain::Error, u32, u32) {
+    let mut after = buffer.to_vec();
+    let answer = hall.with(caller, REGRADE, arguments, &mut after);
+    assert_eq!(after, buffer, "the buffer is only read");
+    (answer.error, answer.first, answer.second)
+}
+
+const OWNER_AND_GROUP: [u8; 4] = [0x12, 0x34, 0xff, 0xfe];
+
+#[test]
+fn r18_the_guard() {
+    for (guard, good) in [(0, true), (1, true), (2, true), (3, false), (17, false), (u32::MAX, false)] {
+        let mut hall = Hall::unset(&[[1, 0, 0, 1, 0, 1, 0, 0], [3, 0, 0, 1, 0, 1, 0, 0]], 1);
+        hall.table[5] = guard;
+        let before = hall.clone();
+        assert_eq!(plain::setup(&mut hall.table, hall.store.len()), if good { XOK } else { XbParam });
+        assert_eq!(hall.good(), good);
+        assert!(good || hall == before);
+        if guard < 128 {
+            let input = [2, 2, 0, 2, 1, guard as u8, 1, 0, 0, 1, 0, 1, 0, 0, 3, 0, 0, 1, 0, 1, 0, 0];
+            let listing = if good { "n error first second\n" } else { "bad configuration\n" };
+            assert_eq!(String::from_utf8(plain::replay(&input)).unwrap(), listing);
+        }
+    }
+    // 34 is all that anyone else gets: before 5, with wild arguments, and where there is no guard.
+    let mut hall = desk();
+    for caller in [0, 4] {
+        assert_eq!(regrade(&mut hall, caller, [0, 0, 0], &OWNER_AND_GROUP).0, XnoSPriv);
+        assert_eq!(regrade(&mut hall, caller, [99, 99, 999], &[]).0, XnoSPriv);
+    }
+    hall.table[5] = 0;
+    assert_eq!(regrade(&mut hall, 2, [0, 0, 0], &OWNER_AND_GROUP).0, XnoSPriv);
+    assert_eq!(regrade(&mut hall, 3, [0, 0, 0], &OWNER_AND_GROUP).0, XbPrSd, "not live");
+}
+
+#[test]
+fn r18_r19_refusals_in_order() {
+    let mut hall = desk();
+    for length in [0, 3, 5, 12, 16, 512] {
+        assert_eq!(regrade(&mut hall, 2, [99, 3, 512], &vec![0; length]).0, XbSz, "5 before 4");
+    }
+    for (b, c) in [(3, 0), (u32::MAX, 0), (0, 512), (0, u32::MAX)] {
+        assert_eq!(regrade(&mut hall, 2, [99, b, c], &OWNER_AND_GROUP).0, XbParam, "4 before 10");
+    }
+    for a in [1, 15, 16, u32::MAX] {
+        assert_eq!(regrade(&mut hall, 2, [a, 0, 0], &OWNER_AND_GROUP).0, XbadOd);
+    }
+    // Open for writing alone, in the own cell, with a bit that lets nobody read: 20 before 16.
+    hall.done(2, CREATE, [0, 2, 0]);
+    assert_eq!(regrade(&mut hall, 2, [1, 0, 0], &OWNER_AND_GROUP).0, XnotReadable);
+    // Today's bits, for the caller as the file's owner.
+    hall.done(0, SET_BITS, [file(0, 1), 0o377, 0]);
+    assert_eq!(regrade(&mut hall, 2, [0, 0, 0], &OWNER_AND_GROUP).0, XdapViol);
+    hall.done(0, SET_BITS, [file(0, 1), 0o400, 0]);
+    // 26 is of the named cell alone.
+    for index in 0..2 {
+        assert_eq!(regrade(&mut hall, 2, [0, 2, 0], &OWNER_AND_GROUP), (XOK, file(4 + index, 1), 0));
+    }
+    assert_eq!(regrade(&mut hall, 2, [0, 2, 0], &OWNER_AND_GROUP).0, XnoSpace);
+    hall.done(0, SET_BITS, [file(0, 1), 0, 0]);
+    assert_eq!(regrade(&mut hall, 2, [0, 2, 0], &OWNER_AND_GROUP).0, XdapViol, "16 before 26");
+    hall.done(0, CLOSE, [0; 3]);
+    assert_eq!(regrade(&mut hall, 2, [0, 2, 0], &OWNER_AND_GROUP).0, XnoObj, "stale, and 12 before 16");
+}
+
+#[test]
+fn r19_r20_regrades() {
+    let mut hall = desk();
+    hall.write(0, 0, 1, 7);
+    assert_eq!(hall.file(0)[..8], [1, 1, 5, 6, 0o640, 0, 2, 1]);
+    // Into each cell: below, the guard's own, beside; the caller needs no free descriptor.
+    for _ in 1..16 {
+        hall.done(2, OPEN, [file(0, 1), 1, 0]);
+    }
+    let before = hall.clone();
+    for (cell, index) in [(0, 1), (1, 2), (2, 4)] {
+        assert_eq!(regrade(&mut hall, 2, [0, cell, 0o751], &OWNER_AND_GROUP), (XOK, file(index, 1), 0));
+        assert_eq!(hall.file(index as usize)[..8], [1, 1, 0x1234, 0xfffe, 0o751, 1, 2, 0]);
+        let stretch = &hall.store[index as usize * 3 * 512..][..3 * 512];
+        assert_eq!(stretch[..512], [0; 512], "the hole that the write filled");
+        assert_eq!(stretch[512..1024], [7; 512]);
+        assert_eq!(stretch[1024..], [0xee; 512], "past the size it stays as the slot's last file left it");
+    }
+    assert_eq!((before.clone().process(2), before.clone().file(0)), (hall.clone().process(2), hall.clone().file(0)));
+    // The copy is a file like any other: its owner is who the buffer said.
+    assert_eq!(hall.error(4, OPEN, [file(4, 1), 1, 0]), XdapViol);
+    hall.process(4)[2..4].copy_from_slice(&[0x1234, 0xfffe]);
+    assert_eq!(hall.done(4, OPEN, [file(4, 1), 3, 0]), (0, 0));
+    assert_eq!(hall.read(4, 0, 1), Ok([7; 512]));
+    hall.done(4, UNLINK, [file(4, 1), 0, 0]);
+    hall.done(4, CLOSE, [0; 3]);
+    assert_eq!(hall.file(4)[..8], [0, 1, 0, 0, 0, 0, 0, 0]);
+}
+
+/// Nothing past the source's size comes across, and a file of size 0 carries no byte.
+#[test]
+fn r20_no_more_than_the_size() {
+    let mut hall = desk();
+    hall.store[..3 * 512].fill(0x55); // file 0 has size 0
+    assert_eq!(regrade(&mut hall, 2, [0, 2, 0], &[0; 4]), (XOK, file(4, 1), 0));
+    assert_eq!(hall.file(4)[..8], [1, 1, 0, 0, 0, 1, 0, 0]);
+    assert!(hall.store[4 * 3 * 512..].iter().all(|&byte| byte == 0xee));
+    hall.write(0, 0, 0, 7);
+    assert_eq!(regrade(&mut hall, 2, [0, 2, 0], &[0; 4]).1, file(5, 1));
+    assert_eq!(hall.store[5 * 3 * 512..][..512], [7; 512]);
+    assert!(hall.store[5 * 3 * 512 + 512..].iter().all(|&byte| byte == 0xee));
+    // The least used slot of the named cell, the lowest among equals.
+    let mut hall = desk();
+    hall.file(4)[1] = 3;
+    assert_eq!(regrade(&mut hall, 2, [0, 2, 0], &[0; 4]).1, file(5, 1));
+    assert_eq!(regrade(&mut hall, 2, [0, 2, 0], &[0; 4]).1, file(4, 4));
+    // A slot that is worn out is none.
+    let mut hall = desk();
+    (hall.file(4)[1], hall.file(5)[1]) = (65535, 65535);
+    assert_eq!(regrade(&mut hall, 2, [0, 2, 0], &[0; 4]).0, XnoSpace);
+    // A copy of a copy, by the guard's own descriptor; the source's slot is not the copy's.
+    let mut hall = desk();
+    let first = regrade(&mut hall, 2, [0, 1, 0o777], &[0; 4]).1;
+    assert_eq!(hall.done(2, OPEN, [first, 1, 0]), (1, 0));
+    assert_eq!(regrade(&mut hall, 2, [1, 1, 0o777], &[0; 4]), (XOK, file(3, 1), 0));
+}

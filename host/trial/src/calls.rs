@@ -37,12 +37,47 @@ pub fn no_caller(rng: &mut Rng, shape: &Shape) -> u32 {
     rng.pick(&[0, 1, 64, 65, 255, 256, 257, 65536, u32::MAX]).max(count)
 }
 
+/// The call of the regrading desk.
+pub const REGRADE: u32 = 21;
+
+/// A process of the guard cell, mostly a live one, and one that has something to read. None if there is no guard.
+pub fn at_the_desk(rng: &mut Rng, world: &World, shape: &Shape) -> Option<u32> {
+    let guard = shape.guard?;
+    for _ in 0..4 {
+        let process = caller(rng, world, shape, |cell| cell == guard)?;
+        if !readable(world, shape, process as usize).is_empty() {
+            return Some(process);
+        }
+    }
+    caller(rng, world, shape, |cell| cell == guard)
+}
+
+/// The descriptors of a process by which it may read a file today.
+pub fn readable(world: &World, shape: &Shape, process: usize) -> Vec<usize> {
+    let own = &world.table[shape.record(Kind::Process, process)];
+    let reads = |&place: &usize| {
+        let (seid, modes) = world.entry(shape, process, DESCRIPTORS, place);
+        if seid == 0 || modes & 1 == 0 || world.stale(shape, Kind::File, seid) {
+            return false;
+        }
+        let file = &world.table[shape.record(Kind::File, Seid::of(seid).index)];
+        let same = |word: usize| file[word] == own[word];
+        plain::granted(file[BITS], same(OWNER), same(GROUP)) & READ != 0
+    };
+    (0..ENTRIES).filter(reads).collect()
+}
+
 /// A call by any process.
 pub fn any(rng: &mut Rng, world: &World, shape: &Shape) -> Call {
     if rng.chance(1, 8)
         && let Some(call) = at_the_top(rng, world, shape)
     {
         return call;
+    }
+    if rng.chance(1, 20)
+        && let Some(caller) = at_the_desk(rng, world, shape)
+    {
+        return with_code(rng, world, shape, caller, REGRADE);
     }
     let caller = match rng.chance(1, 200) {
         true => no_caller(rng, shape),
@@ -65,6 +100,14 @@ fn at_the_top(rng: &mut Rng, world: &World, shape: &Shape) -> Option<Call> {
     if kind == Kind::Process && rng.chance(1, 4) {
         return Some(by(rng, world, shape, MAX_SLOTS as u32 - 1));
     }
+    if kind == Kind::File
+        && rng.chance(1, 2)
+        && let Some(caller) = at_the_desk(rng, world, shape)
+    {
+        let mut call = with_code(rng, world, shape, caller, REGRADE);
+        call.request.b = cell as u32;
+        return Some(call);
+    }
     let (code, [a, b, c], length) = match (kind, rng.chance(1, 2)) {
         (Kind::Process, true) => (1, [own(OWNER), own(GROUP), FIRST_BITS], 0),
         (Kind::Process, false) => (15, [last, 0, 0], 12),
@@ -85,14 +128,14 @@ pub fn by(rng: &mut Rng, world: &World, shape: &Shape, caller: u32) -> Call {
 /// Codes that use things up come less often than those that make them.
 fn code(rng: &mut Rng) -> u32 {
     match rng.below(100) {
-        0 => rng.pick(&[0, 21, 22, 32, 255, 256 + 1, 65536 + 7, u32::MAX]),
+        0 => rng.pick(&[0, 22, 23, 32, 255, 256 + 1, 65536 + 7, u32::MAX]),
         1 => 2,
         2..=5 => 1,
         6..=13 => 8,
         14..=20 => 15,
         21..=27 => 4,
         28..=34 => 19,
-        _ => rng.pick(&[1, 3, 3, 4, 5, 6, 7, 7, 8, 9, 10, 11, 12, 13, 13, 14, 14, 15, 16, 17, 18, 20]),
+        _ => rng.pick(&[1, 3, 3, 4, 5, 6, 7, 7, 8, 9, 10, 11, 12, 13, 13, 14, 14, 15, 16, 17, 18, 20, REGRADE]),
     }
 }
 
@@ -143,6 +186,7 @@ impl Draw<'_> {
             }
             19 => self.remap(),
             20 => (Some(self.page()), None, None),
+            REGRADE => (Some(self.source()), Some(self.cell()), Some(self.bits())),
             _ => (None, None, None),
         };
         // An unused argument may be anything.
@@ -267,6 +311,24 @@ impl Draw<'_> {
         }
     }
 
+    /// A descriptor, mostly one by which the caller may read.
+    fn source(&mut self) -> u32 {
+        let readable = readable(self.world, self.shape, self.process);
+        if readable.is_empty() || self.rng.chance(1, 4) {
+            return self.place(DESCRIPTORS);
+        }
+        self.rng.pick(&readable) as u32
+    }
+
+    fn cell(&mut self) -> u32 {
+        let cells = self.shape.cells as u32;
+        match self.rng.below(16) {
+            0 => self.rng.pick(&[cells, cells + 1, 16, 17, 256, u32::MAX]),
+            1 => cells - 1,
+            _ => self.rng.below(self.shape.cells) as u32,
+        }
+    }
+
     /// A seid; or one that the caller holds, or the present use of a slot of which it holds an older one.
     fn seid_or_held(&mut self, kind: Kind) -> u32 {
         let entries = if kind == Kind::File { DESCRIPTORS } else { DESIGNATORS };
@@ -371,12 +433,13 @@ impl Draw<'_> {
             13 | 14 => Some(512),
             15 => Some(12),
             16 | 17 => Some(16),
+            REGRADE => Some(4),
             _ => None,
         };
         let length = match asked {
             Some(length) if self.rng.chance(15, 16) => length,
             None if self.rng.chance(3, 4) => 0,
-            _ if self.rng.chance(1, 2) => self.rng.pick(&[0, 1, 4, 11, 12, 13, 15, 16, 17, 511, 512, 513]),
+            _ if self.rng.chance(1, 2) => self.rng.pick(&[0, 1, 3, 4, 5, 11, 12, 13, 15, 16, 17, 511, 512, 513]),
             _ => self.rng.below(514),
         };
         let mut buffer = vec![0; length];

@@ -106,7 +106,11 @@ fn header(all: &mut All) {
         Some(())
     });
     put(all, "blocks out of range", &[0, 65, u32::MAX], |_, _, _| Some(4));
-    put(all, "header zeros", &[1, 65536, u32::MAX], |rng, _, _| Some(5 + rng.below(3)));
+    put(all, "header zeros", &[1, 65536, u32::MAX], |rng, _, _| Some(6 + rng.below(2)));
+    add(all, "guard out of range", |rng, world, shape| {
+        world.table[5] = rng.pick(&[shape.cells as u32 + 1, 17, 256, u32::MAX]);
+        Some(())
+    });
     put(all, "security or integrity out of range", &[16, 255, u32::MAX], |rng, _, shape| {
         Some(cell(rng, shape) + rng.below(2))
     });

@@ -5,8 +5,8 @@ use crate::rng::Rng;
 use crate::shrink;
 use crate::tables::{self, Limits, World};
 use crate::{Monitor, Plain};
-use plain::table::{CELL_WORDS, MAX_CELLS};
-use plain::{Kind, Request, Seid, number};
+use plain::table::{CELL_WORDS, HEADER_WORDS, MAX_CELLS};
+use plain::{HEADER_NUMBERS, Kind, Request, Seid, number};
 use std::fmt::Write;
 
 /// A replay input, and where its numbers start: a damage there does more than one among a buffer's bytes.
@@ -27,9 +27,9 @@ impl Script {
         self.bytes.push(number as u8);
     }
 
-    /// The header's five numbers and the cells' words.
+    /// The header's numbers, without its zeros, and the cells' words.
     pub fn configuration(&mut self, words: &[u32]) {
-        for &word in words[..5].iter().chain(&words[8..]) {
+        for &word in words[..HEADER_NUMBERS].iter().chain(&words[HEADER_WORDS..]) {
             self.number(word);
         }
     }
@@ -100,8 +100,9 @@ pub fn damage(rng: &mut Rng, script: &mut Script) {
 pub fn bad_configuration(rng: &mut Rng, limits: Limits) -> Script {
     let mut words = tables::configuration(rng, limits);
     let cells = words[0] as usize;
-    match rng.below(5) {
-        0 if cells > 1 => words.copy_within(8..11, 16), // two cells of one level
+    match rng.below(6) {
+        3 => words[5] = rng.pick(&[cells as u32, cells as u32 + 1, 17, u32::MAX]), // a guard cell that is there, or none that is
+        0 if cells > 1 => words.copy_within(8..11, 16),                            // two cells of one level
         2 => {
             // As many slots of a kind as replay takes, or one more, which set-up would take: the first cell has what the others lack.
             let kind = rng.below(3);
@@ -119,8 +120,9 @@ pub fn bad_configuration(rng: &mut Rng, limits: Limits) -> Script {
             }
         }
         _ => {
-            let at = rng.below(words.len() - 3);
-            let word = &mut words[if at < 5 { at } else { at + 3 }];
+            let zeros = HEADER_WORDS - HEADER_NUMBERS;
+            let at = rng.below(words.len() - zeros);
+            let word = &mut words[if at < HEADER_NUMBERS { at } else { at + zeros }];
             *word =
                 rng.pick(&[0, 16, 17, 64, 65, 256, 65535, 65536, u32::MAX, word.wrapping_add(1), word.wrapping_sub(1)]);
         }
@@ -134,7 +136,7 @@ pub fn bad_configuration(rng: &mut Rng, limits: Limits) -> Script {
 /// A part of an input.
 #[derive(Clone, PartialEq, Eq)]
 pub enum Part {
-    /// The header's five numbers, then the cells'.
+    /// The header's numbers, then the cells'.
     Configuration(Vec<u32>),
     Call(Call),
     /// What stands where a number is bad or something is cut, to the end.
@@ -172,7 +174,7 @@ pub fn joined(parts: &[Part]) -> Vec<u8> {
 }
 
 fn configuration(input: &mut &[u8]) -> Option<Part> {
-    let mut words = (0..5).map(|_| number(input)).collect::<Option<Vec<u32>>>()?;
+    let mut words = (0..HEADER_NUMBERS).map(|_| number(input)).collect::<Option<Vec<u32>>>()?;
     let cells = words[0] as usize;
     if cells > MAX_CELLS {
         return None;
@@ -214,8 +216,9 @@ pub fn text(input: &[u8], monitor: &impl Monitor) -> String {
     for part in parts(input) {
         match part {
             Part::Configuration(words) => {
-                line(&mut text, "header", &words[..5]);
-                for cell in words[5..].chunks(CELL_WORDS) {
+                let (header, cells) = words.split_at(HEADER_NUMBERS);
+                line(&mut text, "header", header);
+                for cell in cells.chunks(CELL_WORDS) {
                     line(&mut text, "cell", cell);
                 }
             }

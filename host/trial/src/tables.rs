@@ -35,6 +35,12 @@ impl World {
         self.table[shape.at(kind, index) + LIVE] == 1
     }
 
+    /// Whether a cell has a file slot to be taken.
+    pub fn room(&self, shape: &Shape, cell: usize) -> bool {
+        let free = |record: &[u32]| record[LIVE] == 0 && record[SERIAL] < MAX_SERIAL;
+        shape.run(Kind::File, cell).any(|file| free(&self.table[shape.record(Kind::File, file)]))
+    }
+
     /// Whether no process is live, so that every call is refused.
     pub fn deserted(&self, shape: &Shape) -> bool {
         (0..shape.count(Kind::Process)).all(|process| !self.live(shape, Kind::Process, process))
@@ -110,7 +116,8 @@ pub fn configuration(rng: &mut Rng, limits: Limits) -> Vec<u32> {
     let processes = count(cells, limits.slots);
     let segments = count(0, limits.slots);
     let files = count(0, limits.slots.min(limits.store_blocks / blocks));
-    let mut words: Vec<u32> = [cells, processes, segments, files, blocks, 0, 0, 0].map(|n| n as u32).to_vec();
+    let guard = if rng.chance(1, 4) { 0 } else { 1 + rng.below(cells) };
+    let mut words: Vec<u32> = [cells, processes, segments, files, blocks, guard, 0, 0].map(|n| n as u32).to_vec();
     // One process slot for each cell; all others, and the segments and files, go to random cells.
     let mut slots = vec![[1u32, 0, 0]; cells];
     for (kind, extra) in [processes - cells, segments, files].into_iter().enumerate() {

@@ -1,15 +1,15 @@
 //! What a trial has met: each code's successes, each refusal of its list, and some situations that are easily missed. A trial that
 //! never met one of them fails, so that a pass says something.
 
-use crate::calls::Call;
+use crate::calls::{Call, REGRADE};
 use crate::tables::World;
 use plain::table::*;
 use plain::{Kind, Seid, Shape};
 use std::collections::BTreeMap;
 use std::fmt;
 
-pub const CODES: usize = 20;
-pub const ERRORS: usize = 34;
+pub const CODES: usize = 21;
+pub const ERRORS: usize = 35;
 
 /// The refusals in each call's own list. A 12 of call 14 cannot arise: write is held only in the own cell, and there nothing is stale.
 pub const REFUSALS: [&[u32]; CODES + 1] = [
@@ -34,6 +34,7 @@ pub const REFUSALS: [&[u32]; CODES + 1] = [
     &[8, 9, 11],
     &[8, 9, 11, 30, 31, 32],
     &[4, 9, 11],
+    &[34, 5, 4, 10, 20, 12, 16, 26],
 ];
 
 pub const SITUATIONS: &[&str] = &[
@@ -110,10 +111,28 @@ pub const SITUATIONS: &[&str] = &[
     "release of a segment: its pages are emptied",
     "release of a process with a map",
     "access of a page limited by today's bits",
+    "regrade down",
+    "regrade up",
+    "regrade beside",
+    "regrade into the guard's own cell",
+    "regrade into the file's own cell, which is not the guard's",
+    "regrade into a third cell",
+    "regrade of an empty file",
+    "regrade over what an older file left, of more blocks",
+    "regrade without an empty descriptor",
+    "regrade where the guard's own cell is full",
+    "regrade passes over a free slot of serial 65535",
+    "regrade passes over a lower slot that is worn more",
+    "regrade takes the lowest of slots worn equally",
+    "regrade reaches serial 65535",
+    "regrade refused where there is no guard",
+    "regrade refused to another cell, its buffer wrong too",
+    "regrade refused of a full cell where the guard's own is not",
     "a call by process 255",
     "spawn takes slot 255",
     "build takes slot 255",
     "create takes slot 255",
+    "regrade takes slot 255",
     "open of file 255",
     "a post to process 255",
     "a creating call in a cell with all 256 slots of the kind",
@@ -243,24 +262,34 @@ impl Scene<'_> {
         let run = self.shape.run(kind, self.shape.cell(kind, taken));
         let free = run.filter(|&slot| slot != taken && self.word(kind, slot, LIVE) == 0);
         let free: Vec<(usize, u32)> = free.map(|slot| (slot, self.word(kind, slot, SERIAL))).collect();
-        let [worn_out, worn_more, equal, reached] = match kind {
-            Kind::Process => [
+        let [worn_out, worn_more, equal, reached, last] = match self.call.request.code {
+            1 => [
                 "spawn passes over a free slot of serial 65535",
                 "spawn passes over a lower slot that is worn more",
                 "spawn takes the lowest of slots worn equally",
                 "spawn reaches serial 65535",
+                "spawn takes slot 255",
             ],
-            Kind::Segment => [
+            3 => [
                 "build passes over a free slot of serial 65535",
                 "build passes over a lower slot that is worn more",
                 "build takes the lowest of slots worn equally",
                 "build reaches serial 65535",
+                "build takes slot 255",
             ],
-            Kind::File => [
+            REGRADE => [
+                "regrade passes over a free slot of serial 65535",
+                "regrade passes over a lower slot that is worn more",
+                "regrade takes the lowest of slots worn equally",
+                "regrade reaches serial 65535",
+                "regrade takes slot 255",
+            ],
+            _ => [
                 "create passes over a free slot of serial 65535",
                 "create passes over a lower slot that is worn more",
                 "create takes the lowest of slots worn equally",
                 "create reaches serial 65535",
+                "create takes slot 255",
             ],
         };
         let lower = |(slot, _): &(usize, u32)| *slot < taken;
@@ -269,11 +298,6 @@ impl Scene<'_> {
         self.tally.met(equal, free.iter().any(|free| free.1 == serial));
         self.tally.met(reached, serial + 1 == MAX_SERIAL);
         let whole = self.shape.run(kind, self.shape.cell(kind, taken)).len() == MAX_SLOTS;
-        let last = match kind {
-            Kind::Process => "spawn takes slot 255",
-            Kind::Segment => "build takes slot 255",
-            Kind::File => "create takes slot 255",
-        };
         self.tally.met(last, taken == MAX_SLOTS - 1);
         self.tally.met("a creating call in a cell with all 256 slots of the kind", whole);
     }
@@ -343,6 +367,10 @@ impl Scene<'_> {
                 let (_, stored) = self.before.entry(self.shape, self.caller, DESIGNATORS, place);
                 self.tally.met("access of a page limited by today's bits", first != stored);
             }
+            REGRADE => {
+                self.created(Kind::File, first);
+                self.regrade(request.a as usize, request.b as usize, Seid::of(first).index);
+            }
             _ => {}
         }
     }
@@ -384,6 +412,28 @@ impl Scene<'_> {
             self.tally.met("remap: one moves over its own pages", incoming == outgoing && over_own);
             self.tally.met("remap: one moves to other pages", incoming == outgoing && !over_own);
         }
+    }
+
+    fn regrade(&mut self, place: usize, to: usize, taken: usize) {
+        let guard = self.shape.cell(Kind::Process, self.caller);
+        let source = Seid::of(self.before.entry(self.shape, self.caller, DESCRIPTORS, place).0).index;
+        let from = self.shape.cell(Kind::File, source);
+        let (up, down) = (self.shape.flow[guard][to], self.shape.flow[to][guard]);
+        let size = self.word(Kind::File, source, SIZE) as usize;
+        let stretch = &self.before.store[self.shape.stretch(taken)];
+        let older = stretch[size * BLOCK_BYTES..].iter().any(|&byte| byte != 0);
+        let full = (0..ENTRIES).all(|at| self.before.entry(self.shape, self.caller, DESCRIPTORS, at).0 != 0);
+        let room = self.before.room(self.shape, guard);
+        self.tally.met("regrade down", down && !up);
+        self.tally.met("regrade up", up && !down);
+        self.tally.met("regrade beside", !up && !down);
+        self.tally.met("regrade into the guard's own cell", to == guard);
+        self.tally.met("regrade into the file's own cell, which is not the guard's", to == from && to != guard);
+        self.tally.met("regrade into a third cell", to != from && to != guard && from != guard);
+        self.tally.met("regrade of an empty file", size == 0);
+        self.tally.met("regrade over what an older file left, of more blocks", size > 0 && older);
+        self.tally.met("regrade without an empty descriptor", full);
+        self.tally.met("regrade where the guard's own cell is full", !room);
     }
 
     fn release_process(&mut self, named: u32) {
@@ -530,6 +580,15 @@ impl Scene<'_> {
                 }
             }
             (15, 16) => self.post_forbidden(request.a),
+            (REGRADE, 34) => {
+                self.tally.met("regrade refused where there is no guard", self.shape.guard.is_none());
+                let wrong = self.shape.guard.is_some() && self.call.buffer.len() != 4;
+                self.tally.met("regrade refused to another cell, its buffer wrong too", wrong);
+            }
+            (REGRADE, 26) => {
+                let room = self.before.room(self.shape, self.shape.cell(Kind::Process, self.caller));
+                self.tally.met("regrade refused of a full cell where the guard's own is not", room);
+            }
             (12, 33) => {
                 let segment = Seid::of(request.a).index;
                 let alone = self.word(Kind::Segment, segment, HOLDS) == 1;

@@ -2,10 +2,12 @@
 //! observer must not be able to tell apart.
 
 use crate::Monitor;
-use crate::calls::{self, Call};
+use crate::calls::{self, Call, REGRADE};
 use crate::differ::difference;
 use crate::rng::Rng;
-use crate::secrecy::{Seen, seen_by, view};
+use crate::secrecy::{
+    Seen, choose, contents, regrade, regrades, same_of, seen_by, share_blocks, some_cell, sources, view,
+};
 use crate::tables::{self, Limits, World};
 use plain::{Kind, MOST_RECORDS, Record, Request, Shape};
 
@@ -35,6 +37,11 @@ pub struct Met {
     pub visible_refused: u64,
     pub visible_outside: u64,
     pub hidden_done: u64,
+    /// Regrades in pairs of trays: into cells that are seen, by hidden callers, in both; the same, refused, in one tray alone; by visible
+    /// callers.
+    pub paired_regrades: u64,
+    pub refused_alone: u64,
+    pub visible_regrades: u64,
 }
 
 impl Met {
@@ -59,6 +66,9 @@ impl Met {
             self.visible_refused,
             self.visible_outside,
             self.hidden_done,
+            self.paired_regrades,
+            self.refused_alone,
+            self.visible_regrades,
         ];
         assert!(all.iter().all(|&count| count > 0), "never met: {self:#?}");
     }
@@ -249,9 +259,12 @@ fn of_length(monitor: &impl Monitor, rng: &mut Rng, count: usize, met: &mut Met)
 /// odd ones.
 const STRETCH: u32 = 520;
 
+/// Behind the stretches stand four bytes more, the same in both trays: owner and group of the regrades that both have.
+const SEAL: u32 = 4;
+
 fn apart(rng: &mut Rng, length: u32, stretches: u32, hidden: bool) -> (u32, u32) {
     if rng.chance(1, 24) {
-        return (stretches * STRETCH + rng.between(1, 9), length); // past the end
+        return (stretches * STRETCH + SEAL + rng.between(1, 9), length); // past the end
     }
     let stretch = 2 * rng.below(stretches as usize / 2) as u32 + u32::from(hidden);
     (stretch * STRETCH + rng.below((STRETCH - length) as usize + 1) as u32, length)
@@ -272,19 +285,52 @@ impl Run {
         made.error
     }
 
+    /// What a record would be answered.
+    fn due(&self, shape: &Shape, record: Record) -> u32 {
+        let mut made = record;
+        self.along.clone().single(shape, &mut made);
+        made.error
+    }
+
+    /// Some records of processes of cells that are not seen. A regrade that would be seen is left out: it needs a partner.
     fn hidden(&mut self, rng: &mut Rng, shape: &Shape, seen: &Seen, stretches: u32, met: &mut Met) {
         for _ in 0..rng.below(4) {
             let caller = calls::caller(rng, &self.along.world, shape, |cell| !seen[cell]).expect("a cell is hidden");
             let call = calls::by(rng, &self.along.world, shape, caller);
             let (offset, length) = apart(rng, (call.buffer.len() as u32).min(STRETCH), stretches, true);
             let record = record(rng, &call, offset, length);
+            if regrades(&call.request, shape, seen, true) {
+                if self.due(shape, record) == 0 {
+                    continue;
+                }
+                met.refused_alone += 1;
+            }
             met.hidden_done += u64::from(self.push(shape, record) == 0);
         }
     }
 }
 
+/// A regrade into a cell that is seen, by the hidden guard of each tray, with the same blocks; if there are two sources for it.
+fn paired_regrade(rng: &mut Rng, runs: &mut [Run; 2], shape: &Shape, seen: &Seen, seal: u32, met: &mut Met) {
+    let [one, other] = &*runs;
+    let cell = some_cell(rng, shape, seen, true).expect("the observer's own is seen");
+    let Some(source) = choose(rng, sources(&one.along.world, shape).into_iter()) else { return };
+    let blocks = contents(&one.along.world, shape, source.file).0;
+    let twins = sources(&other.along.world, shape).into_iter();
+    let Some(twin) = choose(rng, twins.filter(|twin| contents(&other.along.world, shape, twin.file).0 == blocks))
+    else {
+        return;
+    };
+    let call = regrade(rng, source, cell);
+    let twin = same_of(&call, twin);
+    let [one, other] = runs;
+    let error = one.push(shape, record(rng, &call, seal, SEAL));
+    assert_eq!(error, other.push(shape, record(rng, &twin, seal, SEAL)), "regrades of the same: {call:?} and {twin:?}");
+    met.paired_regrades += u64::from(error == 0);
+}
+
 /// Two trays under 02's premises: the tables agree on what flows to the observers, the bytes on the parts of the remaining records, and
-/// these lie apart from the others'.
+/// these lie apart from the others'. Regrades keep to the premise of the trials of calls (secrecy).
 fn pair_of_trays(monitor: &impl Monitor, rng: &mut Rng, limits: Limits, met: &mut Met) {
     let world = match rng.chance(1, 4) {
         true => tables::fresh(rng, limits),
@@ -298,19 +344,25 @@ fn pair_of_trays(monitor: &impl Monitor, rng: &mut Rng, limits: Limits, met: &mu
     }
     met.pairs += 1;
     let stretches = 2 * rng.between(1, 3);
-    let mut bytes = vec![0; (stretches * STRETCH) as usize];
+    let seal = stretches * STRETCH;
+    let mut bytes = vec![0; (seal + SEAL) as usize];
     rng.bytes(&mut bytes);
     let mut other = Hall { world: world.clone(), bytes: bytes.clone(), records: Vec::new() };
     let one = Hall { world, bytes, records: Vec::new() };
     tables::fill(rng, &mut other.world, &shape, |cell| !seen[cell]);
+    share_blocks(rng, &one.world, &mut other.world, &shape, &seen);
     for stretch in other.bytes.chunks_mut(STRETCH as usize).skip(1).step_by(2) {
         rng.bytes(stretch);
     }
     let mut runs = [one, other].map(|start| Run { along: start.clone(), start });
     let mut remaining = Vec::new();
+    let desk_seen = shape.guard.map(|guard| seen[guard]);
     for _ in 0..rng.below(30) {
         for run in &mut runs {
             run.hidden(rng, &shape, &seen, stretches, met);
+        }
+        if desk_seen == Some(false) && rng.chance(1, 4) {
+            paired_regrade(rng, &mut runs, &shape, &seen, seal, met);
         }
         let drawn_from = rng.below(2);
         let world = &runs[drawn_from].along.world;
@@ -319,8 +371,12 @@ fn pair_of_trays(monitor: &impl Monitor, rng: &mut Rng, limits: Limits, met: &mu
             false => calls::caller(rng, world, &shape, |cell| seen[cell]),
         };
         let caller = caller.unwrap_or_else(|| calls::no_caller(rng, &shape));
-        let call = calls::by(rng, world, &shape, caller);
+        let mut call = calls::by(rng, world, &shape, caller);
         let (offset, length) = apart(rng, (call.buffer.len() as u32).min(STRETCH), stretches, false);
+        if desk_seen == Some(true) && regrades(&call.request, &shape, &seen, false) {
+            // It asks about a cell that is seen.
+            call.request.b = some_cell(rng, &shape, &seen, true).expect("the guard's own is seen") as u32;
+        }
         let mut places = [0, 0];
         for (run, place) in runs.iter_mut().zip(&mut places) {
             // What stands in the room for the answer may differ.
@@ -331,6 +387,7 @@ fn pair_of_trays(monitor: &impl Monitor, rng: &mut Rng, limits: Limits, met: &mu
                 0 => met.visible_done += 1,
                 _ => met.visible_refused += 1,
             }
+            met.visible_regrades += u64::from(error == 0 && record.code == REGRADE);
             met.visible_outside += u64::from(!inside(&record, run.start.bytes.len()));
         }
         remaining.push(places);

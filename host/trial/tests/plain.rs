@@ -33,8 +33,8 @@ fn calls_keep_tables_well_formed() {
             if !matches!(call.request.code, 13 | 16 | 17) {
                 assert_eq!(buffer, call.buffer, "only 13, 16 and 17 change the buffer: {call:?}");
             }
-            if call.request.code != 14 {
-                assert!(world.store == before.store, "only 14 writes the store: {call:?}");
+            if !matches!(call.request.code, 14 | 21) {
+                assert!(world.store == before.store, "only 14 and 21 write the store: {call:?}");
             }
             for process in (0..shape.count(Kind::Process)).filter(|&process| process != call.request.caller as usize) {
                 let map = shape.at(Kind::Process, process) + MAP;
@@ -105,4 +105,16 @@ fn trays_are_calls_made_singly_and_nothing_flows_down() {
     trays::everything(&Plain, &mut rng, trial::setting("TRIAL_TRAYS", 1_500), &mut met);
     println!("{met:#?}");
     met.assert_complete();
+}
+
+/// Where the premise of regrades is broken, an observer is told: it is needed.
+#[test]
+fn the_premise_of_regrades_is_needed() {
+    let mut rng = Rng::for_trial("the_premise_of_regrades_is_needed", 7);
+    let mut told = secrecy::Told::default();
+    for _ in 0..3 * trial::setting("TRIAL_RUNS", 2_000) {
+        secrecy::broken_premise(&Plain, &mut rng, tables::MIDDLE, &mut told);
+    }
+    println!("{told:#?}");
+    told.assert_complete();
 }

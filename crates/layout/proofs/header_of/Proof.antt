@@ -1,7 +1,7 @@
 -- `layout::header_of` meets its contract: the header's words, each as the rules have it.
 use native.Mathlib.Omega.{arith}
 use borrow.Author.Needs.{needs}
-use Rattle.rules.specs.Layout.{cells, slots, blocks}
+use Rattle.rules.specs.Layout.{cells, slots, blocks, guard}
 use Rattle.layout.proofs.header_of.Statement.{statement}
 use Rattle.layout.proofs.header_of.Tie as tie
 
@@ -20,9 +20,19 @@ word-requires-4 c κs = search needs
 word-requires-5 : tie.Need-word-requires-5
 word-requires-5 c κs = search needs
 
+word-requires-6 : tie.Need-word-requires-6
+word-requires-6 c κs = search needs
+
 returns : tie.Need-returns
-unfolding cells slots blocks
-returns c = λ i. record { cells = c .before .before .before .before .word .ensures i; processes = c .before .before .before .word2 .ensures i; segments = c .before .before .word3 .ensures i; files = c .before .word4 .ensures i; blocks = c .word5 .ensures i }
+unfolding cells slots blocks guard
+returns c = λ i. record {
+  cells = c .before .before .before .before .before .word .ensures i;
+  processes = c .before .before .before .before .word2 .ensures i;
+  segments = c .before .before .before .word3 .ensures i;
+  files = c .before .before .word4 .ensures i;
+  blocks = c .before .word5 .ensures i;
+  guard = c .word6 .ensures i;
+}
 
 pub header-of-spec : {M : Type 1} → statement M
 header-of-spec =
@@ -33,4 +43,5 @@ header-of-spec =
     word-requires-3
     word-requires-4
     word-requires-5
+    word-requires-6
     returns)

@@ -9,9 +9,6 @@ put-requires c κs = search needs
 put-requires-2 : tie.Need-put-requires-2
 put-requires-2 c κs = search needs
 
-put-requires-3 : tie.Need-put-requires-3
-put-requires-3 c κs = search needs
-
 new-requires : tie.Need-new-requires
 new-requires c κs = search needs
 
@@ -19,9 +16,9 @@ same-length : tie.Need-same-length
 same-length c = search needs
 
 returns : tie.Need-returns
-returns c = (rw (c .new .ensures), rw (c .before .before .before .put3 .ensures, c .before .before .before .before .before .before .before .put2 .ensures, c .before .before .before .before .before .before .before .before .before .before .before .put .ensures))
+returns c = (rw (c .new .ensures), rw (c .before .before .before .put2 .ensures, c .before .before .before .before .before .before .before .put .ensures))
 
 pub start-spec : {M : Type 1} → statement M
 start-spec =
     tie.close
-    (tie.spec put-requires put-requires-2 put-requires-3 new-requires same-length returns)
+    (tie.spec put-requires put-requires-2 new-requires same-length returns)

@@ -23,6 +23,7 @@ pub const STATUS: u32 = 17;
 pub const ACCESS: u32 = 18;
 pub const REMAP: u32 = 19;
 pub const PAGE_ACCESS: u32 = 20;
+pub const REGRADE: u32 = 21;
 
 /// Security, integrity, compartments; process, segment and file slots; owner, group.
 pub type Cell = [u32; 8];
@@ -44,7 +45,13 @@ impl Hall {
     }
 
     pub fn new(cells: &[Cell], blocks: u32) -> Hall {
+        Hall::guarded(cells, blocks, 0)
+    }
+
+    /// With a guard word.
+    pub fn guarded(cells: &[Cell], blocks: u32, guard: u32) -> Hall {
         let mut hall = Hall::unset(cells, blocks);
+        hall.table[5] = guard;
         assert_eq!(setup(&mut hall.table, hall.store.len()), Error::XOK);
         assert!(hall.good());
         hall

@@ -1,4 +1,4 @@
--- `blocks::bad_use` meets its contract: its six tests in their order.
+-- `blocks::bad_use` meets its contract: its five tests in their order.
 use borrow.Author.Needs.{needs}
 use Rattle.calls.proofs.blocks.bad_use.Statement.{statement}
 use Rattle.calls.proofs.blocks.bad_use.Tie as tie
@@ -24,14 +24,11 @@ lacks-requires c κs = search needs
 or-refuse-requires-5 : tie.Need-or-refuse-requires-5
 or-refuse-requires-5 c κs = search needs
 
-or-refuse-requires-6 : tie.Need-or-refuse-requires-6
-or-refuse-requires-6 c κs = search needs
-
 returns : tie.Need-returns
 returns c =
-    let lacked = c .before .before in
+    let lacked = c .before in
     let held = lacked .before .before .before in
-    rw (c .or-refuse6 .ensures, c .before .or-refuse5 .ensures, lacked .lacks .ensures, lacked .before .or-refuse4 .ensures, held .or-refuse3 .ensures, held .before .before .or-refuse2 .ensures, held .before .before .before .or-refuse .ensures, held .before .before .before .before .wide .ensures)
+    rw (c .or-refuse5 .ensures, lacked .lacks .ensures, lacked .before .or-refuse4 .ensures, held .or-refuse3 .ensures, held .before .before .or-refuse2 .ensures, held .before .before .before .or-refuse .ensures, held .before .before .before .before .wide .ensures)
 
 pub bad-use-spec : {M : Type 1} → statement M
 bad-use-spec =
@@ -44,5 +41,4 @@ bad-use-spec =
     or-refuse-requires-4
     lacks-requires
     or-refuse-requires-5
-    or-refuse-requires-6
     returns)

@@ -8,22 +8,23 @@ use Rattle.calls.proofs.blocks.read_block.Statement.{statement}
 use Rattle.calls.proofs.blocks.read_block.Tie as tie
 
 -- what the code has found of the entry and its file, and the number that refuses
-abbrev found : tie.After-or-refuse2 → tie.After-read
-found c = c .before .before .before .before
+abbrev found : tie.After-or-refuse3 → tie.After-read
+found c = c .before .before .before .before .before .before
 
-abbrev entry : tie.After-or-refuse2 → tie.After-entry-of
+abbrev entry : tie.After-or-refuse3 → tie.After-entry-of
 entry c = found c .before .before
 
-abbrev start : tie.After-or-refuse2 → tie.Start
+abbrev start : tie.After-or-refuse3 → tie.Start
 start c = entry c .before .before .before .before
 
-used : (c : tie.After-or-refuse2) → Used (start c .args .t .now) (start c .args .n) (start c .args .c) (start c .args .a) (entry c .entry-of .result)
+used : (c : tie.After-or-refuse3) → Used (start c .args .t .now) (start c .args .n) (start c .args .c) (start c .args .a) (entry c .entry-of .result)
     (found c .before .look .result) (found c .read .result)
 used c = record { sound = start c .pre .0; entry = entry c .entry-of .ensures; seen = found c .before .look .ensures; sized = found c .read .ensures }
 
-told : (c : tie.After-or-refuse2) → c .or-refuse2 .result ≡ firstRefusal (readTests (length (start c .args .buffer .now)) (start c .args .a) (entry c .entry-of .result)
+told : (c : tie.After-or-refuse3) → c .or-refuse3 .result ≡ firstRefusal (readTests (length (start c .args .buffer .now)) (start c .args .a) (entry c .entry-of .result)
     (found c .before .look .result) (found c .read .result) (start c .args .n .blocks) (start c .args .b))
-told c = read-told (used c) (start c .args .store .now) (start c .args .b) (start c .args .buffer .now) (c .before .before .before .reads .ensures) (c .before .before .or-refuse .ensures) (c .before .bad-use .ensures) (c .or-refuse2 .ensures)
+told c = read-told (used c) (start c .args .store .now) (start c .args .b) (start c .args .buffer .now) (c .before .before .before .before .before .reads .ensures)
+    (c .before .before .before .before .or-refuse .ensures) (c .before .before .before .bad-use .ensures) (c .before .or-refuse2 .ensures) (c .or-refuse3 .ensures)
 
 entry-of-requires : tie.Need-entry-of-requires
 entry-of-requires c κs = search needs
@@ -45,6 +46,9 @@ bad-use-requires c κs = search needs
 
 or-refuse-requires-2 : tie.Need-or-refuse-requires-2
 or-refuse-requires-2 c κs = search needs
+
+or-refuse-requires-3 : tie.Need-or-refuse-requires-3
+or-refuse-requires-3 c κs = search needs
 
 refused-requires : tie.Need-refused-requires
 refused-requires c κs = search needs
@@ -100,6 +104,7 @@ read-block-spec =
     or-refuse-requires
     bad-use-requires
     or-refuse-requires-2
+    or-refuse-requires-3
     refused-requires
     returns
     wide-requires

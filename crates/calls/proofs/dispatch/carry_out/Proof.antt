@@ -1,5 +1,6 @@
-use Rattle.calls.proofs.Codes.{plain-through}
--- `dispatch::carry_out` meets its contract.
+-- `dispatch::carry_out` meets its contract: each code has its rule.
+use native.Mathlib.Omega.{arith}
+use Rattle.calls.proofs.Codes.{plain-through, through-21}
 use borrow.Author.Needs.{needs}
 use Rattle.calls.proofs.dispatch.carry_out.Statement.{statement}
 use Rattle.calls.proofs.dispatch.carry_out.Tie as tie
@@ -46,6 +47,24 @@ same-length-6 c = search needs
 returns-4 : tie.Need-returns-4
 returns-4 c = plain-through _ _ (c .before .before .on-map .ensures _ _)
 
+slot-in-requires : tie.Need-slot-in-requires
+slot-in-requires c κs = search needs
+
+regrade-requires : tie.Need-regrade-requires
+regrade-requires c κs = search needs
+
+same-length-7 : tie.Need-same-length-7
+same-length-7 c = search needs
+
+same-length-8 : tie.Need-same-length-8
+same-length-8 c = search needs
+
+same-length-9 : tie.Need-same-length-9
+same-length-9 c = search needs
+
+returns-5 : tie.Need-returns-5
+returns-5 c = through-21 _ _ _ _ _ _ _ _ (omega arith) (c .before .before .before .before .regrade .ensures)
+
 pub carry-out-spec : {M : Type 1} → statement M
 carry-out-spec =
     tie.close
@@ -63,4 +82,10 @@ carry-out-spec =
     returns-3
     on-map-requires
     same-length-6
-    returns-4)
+    returns-4
+    slot-in-requires
+    regrade-requires
+    same-length-7
+    same-length-8
+    same-length-9
+    returns-5)

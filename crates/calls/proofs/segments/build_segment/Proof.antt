@@ -56,7 +56,7 @@ module _ {t : List ℕ} {n : Header} {p : Caller} (sound : Sound t n p) (a b c :
     result = rw (← index, ← empty) (ap (λ (y : ℕ). said 0 y d) (new-seid sound segment slot room old made))
 
     words : {u v place entry access : ℕ} {t₁ t₂ : List ℕ} → u ≡ wordsOf t (at process (p .slot) owner) → v ≡ wordsOf t (at process (p .slot) group)
-        → place ≡ recordOf n segment (g .index) → t₁ ≡ madeAt t place (x + 1) u v b c a → entry ≡ recordOf n process (p .slot) + heldAt segment d
+        → place ≡ recordOf n segment (g .index) → t₁ ≡ madeAt t place (x + 1) u v b c a 1 → entry ≡ recordOf n process (p .slot) + heldAt segment d
         → access ≡ ownerAccess b → t₂ ≡ set (set t₁ entry s) (entry + 1) access
         → t₂ ≡ write (configuration t) t (ruleAt t (λ h q. buildSegment h q (p .slot) a b c buffer) .effects .words)
     unfolding buildSegment
@@ -64,12 +64,12 @@ module _ {t : List ℕ} {n : Header} {p : Caller} (sound : Sound t n p) (a b c :
         let h : List ℕ = configuration t in
         let known : Known t n = sound .known in
         let seid-is = new-seid sound segment slot room old made in
-        let made-at : t₁ ≡ madeAt t (offset h (at segment (g .index) 0)) (x + 1) u v b c a = record-made ∙ rw (begin, begins known segment (g .index)) in
+        let made-at : t₁ ≡ madeAt t (offset h (at segment (g .index) 0)) (x + 1) u v b c a 1 = record-made ∙ rw (begin, begins known segment (g .index)) in
         let entry-is : entry ≡ offset h (at process (p .slot) (heldAt segment d)) = at-entry ∙ spot known (at process (p .slot) (heldAt segment d)) in
         let entered-at : t₂ ≡ write h t₁ (entered segment (p .slot) d s access) =
         filled ∙ rw entry-is (sym (entered-is h t₁ segment (p .slot) d s access [] refl)) in
         rw (← index, ← empty, ← seid-is, ← old, ← used, ← mine, ← ours)
-        (entered-at ∙ rw made-at (sym (made-is h t segment (g .index) (x + 1) u v b c a (entered segment (p .slot) d s access))))
+        (entered-at ∙ rw made-at (sym (made-is h t segment (g .index) (x + 1) u v b c a 1 (entered segment (p .slot) d s access))))
 
 abbrev start : tie.After-or-refuse4 → tie.Start
 start c = c .before .before .before .before .before .before .before .before .before

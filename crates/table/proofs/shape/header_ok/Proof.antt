@@ -1,7 +1,7 @@
 -- `shape::header_ok` meets its contract: the header's claims, word by word.
 use Rattle.rules.specs.Layout.{process, segment, file}
 use Rattle.rules.specs.WellFormed.{headerOk}
-use Rattle.table.proofs.Config.{head-word, cells-read, slots-read, blocks-read}
+use Rattle.table.proofs.Config.{head-word, cells-read, slots-read, blocks-read, guard-read}
 use borrow.Author.Needs.{needs}
 use Rattle.table.proofs.shape.header_ok.Statement.{statement}
 use Rattle.table.proofs.shape.header_ok.Tie as tie
@@ -24,9 +24,6 @@ shared-slice-read-result c = search needs
 shared-slice-read-result-2 : tie.Need-shared-slice-read-result-2
 shared-slice-read-result-2 c = search needs
 
-shared-slice-read-result-3 : tie.Need-shared-slice-read-result-3
-shared-slice-read-result-3 c = search needs
-
 returns : tie.Need-returns
 unfolding headerOk
 returns c =
@@ -39,7 +36,7 @@ returns c =
       slots-read t n (s .pre .1) segment,
       slots-read t n (s .pre .1) file,
       blocks-read t n (s .pre .1),
-      head-word t 5 (search needs),
+      guard-read t n (s .pre .1),
       head-word t 6 (search needs),
       head-word t 7 (search needs),
     )
@@ -54,5 +51,4 @@ header-ok-spec =
     cast-result-4
     shared-slice-read-result
     shared-slice-read-result-2
-    shared-slice-read-result-3
     returns)

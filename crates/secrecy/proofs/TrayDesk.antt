@@ -1,0 +1,105 @@
+-- Demand 3 of trays with regrades speaks of something: two trays, on the two tables of Desk, that bring the same copy down. And each half of the premise on regrades is
+-- needed: trays that break it, and tell.
+use mathlib.Core.Path.{_≡_, refl, ap}
+use mathlib.Core.Bool.{Bool}
+use mathlib.Core.List.{List, [], _∷_}
+use Prim.Native.Nat.{ℕ, _≤_}
+use native.Mathlib.Omega.{arith}
+use lib.ListN.{length, replicate}
+use borrow.Author.Tests.{leb-true}
+use Rattle.rules.specs.Copy.{Copy}
+use Rattle.rules.specs.Step.{answer}
+use Rattle.rules.specs.Observer.{observer}
+use Rattle.rules.specs.Regrade.{withoutRefused}
+use Rattle.rules.specs.Tray.{Record, mostRecords, afterTray, remainingIn, asked, Apart, SameParts}
+use Rattle.rules.specs.TrayRegrade.{acceptedIn, eventIn, eventsIn}
+use Rattle.secrecy.proofs.Tray.{SameTrays, below-guard}
+use Rattle.secrecy.proofs.TrayInstance.{open-trays, divided, first-error}
+use Rattle.secrecy.proofs.Desk.{open-more, desk, fresh, other, secret, fresh-formed, other-formed, fresh-configuration, low-closed, agreed, guard-above, low-desk, low-fresh, low-other}
+
+-- the rules' definitions that the examples compute with
+open-desk : Unit {0}
+unfolding open-more open-trays acceptedIn eventIn eventsIn
+open-desk = tt
+
+-- a record whose part lies at a place and has so many bytes; in the room for its answer stands anything
+abbrev record-of : ℕ → ℕ → ℕ → ℕ → ℕ → ℕ → ℕ → Record
+record-of p k a b c at n = record { caller = p; code = k; a = a; b = b; c = c; offset = at; length = n; answer = answer 9 9 9 }
+
+-- the guard, process 1, makes a file and regrades it into the low cell; the low process asks for the copy's status, and opens it
+unfoldable pub one-tray : List Record
+one-tray = record-of 1 7 420 3 0 16 0 ∷ record-of 1 21 0 0 420 16 4 ∷ record-of 0 17 2164260865 0 0 0 16 ∷ record-of 0 8 2164260865 1 0 0 0 ∷ []
+
+-- the other high process does it here, with a file in another slot, and first tries a regrade whose part lies outside
+unfoldable pub other-tray : List Record
+other-tray =
+    record-of 2 7 438 11 0 16 0 ∷ record-of 2 21 0 0 420 24 4 ∷ record-of 2 21 0 0 420 20 4 ∷ record-of 0 17 2164260865 0 0 0 16 ∷ record-of 0 8 2164260865 1 0 0 0 ∷ []
+
+unfoldable pub bytes : List ℕ
+bytes = replicate 24 0
+
+abbrev low : ℕ → Bool
+low = observer desk 0
+
+same-asked : remainingIn desk low (asked one-tray) ≡ remainingIn desk low (asked other-tray)
+unfolding one-tray other-tray desk open-desk
+same-asked = refl
+
+one-apart : Apart desk low one-tray
+unfolding one-tray desk open-desk
+one-apart = divided desk low 16 one-tray refl
+
+other-apart : Apart desk low other-tray
+unfolding other-tray desk open-desk
+other-apart = divided desk low 16 other-tray refl
+
+one-short : length one-tray ≤ mostRecords
+unfolding one-tray
+one-short = leb-true 4 mostRecords refl
+
+other-short : length other-tray ≤ mostRecords
+unfolding other-tray
+other-short = leb-true 5 mostRecords refl
+
+same-told : withoutRefused (eventsIn desk low fresh bytes one-tray) ≡ withoutRefused (eventsIn desk low other bytes other-tray)
+unfolding desk fresh other secret one-tray other-tray bytes open-desk
+same-told = refl
+
+-- Demand 3 at work: the copy is all that comes down
+pub at-work : SameTrays desk low one-tray (afterTray fresh bytes one-tray) (afterTray other bytes other-tray)
+at-work = (rw fresh-configuration at (below-guard low fresh other fresh-formed other-formed)) low-closed agreed one-tray other-tray bytes bytes (record {
+  short = one-short;
+  short′ = other-short;
+  asked-same = same-asked;
+  long = refl;
+  equal = λ i s. refl;
+  apart = one-apart;
+  apart′ = other-apart;
+}) guard-above same-told
+
+-- ---- why the premise is needed
+
+-- with CR 3's premises alone the low caller tells a tray with a regrade from one without
+unfoldable pub uncopied : List Record
+uncopied = record-of 0 17 2164260865 0 0 0 16 ∷ record-of 0 8 2164260865 1 0 0 0 ∷ []
+
+pub same-remaining : remainingIn desk low (asked one-tray) ≡ remainingIn desk low (asked uncopied)
+unfolding one-tray uncopied desk open-desk
+same-remaining = refl
+
+pub regrade-tells : SameTrays desk low one-tray (afterTray fresh bytes one-tray) (afterTray fresh bytes uncopied) → ⊥
+unfolding one-tray uncopied desk fresh bytes open-desk first-error
+regrade-tells same = let z : _≡_ {A = ℕ} 0 12 = ap (λ (rs : List Record). first-error rs) (same .answers) in omega arith
+
+-- where the guard cell is the low one, a low regrade into the high cell is told of the high cell's room: the same tray on two tables that agree
+unfoldable pub upward : List Record
+upward = record-of 0 7 420 3 0 0 0 ∷ record-of 0 21 0 1 420 0 4 ∷ []
+
+abbrev firsts : List Record → List ℕ
+firsts [] = []
+firsts (r ∷ rs) = r .answer .first ∷ firsts rs
+
+pub room-told : (firsts (afterTray low-fresh bytes upward .records) ≡ 2164260865 ∷ 2164391937 ∷ [])
+    × (firsts (afterTray low-other bytes upward .records) ≡ 2164260865 ∷ 2164457473 ∷ [])
+unfolding low-desk low-fresh low-other secret upward bytes open-desk
+room-told = (refl, refl)
