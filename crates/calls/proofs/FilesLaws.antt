@@ -12,6 +12,7 @@ use Rattle.rules.specs.Layout.{maxSlots, maxBits, maxLinks, maxSerial, Kind, pr
 use Rattle.rules.specs.Seid.{class, classOf, seid, indexOf, isSeid, formed, orSelf}
 use Rattle.rules.specs.Modes.{validModes, reads, writes, clash}
 use Rattle.rules.specs.Rights.{lacks}
+use Rattle.rules.specs.Errors.{XbParam, XbadModes, XdapViol, Xbusy, XbadLink, XodSpace, XnoSpace, XshSg}
 use Rattle.rules.specs.Rule.{Refusal, _⇒_, firstRefusal, write}
 use Rattle.rules.specs.Find.{inOwnCell, flowsToCaller, rightsAt, freeSlot, noSlot, freeEntry, noEntry, entered, own, find}
 use Rattle.rules.specs.Call07.{created, create}
@@ -60,32 +61,32 @@ give-up-number h r k p a beyond empty buffer lb le xe ze ee₁ ee₂ =
 module _ {t : List ℕ} {n : Header} {c : Caller} (sound : Sound t n c) (a : ℕ) (buffer : List ℕ) {s m e₁ e₂ : ℕ} {f : Seen} (self : s ≡ orSelf (wordsOf t) (c .slot) a)
     (seen : f ≡ seenAs (configuration t) (wordsOf t) (c .slot) file (namedOf n file s)) (count : m ≡ wordsOf t (at file (f .slot) links))
     (found : e₁ ≡ refusing 0 (ownTests f file)) where
-  module _ (last : e₂ ≡ orRefuse e₁ (eqb m maxLinks) 24) where
+  module _ (last : e₂ ≡ orRefuse e₁ (eqb m maxLinks) XbadLink) where
     pub link-number : e₂ ≡ firstRefusal (ruleAt t (λ h q. link h q (c .slot) a buffer) .refusals)
     unfolding link
     link-number =
         rw (last, found, ← self)
-        (refusing-first (ownTests f file ++ (eqb m maxLinks ⇒ 24) ∷ []) refl
-        ∙ own-first (sound .known) (c .slot) file s seen ((eqb m maxLinks ⇒ 24) ∷ []) ((eqb (wordsOf t (at file (indexOf s) links)) maxLinks ⇒ 24) ∷ [])
+        (refusing-first (ownTests f file ++ (eqb m maxLinks ⇒ XbadLink) ∷ []) refl
+        ∙ own-first (sound .known) (c .slot) file s seen ((eqb m maxLinks ⇒ XbadLink) ∷ []) ((eqb (wordsOf t (at file (indexOf s) links)) maxLinks ⇒ XbadLink) ∷ [])
         (λ form. rw (count, slot-is (sound .known) (c .slot) file s seen form)))
 
-  module _ (last : e₂ ≡ orRefuse e₁ (eqb m 0) 24) where
+  module _ (last : e₂ ≡ orRefuse e₁ (eqb m 0) XbadLink) where
     pub unlink-number : e₂ ≡ firstRefusal (ruleAt t (λ h q. unlink h q (c .slot) a buffer) .refusals)
     unfolding unlink
     unlink-number =
         rw (last, found, ← self)
-        (refusing-first (ownTests f file ++ (eqb m 0 ⇒ 24) ∷ []) refl
-        ∙ own-first (sound .known) (c .slot) file s seen ((eqb m 0 ⇒ 24) ∷ []) ((eqb (wordsOf t (at file (indexOf s) links)) 0 ⇒ 24) ∷ [])
+        (refusing-first (ownTests f file ++ (eqb m 0 ⇒ XbadLink) ∷ []) refl
+        ∙ own-first (sound .known) (c .slot) file s seen ((eqb m 0 ⇒ XbadLink) ∷ []) ((eqb (wordsOf t (at file (indexOf s) links)) 0 ⇒ XbadLink) ∷ [])
         (λ form. rw (count, slot-is (sound .known) (c .slot) file s seen form)))
 
   -- past the refusals the seid is formed
-  pub linked-form : (b : Bool) → e₂ ≡ orRefuse e₁ b 24 → e₂ ≡ 0 → formed (configuration t) file s ≡ true
+  pub linked-form : (b : Bool) → e₂ ≡ orRefuse e₁ b XbadLink → e₂ ≡ 0 → formed (configuration t) file s ≡ true
   linked-form b last none =
-      let tests = ownTests f file ++ (b ⇒ 24) ∷ [] in
+      let tests = ownTests f file ++ (b ⇒ XbadLink) ∷ [] in
       form-past (sound .known) (c .slot) file s seen (clear-of tests refl (sym (refusing-first tests refl) ∙ (sym (rw found at last) ∙ none)) .0)
 
   -- its links stay in a byte
-  pub links-few : (b : Bool) → e₂ ≡ orRefuse e₁ b 24 → e₂ ≡ 0 → m ≤ maxLinks
+  pub links-few : (b : Bool) → e₂ ≡ orRefuse e₁ b XbadLink → e₂ ≡ 0 → m ≤ maxLinks
   links-few b last none =
       let form = linked-form b last none in
       let i = slot-in (sound .known) (c .slot) file s seen form in
@@ -95,13 +96,13 @@ module _ {t : List ℕ} {n : Header} {c : Caller} (sound : Sound t n c) (a : ℕ
         | no z ↦ omega (arith, count, x .free (omega (arith, x .flag)) links (omega arith) (omega arith))
       ]
 
-  pub link-words : (b : Bool) → e₂ ≡ orRefuse e₁ b 24 → e₂ ≡ 0
+  pub link-words : (b : Bool) → e₂ ≡ orRefuse e₁ b XbadLink → e₂ ≡ 0
       → set t (placeOf n (at file (f .slot) links)) (m + 1) ≡ write (configuration t) t (ruleAt t (λ h q. link h q (c .slot) a buffer) .effects .words)
   unfolding link
   link-words b last none =
       rw (count, spot (sound .known) (at file (f .slot) links), slot-is (sound .known) (c .slot) file s seen (linked-form b last none), self)
 
-  pub unlink-words : (b : Bool) → e₂ ≡ orRefuse e₁ b 24 → e₂ ≡ 0
+  pub unlink-words : (b : Bool) → e₂ ≡ orRefuse e₁ b XbadLink → e₂ ≡ 0
       → write (configuration t) t (unlinked (wordsOf t) (f .slot)) ≡ write (configuration t) t (ruleAt t (λ h q. unlink h q (c .slot) a buffer) .effects .words)
   unfolding unlink
   unlink-words b last none = rw (slot-is (sound .known) (c .slot) file s seen (linked-form b last none), self)
@@ -128,23 +129,23 @@ module _ {t : List ℕ} {n : Header} (known : Known t n) (i : ℕ) {m held : ℕ
 
 module _ {t : List ℕ} {n : Header} {c : Caller} (sound : Sound t n c) (k : Kind) (s b : ℕ) (buffer : List ℕ) {e₁ e₂ e₃ : ℕ} {x : Seen} {fixed : Bool}
     (seen : x ≡ seenAs (configuration t) (wordsOf t) (c .slot) k (namedOf n k s)) (shared : fixed ≡ isShared (wordsOf t) k (x .slot))
-    (first : e₁ ≡ orRefuse 0 (ltb maxBits b) 4) (second : e₂ ≡ refusing e₁ (ownTests x k)) (last : e₃ ≡ orRefuse e₂ fixed 33) where
+    (first : e₁ ≡ orRefuse 0 (ltb maxBits b) XbParam) (second : e₂ ≡ refusing e₁ (ownTests x k)) (last : e₃ ≡ orRefuse e₂ fixed XshSg) where
   -- the code's tests
   abbrev tests : List Refusal
-  tests = (ltb maxBits b ⇒ 4) ∷ ownTests x k ++ (fixed ⇒ 33) ∷ []
+  tests = (ltb maxBits b ⇒ XbParam) ∷ ownTests x k ++ (fixed ⇒ XshSg) ∷ []
 
   tests-numbered : numbered tests ≡ true
-  tests-numbered = own-numbered x k ((fixed ⇒ 33) ∷ []) refl
+  tests-numbered = own-numbered x k ((fixed ⇒ XshSg) ∷ []) refl
 
   tests-told : e₃ ≡ firstRefusal tests
   tests-told = rw (last, second, first) (refusing-first tests tests-numbered)
 
   pub bits-number : e₃ ≡ firstRefusal (setBitsOf (configuration t) (wordsOf t) (c .slot) s b buffer k .refusals)
   bits-number =
-      let rule-last = (isShared (wordsOf t) k (indexOf s) ⇒ 33) ∷ [] in
+      let rule-last = (isShared (wordsOf t) k (indexOf s) ⇒ XshSg) ∷ [] in
       tests-told
-      ∙ past (ltb maxBits b) 4 (ownTests x k ++ (fixed ⇒ 33) ∷ []) (own (configuration t) (wordsOf t) (c .slot) k s ++ rule-last)
-      (λ _. own-first (sound .known) (c .slot) k s seen ((fixed ⇒ 33) ∷ []) rule-last (λ form. rw (shared, slot-is (sound .known) (c .slot) k s seen form)))
+      ∙ past (ltb maxBits b) XbParam (ownTests x k ++ (fixed ⇒ XshSg) ∷ []) (own (configuration t) (wordsOf t) (c .slot) k s ++ rule-last)
+      (λ _. own-first (sound .known) (c .slot) k s seen ((fixed ⇒ XshSg) ∷ []) rule-last (λ form. rw (shared, slot-is (sound .known) (c .slot) k s seen form)))
 
   pub bits-words : e₃ ≡ 0 → {j : ℕ} → j ≡ bits k
       → set t (placeOf n (at k (x .slot) j)) b ≡ write (configuration t) t (setBitsOf (configuration t) (wordsOf t) (c .slot) s b buffer k .effects .words)
@@ -170,19 +171,19 @@ module _ (h : List ℕ) (r : Addr → ℕ) (p a b : ℕ) (buffer : List ℕ) {s 
 -- ---- 7: create. d is the descriptor and f the slot that were found
 
 module _ {t : List ℕ} {n : Header} {c : Caller} (sound : Sound t n c) (a b : ℕ) (buffer : List ℕ) {d z e₁ e₂ e₃ e₄ : ℕ} {ok : Bool} {f : Slot}
-    (slot : f ≡ slotFound (configuration t) (wordsOf t) file (c .cell)) (entry : d ≡ freeEntry (wordsOf t) file (c .slot)) (first : e₁ ≡ orRefuse 0 (ltb maxBits a) 4)
-    (modes : ok ≡ validModes b) (second : e₂ ≡ orRefuse e₁ (not ok) 7) (wide : z ≡ d) (third : e₃ ≡ orRefuse e₂ (leb entries z) 25) (last : e₄ ≡ orRefuse e₃ (f .none) 26) where
-  create-found : e₄ ≡ firstRefusal ((ltb maxBits a ⇒ 4) ∷ (not (validModes b) ⇒ 7) ∷ (leb entries d ⇒ 25) ∷ (f .none ⇒ 26) ∷ [])
+    (slot : f ≡ slotFound (configuration t) (wordsOf t) file (c .cell)) (entry : d ≡ freeEntry (wordsOf t) file (c .slot)) (first : e₁ ≡ orRefuse 0 (ltb maxBits a) XbParam)
+    (modes : ok ≡ validModes b) (second : e₂ ≡ orRefuse e₁ (not ok) XbadModes) (wide : z ≡ d) (third : e₃ ≡ orRefuse e₂ (leb entries z) XodSpace) (last : e₄ ≡ orRefuse e₃ (f .none) XnoSpace) where
+  create-found : e₄ ≡ firstRefusal ((ltb maxBits a ⇒ XbParam) ∷ (not (validModes b) ⇒ XbadModes) ∷ (leb entries d ⇒ XodSpace) ∷ (f .none ⇒ XnoSpace) ∷ [])
   create-found =
       rw (last, third, wide, second, modes, first)
-      (refusing-first ((ltb maxBits a ⇒ 4) ∷ (not (validModes b) ⇒ 7) ∷ (leb entries d ⇒ 25) ∷ (f .none ⇒ 26) ∷ []) refl)
+      (refusing-first ((ltb maxBits a ⇒ XbParam) ∷ (not (validModes b) ⇒ XbadModes) ∷ (leb entries d ⇒ XodSpace) ∷ (f .none ⇒ XnoSpace) ∷ []) refl)
 
   pub create-number : e₄ ≡ firstRefusal (ruleAt t (λ h q. create h q (c .slot) a b buffer) .refusals)
   unfolding create
   create-number = create-found ∙ rw (entry, slot, sound .home)
 
   pub create-room : e₄ ≡ 0 → f .none ≡ false
-  create-room q = clear-of ((ltb maxBits a ⇒ 4) ∷ (not (validModes b) ⇒ 7) ∷ (leb entries d ⇒ 25) ∷ (f .none ⇒ 26) ∷ []) refl (sym create-found ∙ q) .1 .1 .1 .0
+  create-room q = clear-of ((ltb maxBits a ⇒ XbParam) ∷ (not (validModes b) ⇒ XbadModes) ∷ (leb entries d ⇒ XodSpace) ∷ (f .none ⇒ XnoSpace) ∷ []) refl (sym create-found ∙ q) .1 .1 .1 .0
 
   -- x is the slot's serial, u and g the caller's owner and group, s the new seid
   module _ (none : e₄ ≡ 0) {x u g s : ℕ} (xe : x ≡ wordsOf t (at file (f .index) serial)) (ue : u ≡ wordsOf t (at process (c .slot) owner)) (ge : g ≡ wordsOf t (at process (c .slot) group))
@@ -249,39 +250,39 @@ module _ {t : List ℕ} {n : Header} {c : Caller} (sound : Sound t n c) (a b : �
         modes = passed (validModes b) (clear .0);
       }
 
-  module _ {z e₂ e₃ : ℕ} {clashing : Bool} (searched : clashing ≡ eqb e₁ 0 && (f .own && clashes (configuration t) (wordsOf t) (c .cell) s b)) (second : e₂ ≡ orRefuse e₁ clashing 19) (wide : z ≡ d)
-      (last : e₃ ≡ orRefuse e₂ (leb entries z) 25) where
-    pub open-found : e₃ ≡ firstRefusal (openTests f b ++ (f .own && clashes (configuration t) (wordsOf t) (c .cell) s b ⇒ 19) ∷ (leb entries d ⇒ 25) ∷ [])
+  module _ {z e₂ e₃ : ℕ} {clashing : Bool} (searched : clashing ≡ eqb e₁ 0 && (f .own && clashes (configuration t) (wordsOf t) (c .cell) s b)) (second : e₂ ≡ orRefuse e₁ clashing Xbusy) (wide : z ≡ d)
+      (last : e₃ ≡ orRefuse e₂ (leb entries z) XodSpace) where
+    pub open-found : e₃ ≡ firstRefusal (openTests f b ++ (f .own && clashes (configuration t) (wordsOf t) (c .cell) s b ⇒ Xbusy) ∷ (leb entries d ⇒ XodSpace) ∷ [])
     open-found =
-        rw (last, wide, second, searched, only-then e₁ (f .own && clashes (configuration t) (wordsOf t) (c .cell) s b) 19, first)
-        (refusing-first (openTests f b ++ (f .own && clashes (configuration t) (wordsOf t) (c .cell) s b ⇒ 19) ∷ (leb entries d ⇒ 25) ∷ []) refl)
+        rw (last, wide, second, searched, only-then e₁ (f .own && clashes (configuration t) (wordsOf t) (c .cell) s b) Xbusy, first)
+        (refusing-first (openTests f b ++ (f .own && clashes (configuration t) (wordsOf t) (c .cell) s b ⇒ Xbusy) ∷ (leb entries d ⇒ XodSpace) ∷ []) refl)
 
     pub open-number : e₃ ≡ firstRefusal (ruleAt t (λ h q. openFile h q (c .slot) a b buffer) .refusals)
     unfolding openFile
     open-number =
         open-found
         ∙ rw (← self, entry, sound .home)
-        (past (not (validModes b)) 7
+        (past (not (validModes b)) XbadModes
         (findTests f file (not (f .flows) || (writes b && not (f .own)))
-        ++ (lacks (f .rights) (reads b) (writes b) ⇒ 16) ∷ (f .own && clashes (configuration t) (wordsOf t) (cellOf (configuration t) process (c .slot)) s b ⇒ 19)
-        ∷ (noEntry (wordsOf t) file (c .slot) ⇒ 25) ∷ [])
+        ++ (lacks (f .rights) (reads b) (writes b) ⇒ XdapViol) ∷ (f .own && clashes (configuration t) (wordsOf t) (cellOf (configuration t) process (c .slot)) s b ⇒ Xbusy)
+        ∷ (noEntry (wordsOf t) file (c .slot) ⇒ XodSpace) ∷ [])
         (find (configuration t) (wordsOf t) file s (not (flowsToCaller (configuration t) (c .slot) file s) || (writes b && not (inOwnCell (configuration t) (c .slot) file s)))
-        ++ (lacks (rightsAt (wordsOf t) (c .slot) file (indexOf s)) (reads b) (writes b) ⇒ 16)
-        ∷ (inOwnCell (configuration t) (c .slot) file s && clashes (configuration t) (wordsOf t) (cellOf (configuration t) process (c .slot)) s b ⇒ 19)
-        ∷ (noEntry (wordsOf t) file (c .slot) ⇒ 25) ∷ [])
+        ++ (lacks (rightsAt (wordsOf t) (c .slot) file (indexOf s)) (reads b) (writes b) ⇒ XdapViol)
+        ∷ (inOwnCell (configuration t) (c .slot) file s && clashes (configuration t) (wordsOf t) (cellOf (configuration t) process (c .slot)) s b ⇒ Xbusy)
+        ∷ (noEntry (wordsOf t) file (c .slot) ⇒ XodSpace) ∷ [])
         (λ _. find-first (sound .known) (c .slot) file s seen (not (f .flows) || (writes b && not (f .own)))
         (not (flowsToCaller (configuration t) (c .slot) file s) || (writes b && not (inOwnCell (configuration t) (c .slot) file s)))
-        ((lacks (f .rights) (reads b) (writes b) ⇒ 16) ∷ (f .own && clashes (configuration t) (wordsOf t) (cellOf (configuration t) process (c .slot)) s b ⇒ 19)
-        ∷ (noEntry (wordsOf t) file (c .slot) ⇒ 25) ∷ [])
-        ((lacks (rightsAt (wordsOf t) (c .slot) file (indexOf s)) (reads b) (writes b) ⇒ 16)
-        ∷ (inOwnCell (configuration t) (c .slot) file s && clashes (configuration t) (wordsOf t) (cellOf (configuration t) process (c .slot)) s b ⇒ 19)
-        ∷ (noEntry (wordsOf t) file (c .slot) ⇒ 25) ∷ [])
+        ((lacks (f .rights) (reads b) (writes b) ⇒ XdapViol) ∷ (f .own && clashes (configuration t) (wordsOf t) (cellOf (configuration t) process (c .slot)) s b ⇒ Xbusy)
+        ∷ (noEntry (wordsOf t) file (c .slot) ⇒ XodSpace) ∷ [])
+        ((lacks (rightsAt (wordsOf t) (c .slot) file (indexOf s)) (reads b) (writes b) ⇒ XdapViol)
+        ∷ (inOwnCell (configuration t) (c .slot) file s && clashes (configuration t) (wordsOf t) (cellOf (configuration t) process (c .slot)) s b ⇒ Xbusy)
+        ∷ (noEntry (wordsOf t) file (c .slot) ⇒ XodSpace) ∷ [])
         (λ form. rw (seen-formed (sound .known) (c .slot) file s seen form)) (λ form. rw (seen-formed (sound .known) (c .slot) file s seen form))))
 
     -- past the refusals the seid is formed
     pub open-form : e₃ ≡ 0 → formed (configuration t) file s ≡ true
     open-form none =
-        let clear = clear-of (openTests f b ++ (f .own && clashes (configuration t) (wordsOf t) (c .cell) s b ⇒ 19) ∷ (leb entries d ⇒ 25) ∷ []) refl (sym open-found ∙ none) in
+        let clear = clear-of (openTests f b ++ (f .own && clashes (configuration t) (wordsOf t) (c .cell) s b ⇒ Xbusy) ∷ (leb entries d ⇒ XodSpace) ∷ []) refl (sym open-found ∙ none) in
         form-past (sound .known) (c .slot) file s seen (clear .1 .0)
 
     pub open-fits : e₃ ≡ 0 → {object : ℕ} → object ≡ recordOf n file (f .slot) → getD t (object + opens) 0 ≤ maxSlots * entries
