@@ -3,3 +3,4 @@ pub mod Made
 pub mod Demand3
 pub mod Image
 pub mod Trays
+pub mod Tenants

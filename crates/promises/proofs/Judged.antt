@@ -9,7 +9,7 @@ use Rattle.rules.specs.Claim.{test}
 use Rattle.rules.specs.Level.{within, equals, flowsTo}
 use Rattle.rules.specs.Layout.{headerWords, cellWords, process, segment, file, recordWords, cells, slots, blocks, guard, cellWord, levelOf, configuration, firstSlot, cellOf, flows, Addr, at, rd, live, serial, owner, group, parent, queue, zero7, heldAt, usedAt, messageAt, pageAt, bits, sharable, size, references, opens}
 use Rattle.rules.specs.Seid.{class, seid, classOf, indexOf, serialOf, isSeid}
-use Rattle.rules.specs.Modes.{validModes, writes}
+use Rattle.rules.specs.Modes.{validModes, excludesReaders, excludesWriters, writes, clash}
 use Rattle.rules.specs.Rights.{asksWrite, validAccess}
 use Rattle.rules.specs.WellFormed.{headerOk, cellOk, levelsDistinct, sumsMatch, configured, lengthsExact, recordOk, heldOk, currentOk, entryOk, parentOk, heldOnce, messageOk, pageOk, processOk, ownEntry, ownEntries, segmentSize, segmentOk, fileOk, recordsOk, wellFormed}
 use Rattle.rules.specs.Rule.{Word, _≔_, write}
@@ -64,6 +64,10 @@ butSecurity v = set used (headerWords + cellWords * 1) v
 abbrev butGuard : ℕ → List ℕ
 butGuard v = set used 5 v
 
+-- the first process has the file open once more, alone of all
+abbrev twiceOpen : List ℕ
+twiceOpen = write conf used ((at process 0 (heldAt file 1) ≔ opened) ∷ (at process 0 (usedAt file 1) ≔ 15) ∷ (at file 0 opens ≔ 2) ∷ [])
+
 abbrev right : List ℕ → Bool
 right t = test (wellFormed t bytes)
 
@@ -78,6 +82,8 @@ pub record Judged : Type 0 where
   pub stale-across : right (but (at process 1 (heldAt file 5)) (opened - 1)) ≡ true
   pub serial-to-come : right (but (at process 1 (heldAt file 5)) (opened + 1)) ≡ false
   pub stale-at-home : right (but (at process 0 (heldAt file 0)) (opened - 1)) ≡ false
+  -- two opens may clash in a table that is lent: that they never do is so from set-up on (Clash)
+  pub clashing : (right twiceOpen ≡ true) × (clash 3 15 ≡ true)
   -- to write is held in the own cell alone
   pub write-across : right (but (at process 1 (usedAt file 5)) 3) ≡ false
   pub parent-across : right (but (at process 1 parent) sender) ≡ false
@@ -107,7 +113,7 @@ pub record Judged : Type 0 where
   pub byte-too-many : test (wellFormed used (bytes + 1)) ≡ false
 
 pub judged : Judged
-unfolding allBelow sumBelow countBelow lowest within equals flowsTo cells slots blocks guard cellWord levelOf configuration firstSlot cellOf flows rd seid classOf indexOf serialOf isSeid validModes writes asksWrite validAccess headerOk cellOk levelsDistinct sumsMatch configured lengthsExact recordOk heldOk currentOk entryOk parentOk heldOnce messageOk pageOk processOk ownEntry ownEntries segmentSize segmentOk fileOk recordsOk wellFormed canSetUp firstProcesses freshTable setUpTable
+unfolding allBelow sumBelow countBelow lowest within equals flowsTo cells slots blocks guard cellWord levelOf configuration firstSlot cellOf flows rd seid classOf indexOf serialOf isSeid validModes excludesReaders excludesWriters writes clash asksWrite validAccess headerOk cellOk levelsDistinct sumsMatch configured lengthsExact recordOk heldOk currentOk entryOk parentOk heldOnce messageOk pageOk processOk ownEntry ownEntries segmentSize segmentOk fileOk recordsOk wellFormed canSetUp firstProcesses freshTable setUpTable
 judged =
     record {
       not-set-up = refl;
@@ -118,6 +124,7 @@ judged =
       stale-across = refl;
       serial-to-come = refl;
       stale-at-home = refl;
+      clashing = (refl, refl);
       write-across = refl;
       parent-across = refl;
       free-serial = refl;

@@ -17,9 +17,11 @@ pub mod Map
 pub mod Shared
 pub mod Regraded
 pub mod Single
+pub mod Clash
 pub mod Gone
 pub mod Edges
 pub mod Image
+pub mod Reloaded
 pub mod Tray
 pub mod Finding
 pub mod Printed

@@ -1,5 +1,5 @@
--- No identifier is handed out twice: in a run from set-up, and from any well-formed state, two creating calls (1, 3, 7 or 21) that succeed never answer the same seid,
--- though objects go and their slots are used again; nor is a first process's ever answered.
+-- No identifier is handed out twice: in a run from set-up without reload (02, CR 14), and from any well-formed state, two creating calls (1, 3, 7 or 21) that succeed
+-- never answer the same seid, though objects go and their slots are used again; nor is a first process's ever answered.
 use mathlib.Core.Path.{_≡_, refl, sym, ap, _∙_}
 use mathlib.Core.Bool.{Bool, true, false, _||_}
 use mathlib.Core.List.{List, _++_}

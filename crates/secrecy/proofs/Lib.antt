@@ -33,6 +33,7 @@ pub mod Regrades
 pub mod Demand3
 pub mod TrayRegrades
 pub mod Tray
+pub mod Tenants
 pub mod AfterSetUp
 pub mod Instance
 pub mod TrayInstance
