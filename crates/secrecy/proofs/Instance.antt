@@ -1,14 +1,13 @@
--- Demand 3 speaks of something: two well-formed tables that differ in the high cell, and document 01's listing run on them.
+-- Demand 3 speaks of something: two well-formed tables that differ in the high cell, and document 01's listing run on them. The tables may have a guard cell, for Desk.
 use mathlib.Core.Path.{_≡_, refl}
 use mathlib.Core.Bool.{true, false}
 use mathlib.Core.List.{List, [], _∷_, _++_}
-use Prim.Native.Nat.{ℕ, _+_, _*_}
+use Prim.Native.Nat.{ℕ, zero, suc, _+_, _*_}
 use native.Mathlib.Omega.{arith}
 use lib.Dec.{ltb}
 use lib.ListN.{length, replicate}
 use borrow.Author.Tests.{ltb-true}
 use Rattle.rules.specs.Words.{allBelow, someBelow, sumBelow, countBelow, lowest, orRather, least, tabFrom, part}
-use Rattle.rules.specs.Claim.{test}
 use Rattle.rules.specs.Level.{within, equals, flowsTo}
 use Rattle.rules.specs.Layout.{Kind, process, file, recordWords, live, serial, owner, bits, links, size, cells, slots, blocks, guard, cellWord, levelOf, configuration, firstSlot, cellOf, flows, at, rd}
 use Rattle.rules.specs.Seid.{seid, classOf, indexOf, serialOf, isSeid, seidAt, orSelf, present}
@@ -38,22 +37,93 @@ unfoldable pub open-rules : Unit {0}
 unfolding freshTable firstProcesses allBelow someBelow sumBelow countBelow lowest orRather least tabFrom part within equals flowsTo cells slots blocks guard cellWord levelOf configuration firstSlot cellOf flows rd seid classOf indexOf serialOf isSeid seidAt orSelf present validModes reads writes excludesReaders excludesWriters clash rights mayRead mayWrite lacks asksRead asksWrite validAccess access headerOk cellOk levelsDistinct sumsMatch configured lengthsExact recordOk heldOk currentOk entryOk parentOk heldOnce messageOk pageOk processOk ownEntry ownEntries segmentSize segmentOk fileOk recordsOk wellFormed rightsAt freeSlot freeEntry zeros oneLess pageLeft pagesSet emptied givenUp create clashesAt clashes openFile close block readBlock ruleOf badCaller badCode carriedOut wholeRule step reply stays remaining replies
 open-rules = tt
 
--- "Two cells, security 1 and 3, integrity, compartments, owner and group 0, two process and two file slots each, no segment slots, B 1."
-unfoldable pub hall : List ℕ
-hall =
-    (2 ∷ 4 ∷ 0 ∷ 4 ∷ 1 ∷ 0 ∷ 0 ∷ 0 ∷ []) ++ ((1 ∷ 0 ∷ 0 ∷ 2 ∷ 0 ∷ 2 ∷ 0 ∷ 0 ∷ []) ++ (3 ∷ 0 ∷ 0 ∷ 2 ∷ 0 ∷ 2 ∷ 0 ∷ 0 ∷ []))
+-- "Two cells, security 1 and 3, integrity, compartments, owner and group 0, two process and two file slots each, no segment slots, B 1." g is the guard word.
+unfoldable pub guarded : ℕ → List ℕ
+guarded g =
+    (2 ∷ 4 ∷ 0 ∷ 4 ∷ 1 ∷ g ∷ 0 ∷ 0 ∷ []) ++ ((1 ∷ 0 ∷ 0 ∷ 2 ∷ 0 ∷ 2 ∷ 0 ∷ 0 ∷ []) ++ (3 ∷ 0 ∷ 0 ∷ 2 ∷ 0 ∷ 2 ∷ 0 ∷ 0 ∷ []))
 
-unfoldable pub fresh : State
-fresh = record { table = freshTable hall; store = replicate 2048 0 }
+unfoldable pub fresh : ℕ → State
+fresh g = record { table = freshTable (guarded g); store = replicate 2048 0 }
+
+-- a second state: in the high cell another process lives, and a file with contents stands in the first slot
+unfoldable pub secret : Effect
+secret =
+    effect 0 0 []
+    ((at process 3 live ≔ 1) ∷ (at process 3 serial ≔ 7) ∷ (at process 3 owner ≔ 5) ∷ (at file 2 live ≔ 1) ∷ (at file 2 serial ≔ 9) ∷ (at file 2 (bits file) ≔ 420)
+    ∷ (at file 2 links ≔ 1) ∷ (at file 2 size ≔ 1) ∷ [])
+    (bytesAt 2 0 (1 ∷ 2 ∷ 3 ∷ []) ∷ [])
+
+unfoldable pub other : ℕ → State
+other g = record { table = write (guarded g) (fresh g .table) (secret .words); store = store (guarded g) (fresh g .store) (secret .bytes) }
+
+-- the two states differ
+pub differ : (g : ℕ) → (rd (guarded g) (fresh g .table) (at process 3 live) ≡ 0) × (rd (guarded g) (other g .table) (at process 3 live) ≡ 1)
+unfolding guarded fresh freshTable firstProcesses other secret rd cells slots cellWord firstSlot sumBelow
+differ g = (refl, refl)
+
+-- ---- the premises of demand 3 are met, for an observer in the low cell, whichever cell is the guard's
+
+pub fresh-formed : (g : ℕ) → ltb g 3 ≡ true → Well (fresh g)
+unfolding guarded fresh open-rules
+fresh-formed zero l = holds (wellFormed (fresh 0 .table) (length (fresh 0 .store))) refl
+fresh-formed (suc zero) l = holds (wellFormed (fresh 1 .table) (length (fresh 1 .store))) refl
+fresh-formed (suc (suc zero)) l = holds (wellFormed (fresh 2 .table) (length (fresh 2 .store))) refl
+fresh-formed (suc (suc (suc g))) l = absurd (omega (arith, ltb-true (suc (suc (suc g))) 3 l))
+
+pub other-formed : (g : ℕ) → ltb g 3 ≡ true → Well (other g)
+unfolding other secret guarded fresh open-rules
+other-formed zero l = holds (wellFormed (other 0 .table) (length (other 0 .store))) refl
+other-formed (suc zero) l = holds (wellFormed (other 1 .table) (length (other 1 .store))) refl
+other-formed (suc (suc zero)) l = holds (wellFormed (other 2 .table) (length (other 2 .store))) refl
+other-formed (suc (suc (suc g))) l = absurd (omega (arith, ltb-true (suc (suc (suc g))) 3 l))
+
+pub fresh-configuration : (g : ℕ) → configuration (fresh g .table) ≡ guarded g
+unfolding guarded fresh open-rules
+fresh-configuration g = refl
+
+other-configuration : (g : ℕ) → configuration (other g .table) ≡ guarded g
+unfolding other secret guarded fresh open-rules
+other-configuration g = refl
+
+pub low-closed : (g : ℕ) → Closed (guarded g) (observer (guarded g) 0)
+low-closed g c d e f = flows-trans (guarded g) c d 0 e f
+
+-- the high cell does not flow to the observer, and what differs lies in it
+high-unseen : (g : ℕ) → observer (guarded g) 0 1 ≡ false
+unfolding guarded open-rules
+high-unseen g = refl
+
+module _ (g : ℕ) where
+  high : (k : Kind) (i j : ℕ) → cellOf (guarded g) k i ≡ 1 → ltb i (slots (guarded g) k) ≡ true → ltb j (recordWords k) ≡ true → Up (guarded g) 1 (at k i j)
+  unfolding guarded open-rules
+  high k i j e l m = record { valid = (ltb-true i (slots (guarded g) k) l, ltb-true j (recordWords k) m); up = rw e }
+
+  high-words : Ups (guarded g) 1 (secret .words)
+  unfolding secret guarded open-rules
+  high-words = search (also, nil, high) depth 12
+
+  high-bytes : AllOf (UpBytes (guarded g) 1) (secret .bytes)
+  unfolding secret guarded open-rules
+  high-bytes = let u : UpBytes (guarded g) 1 (bytesAt 2 0 (1 ∷ 2 ∷ 3 ∷ [])) = record { there = omega arith; inside = omega arith; up = refl } in also u nil
+
+  fresh-sized : Sized (guarded g) (fresh g)
+  unfolding guarded fresh open-rules
+  fresh-sized = record { words = refl; bytes = refl }
+
+  pub agreed : Agree (observer (guarded g) 0) (fresh g) (other g)
+  unfolding other
+  agreed = from-configuration (guarded g) (observer (guarded g) 0) (fresh g) (other g) (fresh-configuration g) (other-configuration g)
+      (hide-effect (guarded g) (observer (guarded g) 0) 1 secret (low-closed g) (high-unseen g) high-words high-bytes (fresh g) fresh-sized)
+
+-- ---- 01's hall has no guard cell
+
+abbrev pub hall : List ℕ
+hall = guarded 0
 
 -- as set-up leaves it, whatever stood there
-pub set-up-gives : setUpTable (hall ++ replicate (recordWords process * 4 + recordWords file * 4) 9) 2048 ≡ fresh .table
-unfolding hall fresh canSetUp setUpTable open-rules
+pub set-up-gives : setUpTable (hall ++ replicate (recordWords process * 4 + recordWords file * 4) 9) 2048 ≡ fresh 0 .table
+unfolding guarded fresh canSetUp setUpTable open-rules
 set-up-gives = refl
-
-fresh-test : test (wellFormed (fresh .table) (length (fresh .store))) ≡ true
-unfolding hall fresh open-rules
-fresh-test = refl
 
 -- ---- 01's listing
 
@@ -67,91 +137,27 @@ unfoldable pub listing : List Call
 listing =
     call 0 7 420 3 0 ∷ call 2 8 2164260865 1 0 ∷ call 0 7 420 1 0 ∷ call 0 7 420 1 0 ∷ call 0 9 0 0 0 ∷ call 2 13 0 0 512 ∷ call 0 7 420 3 0 ∷ call 2 13 0 0 512 ∷ []
 
-pub listed : replies hall (λ c. true) fresh listing
+pub listed : replies hall (λ c. true) (fresh 0) listing
     ≡ said 0 2164260865 0 0 ∷ said 0 0 0 0 ∷ said 0 2164326401 1 0 ∷ said 26 0 0 0 ∷ said 0 0 0 0 ∷ said 12 0 0 512 ∷ said 0 2164260866 0 0 ∷ said 12 0 0 512 ∷ []
-unfolding hall fresh listing open-rules
+unfolding guarded fresh listing open-rules
 listed = refl
-
--- ---- a second state: in the high cell another process lives, and a file with contents
-
-unfoldable pub secret : Effect
-secret =
-    effect 0 0 []
-    ((at process 3 live ≔ 1) ∷ (at process 3 serial ≔ 7) ∷ (at process 3 owner ≔ 5) ∷ (at file 2 live ≔ 1) ∷ (at file 2 serial ≔ 9) ∷ (at file 2 (bits file) ≔ 420)
-    ∷ (at file 2 links ≔ 1) ∷ (at file 2 size ≔ 1) ∷ [])
-    (bytesAt 2 0 (1 ∷ 2 ∷ 3 ∷ []) ∷ [])
-
-unfoldable pub other : State
-other = record { table = write hall (fresh .table) (secret .words); store = store hall (fresh .store) (secret .bytes) }
 
 -- the high calls are others too
 unfoldable pub others : List Call
 others =
     call 3 1 5 5 0 ∷ call 0 7 420 3 0 ∷ call 2 7 438 3 0 ∷ call 0 7 420 1 0 ∷ call 3 13 0 0 512 ∷ call 0 7 420 1 0 ∷ call 0 9 0 0 0 ∷ call 0 7 420 3 0 ∷ call 2 15 0 0 12 ∷ []
 
-other-test : test (wellFormed (other .table) (length (other .store))) ≡ true
-unfolding other secret hall fresh open-rules
-other-test = refl
-
--- the two states differ
-pub differ : (rd hall (fresh .table) (at process 3 live) ≡ 0) × (rd hall (other .table) (at process 3 live) ≡ 1)
-unfolding hall fresh freshTable firstProcesses other secret rd cells slots cellWord firstSlot sumBelow
-differ = (refl, refl)
-
--- ---- the premises of demand 3 are met, for an observer in the low cell
-
-pub fresh-formed : Well fresh
-fresh-formed = holds (wellFormed (fresh .table) (length (fresh .store))) fresh-test
-
-pub other-formed : Well other
-other-formed = holds (wellFormed (other .table) (length (other .store))) other-test
-
-pub fresh-configuration : configuration (fresh .table) ≡ hall
-unfolding hall fresh open-rules
-fresh-configuration = refl
-
-other-configuration : configuration (other .table) ≡ hall
-unfolding other secret hall fresh open-rules
-other-configuration = refl
-
-pub low-closed : Closed hall (observer hall 0)
-low-closed c d f g = flows-trans hall c d 0 f g
-
--- the high cell does not flow to the observer, and what differs lies in it
-high-unseen : observer hall 0 1 ≡ false
-unfolding hall open-rules
-high-unseen = refl
-
-high : (k : Kind) (i j : ℕ) → cellOf hall k i ≡ 1 → ltb i (slots hall k) ≡ true → ltb j (recordWords k) ≡ true → Up hall 1 (at k i j)
-unfolding hall open-rules
-high k i j e l m = record { valid = (ltb-true i (slots hall k) l, ltb-true j (recordWords k) m); up = rw e }
-
-high-words : Ups hall 1 (secret .words)
-unfolding secret hall open-rules
-high-words = search (also, nil, high) depth 12
-
-high-bytes : AllOf (UpBytes hall 1) (secret .bytes)
-unfolding secret hall open-rules
-high-bytes = let u : UpBytes hall 1 (bytesAt 2 0 (1 ∷ 2 ∷ 3 ∷ [])) = record { there = omega arith; inside = omega arith; up = refl } in also u nil
-
-fresh-sized : Sized hall fresh
-unfolding hall fresh open-rules
-fresh-sized = record { words = refl; bytes = refl }
-
-pub agreed : Agree (observer hall 0) fresh other
-unfolding other
-agreed = from-configuration hall (observer hall 0) fresh other fresh-configuration other-configuration
-    (hide-effect hall (observer hall 0) 1 secret low-closed high-unseen high-words high-bytes fresh fresh-sized)
-
 pub same-remaining : remaining hall (observer hall 0) listing ≡ remaining hall (observer hall 0) others
-unfolding listing others hall open-rules
+unfolding listing others guarded open-rules
 same-remaining = refl
 
--- the hall has no guard cell, so nothing more is asked of the calls
+-- there is no guard cell, so nothing more is asked of the calls
 pub unguarded : guard hall ≡ 0
-unfolding hall guard
+unfolding guarded guard
 unguarded = refl
 
 -- Demand 3 at work: the low caller of 01's listing gets the same answers whatever stands and happens in the high cell.
-pub at-work : (replies hall (observer hall 0) fresh listing ≡ replies hall (observer hall 0) other others) × Agree (observer hall 0) (run fresh listing) (run other others)
-at-work = (rw fresh-configuration at (no-guard (observer hall 0) fresh other fresh-formed other-formed)) low-closed agreed listing others same-remaining unguarded
+pub at-work : (replies hall (observer hall 0) (fresh 0) listing ≡ replies hall (observer hall 0) (other 0) others)
+    × Agree (observer hall 0) (run (fresh 0) listing) (run (other 0) others)
+at-work = (rw (fresh-configuration 0) at (no-guard (observer hall 0) (fresh 0) (other 0) (fresh-formed 0 refl) (other-formed 0 refl)))
+    (low-closed 0) (agreed 0) listing others same-remaining unguarded

@@ -15,7 +15,8 @@ use Rattle.rules.specs.Tray.{Record, mostRecords, afterTray, remainingIn, asked
 use Rattle.rules.specs.TrayRegrade.{acceptedIn, eventIn, eventsIn}
 use Rattle.secrecy.proofs.Tray.{SameTrays, below-guard}
 use Rattle.secrecy.proofs.TrayInstance.{open-trays, divided, first-error}
-use Rattle.secrecy.proofs.Desk.{open-more, desk, fresh, other, secret, fresh-formed, other-formed, fresh-configuration, low-closed, agreed, guard-above, low-desk, low-fresh, low-other}
+use Rattle.secrecy.proofs.Instance.{guarded, fresh, other, secret, fresh-formed, other-formed, fresh-configuration, low-closed, agreed}
+use Rattle.secrecy.proofs.Desk.{open-more, desk, guard-above}
 
 -- the rules' definitions that the examples compute with
 open-desk : Unit {0}
@@ -26,14 +27,14 @@ open-desk = tt
 abbrev record-of : ℕ → ℕ → ℕ → ℕ → ℕ → ℕ → ℕ → Record
 record-of p k a b c at n = record { caller = p; code = k; a = a; b = b; c = c; offset = at; length = n; answer = answer 9 9 9 }
 
--- the guard, process 1, makes a file and regrades it into the low cell; the low process asks for the copy's status, and opens it
+-- the guard, process 2, makes a file and regrades it into the low cell; the low process asks for the copy's status, and opens it
 unfoldable pub one-tray : List Record
-one-tray = record-of 1 7 420 3 0 16 0 ∷ record-of 1 21 0 0 420 16 4 ∷ record-of 0 17 2164260865 0 0 0 16 ∷ record-of 0 8 2164260865 1 0 0 0 ∷ []
+one-tray = record-of 2 7 420 3 0 16 0 ∷ record-of 2 21 0 0 420 16 4 ∷ record-of 0 17 2164260865 0 0 0 16 ∷ record-of 0 8 2164260865 1 0 0 0 ∷ []
 
 -- the other high process does it here, with a file in another slot, and first tries a regrade whose part lies outside
 unfoldable pub other-tray : List Record
 other-tray =
-    record-of 2 7 438 11 0 16 0 ∷ record-of 2 21 0 0 420 24 4 ∷ record-of 2 21 0 0 420 20 4 ∷ record-of 0 17 2164260865 0 0 0 16 ∷ record-of 0 8 2164260865 1 0 0 0 ∷ []
+    record-of 3 7 438 11 0 16 0 ∷ record-of 3 21 0 0 420 24 4 ∷ record-of 3 21 0 0 420 20 4 ∷ record-of 0 17 2164260865 0 0 0 16 ∷ record-of 0 8 2164260865 1 0 0 0 ∷ []
 
 unfoldable pub bytes : List ℕ
 bytes = replicate 24 0
@@ -42,15 +43,15 @@ abbrev low : ℕ → Bool
 low = observer desk 0
 
 same-asked : remainingIn desk low (asked one-tray) ≡ remainingIn desk low (asked other-tray)
-unfolding one-tray other-tray desk open-desk
+unfolding one-tray other-tray guarded open-desk
 same-asked = refl
 
 one-apart : Apart desk low one-tray
-unfolding one-tray desk open-desk
+unfolding one-tray guarded open-desk
 one-apart = divided desk low 16 one-tray refl
 
 other-apart : Apart desk low other-tray
-unfolding other-tray desk open-desk
+unfolding other-tray guarded open-desk
 other-apart = divided desk low 16 other-tray refl
 
 one-short : length one-tray ≤ mostRecords
@@ -61,13 +62,13 @@ other-short : length other-tray ≤ mostRecords
 unfolding other-tray
 other-short = leb-true 5 mostRecords refl
 
-same-told : withoutRefused (eventsIn desk low fresh bytes one-tray) ≡ withoutRefused (eventsIn desk low other bytes other-tray)
-unfolding desk fresh other secret one-tray other-tray bytes open-desk
+same-told : withoutRefused (eventsIn desk low (fresh 2) bytes one-tray) ≡ withoutRefused (eventsIn desk low (other 2) bytes other-tray)
+unfolding guarded fresh other secret one-tray other-tray bytes open-desk
 same-told = refl
 
 -- Demand 3 at work: the copy is all that comes down
-pub at-work : SameTrays desk low one-tray (afterTray fresh bytes one-tray) (afterTray other bytes other-tray)
-at-work = (rw fresh-configuration at (below-guard low fresh other fresh-formed other-formed)) low-closed agreed one-tray other-tray bytes bytes (record {
+pub at-work : SameTrays desk low one-tray (afterTray (fresh 2) bytes one-tray) (afterTray (other 2) bytes other-tray)
+at-work = (rw (fresh-configuration 2) at (below-guard low (fresh 2) (other 2) (fresh-formed 2 refl) (other-formed 2 refl))) (low-closed 2) (agreed 2) one-tray other-tray bytes bytes (record {
   short = one-short;
   short′ = other-short;
   asked-same = same-asked;
@@ -84,11 +85,11 @@ unfoldable pub uncopied : List Record
 uncopied = record-of 0 17 2164260865 0 0 0 16 ∷ record-of 0 8 2164260865 1 0 0 0 ∷ []
 
 pub same-remaining : remainingIn desk low (asked one-tray) ≡ remainingIn desk low (asked uncopied)
-unfolding one-tray uncopied desk open-desk
+unfolding one-tray uncopied guarded open-desk
 same-remaining = refl
 
-pub regrade-tells : SameTrays desk low one-tray (afterTray fresh bytes one-tray) (afterTray fresh bytes uncopied) → ⊥
-unfolding one-tray uncopied desk fresh bytes open-desk first-error
+pub regrade-tells : SameTrays desk low one-tray (afterTray (fresh 2) bytes one-tray) (afterTray (fresh 2) bytes uncopied) → ⊥
+unfolding one-tray uncopied guarded fresh bytes open-desk first-error
 regrade-tells same = let z : _≡_ {A = ℕ} 0 12 = ap (λ (rs : List Record). first-error rs) (same .answers) in omega arith
 
 -- where the guard cell is the low one, a low regrade into the high cell is told of the high cell's room: the same tray on two tables that agree
@@ -99,7 +100,7 @@ abbrev firsts : List Record → List ℕ
 firsts [] = []
 firsts (r ∷ rs) = r .answer .first ∷ firsts rs
 
-pub room-told : (firsts (afterTray low-fresh bytes upward .records) ≡ 2164260865 ∷ 2164391937 ∷ [])
-    × (firsts (afterTray low-other bytes upward .records) ≡ 2164260865 ∷ 2164457473 ∷ [])
-unfolding low-desk low-fresh low-other secret upward bytes open-desk
+pub room-told : (firsts (afterTray (fresh 1) bytes upward .records) ≡ 2164260865 ∷ 2164391937 ∷ [])
+    × (firsts (afterTray (other 1) bytes upward .records) ≡ 2164260865 ∷ 2164457473 ∷ [])
+unfolding guarded fresh other secret upward bytes open-desk
 room-told = (refl, refl)

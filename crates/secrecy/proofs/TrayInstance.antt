@@ -17,7 +17,7 @@ use Rattle.rules.specs.Tray.{Record, inside, recordRule, recordStep, Tray, inOr
 use Rattle.laws.proofs.Tests.{and-left, and-right, or-rest, both-ways, refuted, split, cond-true, cond-false, failed}
 use Rattle.laws.proofs.Below.{all-at}
 use Rattle.secrecy.proofs.Tray.{SameTrays, no-guard}
-use Rattle.secrecy.proofs.Instance.{open-rules, hall, fresh, other, fresh-formed, other-formed, fresh-configuration, low-closed, agreed, unguarded}
+use Rattle.secrecy.proofs.Instance.{open-rules, guarded, hall, fresh, other, fresh-formed, other-formed, fresh-configuration, low-closed, agreed, unguarded}
 
 -- ---- parts that lie apart because a place divides them: the remaining ones end by it, and the struck-out ones begin at it
 
@@ -84,19 +84,19 @@ abbrev low : ℕ → Bool
 low = observer hall 0
 
 same-asked : remainingIn hall low (asked night) ≡ remainingIn hall low (asked night′)
-unfolding night night′ hall open-trays
+unfolding night night′ guarded open-trays
 same-asked = refl
 
 night-apart : Apart hall low night
-unfolding night hall open-trays
+unfolding night guarded open-trays
 night-apart = divided hall low 16 night refl
 
 night-apart′ : Apart hall low night′
-unfolding night′ hall open-trays
+unfolding night′ guarded open-trays
 night-apart′ = divided hall low 16 night′ refl
 
 same-bytes : SameParts hall low night bytes bytes′
-unfolding night hall bytes bytes′ open-trays
+unfolding night guarded bytes bytes′ open-trays
 same-bytes i s = eqb-true _ _ (all-at 16 (λ i. eqb (getD bytes i 0) (getD bytes′ i 0)) refl i (seen-below hall low 16 i night refl s))
 
 same-long : length bytes ≡ length bytes′
@@ -112,8 +112,8 @@ unfolding night′
 night-short′ = leb-true 4 mostRecords refl
 
 -- Demand 3 at work: the low process gets the same answers, and its parts the same bytes, whatever stands and happens in the high cell.
-pub at-work : SameTrays hall low night (afterTray fresh bytes night) (afterTray other bytes′ night′)
-at-work = (rw fresh-configuration at (no-guard low fresh other fresh-formed other-formed)) low-closed agreed night night′ bytes bytes′ (record {
+pub at-work : SameTrays hall low night (afterTray (fresh 0) bytes night) (afterTray (other 0) bytes′ night′)
+at-work = (rw (fresh-configuration 0) at (no-guard low (fresh 0) (other 0) (fresh-formed 0 refl) (other-formed 0 refl))) (low-closed 0) (agreed 0) night night′ bytes bytes′ (record {
   short = night-short;
   short′ = night-short′;
   asked-same = same-asked;
@@ -125,17 +125,17 @@ at-work = (rw fresh-configuration at (no-guard low fresh other fresh-formed othe
 
 -- and what it gets: a file and its descriptor; and in its part the status of a process (class 4) of cell 0 at security 1, where the high one finds cell 1 and
 -- security 3 in its own
-pub answered : remainingIn hall low (afterTray fresh bytes night .records)
+pub answered : remainingIn hall low (afterTray (fresh 0) bytes night .records)
     ≡ record { caller = 0; code = 7; a = 420; b = 3; c = 0; offset = 0; length = 0; answer = answer 0 2164260865 0 }
     ∷ record { caller = 0; code = 17; a = 0; b = 0; c = 0; offset = 0; length = 16; answer = answer 0 0 0 } ∷ []
-unfolding night hall fresh bytes open-trays
+unfolding night guarded fresh bytes open-trays
 answered = refl
 
 abbrev found : ℕ → List ℕ
-found at = let x : List ℕ = afterTray fresh bytes night .bytes in getD x at 0 ∷ getD x (at + 1) 0 ∷ getD x (at + 8) 0 ∷ []
+found at = let x : List ℕ = afterTray (fresh 0) bytes night .bytes in getD x at 0 ∷ getD x (at + 1) 0 ∷ getD x (at + 8) 0 ∷ []
 
 pub left-in-parts : (found 0 ≡ 4 ∷ 0 ∷ 1 ∷ []) × (found 16 ≡ 4 ∷ 1 ∷ 3 ∷ [])
-unfolding night hall fresh bytes open-trays
+unfolding night guarded fresh bytes open-trays
 left-in-parts = (refl, refl)
 
 -- ---- why the premises are needed
@@ -147,8 +147,8 @@ over = asks 0 17 0 0 0 16 ∷ asks 2 17 0 0 0 16 ∷ []
 unfoldable pub alone : List Record
 alone = asks 0 17 0 0 0 16 ∷ []
 
-pub overlapping-tells : SameTrays hall low over (afterTray fresh bytes over) (afterTray fresh bytes alone) → ⊥
-unfolding over alone hall fresh bytes open-trays
+pub overlapping-tells : SameTrays hall low over (afterTray (fresh 0) bytes over) (afterTray (fresh 0) bytes alone) → ⊥
+unfolding over alone guarded fresh bytes open-trays
 overlapping-tells same = let e : _≡_ {A = ℕ} 1 0 = same .parts 1 refl in omega arith
 
 unfoldable pub first-error : List Record → ℕ
@@ -156,22 +156,22 @@ first-error [] = 0
 first-error (r ∷ rs) = r .answer .error
 
 -- byte slices of two lengths: one part lies inside, and the other does not
-pub lengths-tell : SameTrays hall low alone (afterTray fresh bytes alone) (afterTray fresh (replicate 8 0) alone) → ⊥
-unfolding alone hall fresh bytes open-trays first-error
+pub lengths-tell : SameTrays hall low alone (afterTray (fresh 0) bytes alone) (afterTray (fresh 0) (replicate 8 0) alone) → ⊥
+unfolding alone guarded fresh bytes open-trays first-error
 lengths-tell same = let z : _≡_ {A = ℕ} 0 5 = ap (λ (rs : List Record). first-error rs) (same .answers) in omega arith
 
 -- byte slices that differ in a low part from the start: a call that ignores its buffer leaves them so
 unfoldable pub idle : List Record
 idle = asks 0 7 420 3 0 1 ∷ []
 
-pub bytes-tell : SameTrays hall low idle (afterTray fresh (0 ∷ []) idle) (afterTray fresh (1 ∷ []) idle) → ⊥
-unfolding idle hall fresh open-trays
+pub bytes-tell : SameTrays hall low idle (afterTray (fresh 0) (0 ∷ []) idle) (afterTray (fresh 0) (1 ∷ []) idle) → ⊥
+unfolding idle guarded fresh open-trays
 bytes-tell same = let e : _≡_ {A = ℕ} 0 1 = same .parts 0 refl in omega arith
 
 -- a tray that is too long: its records are not answered
 unfoldable pub long : List Record
 long = alone ++ replicate mostRecords (asks 2 17 0 0 16 16)
 
-pub too-long-tells : SameTrays hall low long (afterTray fresh bytes long) (afterTray fresh bytes alone) → ⊥
-unfolding long alone hall fresh bytes open-trays first-error
+pub too-long-tells : SameTrays hall low long (afterTray (fresh 0) bytes long) (afterTray (fresh 0) bytes alone) → ⊥
+unfolding long alone guarded fresh bytes open-trays first-error
 too-long-tells same = let z : _≡_ {A = ℕ} 9 0 = ap (λ (rs : List Record). first-error rs) (same .answers) in omega arith
