@@ -133,6 +133,12 @@ typedef struct {
     uint32_t second;
 } monitor_answer;
 
+/* A number of enum monitor_error, and a part of the store: its first byte and its count of bytes. A refusal has two zeros. */
+typedef struct {
+    uint32_t error;
+    size_t from, count;
+} monitor_part;
+
 /* Set-up: reads the header and the cell words that stand in the table, and writes every record. 0, or 4 and nothing is changed. */
 uint32_t monitor_setup(uint32_t *table, size_t words, size_t store_bytes);
 
@@ -146,6 +152,14 @@ uint32_t monitor_check(const uint32_t *table, size_t words, size_t store_bytes);
 monitor_answer monitor_call(uint32_t *table, size_t words, uint8_t *store, size_t bytes,
                             uint32_t caller, uint32_t code, uint32_t a, uint32_t b, uint32_t c,
                             uint8_t *buffer, size_t length);
+
+/*
+ * The block b of the file that the process in slot `caller` has open at descriptor a, as it stands in the store: 512 bytes, without a
+ * copy. The refusals are those of call 13, but for the buffer's length. Nothing is changed; what is shown is the host's to keep as it
+ * is while it is looked at.
+ */
+monitor_part monitor_view(const uint32_t *table, size_t words, const uint8_t *store, size_t bytes,
+                          uint32_t caller, uint32_t a, uint32_t b);
 
 /*
  * A call by the tray: its numbers, its buffer as a part of the bytes that are lent with the tray (offset and length), and room for its answer.

@@ -30,6 +30,7 @@ int main(void)
 {
     uint8_t block[MONITOR_BLOCK_BYTES] = {'q', 'u', 'i', 'e', 't'};
     monitor_answer answer;
+    monitor_part part;
 
     printf("set-up: %s\n", monitor_error_name(monitor_setup(table, WORDS, BYTES)));
     printf("well formed: %s\n", monitor_check(table, WORDS, BYTES) == 0 ? "yes" : "no");
@@ -47,5 +48,7 @@ int main(void)
     block[0] = 'Q';
     answer = call(MONITOR_READ_BLOCK, 0, 0, 0, block, sizeof block);
     printf("read it: %s, \"%s\"\n", monitor_error_name(answer.error), (const char *)block);
+    part = monitor_view(table, WORDS, store, BYTES, 0, 0, 0); /* without a copy */
+    printf("view it: %s, \"%s\"\n", monitor_error_name(part.error), (const char *)store + part.from);
     return 0;
 }

@@ -261,6 +261,25 @@ impl Monitor {
         Ok(())
     }
 
+    /// Shows a block, under the refusals of [`read_block`](Monitor::read_block): its bytes as they stand in the store, not a copy. They
+    /// stay borrowed while they are looked at, so that no call can change them meanwhile.
+    ///
+    /// ```
+    /// # use monitor::{Bits, Caller, Cell, Error, Hall, Modes, Monitor};
+    /// # let cell = Cell { processes: 1, files: 1, ..Cell::default() };
+    /// # let mut monitor = Monitor::set_up(&Hall { blocks: 1, cells: vec![cell], ..Hall::default() })?;
+    /// # let desk = Caller(0);
+    /// let (_, descriptor) = monitor.create_file(desk, Bits(0o600), Modes::ReadWrite)?;
+    /// monitor.write_block(desk, descriptor, 0, &[b'\n'; 512])?;
+    /// let lines = monitor.view(desk, descriptor, 0)?.iter().filter(|&&byte| byte == b'\n').count();
+    /// assert_eq!(lines, 512);
+    /// assert_eq!(monitor.view(desk, descriptor, 1), Err(Error::XbadBlockNo));
+    /// # Ok::<(), Error>(())
+    /// ```
+    pub fn view(&self, caller: Caller, descriptor: Descriptor, block: u32) -> Result<&[u8], Error> {
+        raw::view(&self.table, &self.store, caller.0, descriptor.0, block)
+    }
+
     /// Writes a block; blocks between the file's end and it become zeros.
     pub fn write_block(
         &mut self,

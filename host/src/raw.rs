@@ -4,7 +4,7 @@ use crate::error::Error;
 
 /// The C boundary, as in monitor.h. Nothing compares these declarations with the library: the tests do.
 mod c {
-    use super::{Answer, Record};
+    use super::{Answer, Part, Record};
 
     unsafe extern "C" {
         pub fn monitor_setup(table: *mut u32, words: usize, store_bytes: usize) -> u32;
@@ -22,6 +22,15 @@ mod c {
             buffer: *mut u8,
             length: usize,
         ) -> Answer;
+        pub fn monitor_view(
+            table: *const u32,
+            words: usize,
+            store: *const u8,
+            bytes: usize,
+            caller: u32,
+            a: u32,
+            b: u32,
+        ) -> Part;
         pub fn monitor_tray(
             table: *mut u32,
             words: usize,
@@ -62,6 +71,14 @@ pub struct Answer {
     pub first: u32,
     /// The second result; 0 in a refusal.
     pub second: u32,
+}
+
+/// What a view shows, as it comes over the boundary: a refusal, or the first byte and the count of a part of the store.
+#[repr(C)]
+struct Part {
+    error: u32,
+    from: usize,
+    count: usize,
 }
 
 /// A call by the tray, as it goes over the boundary: its numbers, its buffer as a part of the bytes that are lent with the tray, and
@@ -133,6 +150,16 @@ pub fn call(
             buffer.len(),
         )
     }
+}
+
+/// The block that a read would copy, as a part of the store: by the process in slot `caller`, with its descriptor and the block's
+/// number. The refusals are those of a read, but for the buffer's length; nothing is changed.
+pub fn view<'a>(table: &[u32], store: &'a [u8], caller: u32, descriptor: u32, block: u32) -> Result<&'a [u8], Error> {
+    // SAFETY: the pointers and lengths are those of two slices, which the library only reads; any lengths and contents are allowed.
+    let Part { error, from, count } =
+        unsafe { c::monitor_view(table.as_ptr(), table.len(), store.as_ptr(), store.len(), caller, descriptor, block) };
+    Error::told(error)?;
+    Ok(&store[from..from + count])
 }
 
 /// The most records of a tray.

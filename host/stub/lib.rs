@@ -1,7 +1,7 @@
 //! A stand-in for the proved library: the plain monitor behind the C functions. It serves to try out the tests themselves,
 //! sound and with faults put in (see faults.sh); it is no part of what is delivered.
 
-use plain::{Record, Request, call, check, image, image_length, reload, setup, tray};
+use plain::{Record, Request, call, check, image, image_length, reload, setup, tray, view};
 use std::slice::{from_raw_parts, from_raw_parts_mut};
 
 #[repr(C)]
@@ -9,6 +9,13 @@ pub struct Answer {
     error: u32,
     first: u32,
     second: u32,
+}
+
+#[repr(C)]
+pub struct Part {
+    error: u32,
+    from: usize,
+    count: usize,
 }
 
 /// # Safety
@@ -46,6 +53,25 @@ pub unsafe extern "C" fn monitor_call(
     };
     let answer = call(table, store, &Request { caller, code, a, b, c }, buffer);
     Answer { error: answer.error as u32, first: answer.first, second: answer.second }
+}
+
+/// # Safety
+/// As monitor.h says.
+#[unsafe(no_mangle)]
+pub unsafe extern "C" fn monitor_view(
+    table: *const u32,
+    words: usize,
+    store: *const u8,
+    bytes: usize,
+    caller: u32,
+    a: u32,
+    b: u32,
+) -> Part {
+    let (table, store) = unsafe { (from_raw_parts(table, words), from_raw_parts(store, bytes)) };
+    match view(table, store, caller, a, b) {
+        Ok(part) => Part { error: 0, from: part.as_ptr().addr() - store.as_ptr().addr(), count: part.len() },
+        Err(error) => Part { error: error as u32, from: 0, count: 0 },
+    }
 }
 
 /// # Safety

@@ -31,6 +31,7 @@ spawn once more: XnoProc
 create a file: XOK, seid 2164260865, descriptor 0
 write its block 0: XOK
 read it: XOK, \"quiet\"
+view it: XOK, \"quiet\"
 ";
 
 #[test]

@@ -1,7 +1,9 @@
 //! The owner's methods: each does what the raw call does, on random tables; and none allocates.
 
 use monitor::layout::{ENTRIES, MESSAGE_BYTES, STATUS_BYTES};
-use monitor::{Access, Bits, Caller, Code, Descriptor, Designator, Error, Message, Modes, Monitor, Page, Seid, Status};
+use monitor::{
+    Access, Bits, Caller, Code, Descriptor, Designator, Error, Message, Modes, Monitor, Page, Seid, Status, view,
+};
 use std::alloc::{GlobalAlloc, Layout, System};
 use std::cell::Cell;
 use trial::{Call, Rng, calls, tables};
@@ -125,6 +127,9 @@ fn methods_do_what_the_raw_call_does() {
                 continue;
             };
             let plain::Request { caller, code, a, b, c } = call.request;
+            let shown = [one.view(Caller(caller), Descriptor(a), b), view(one.table(), one.store(), caller, a, b)];
+            assert_eq!(ALLOCATED.get(), before, "a view allocated: {call:?}");
+            assert_eq!(shown[0].map(<[u8]>::as_ptr_range), shown[1].map(<[u8]>::as_ptr_range), "{call:?}");
             let answer = other.call(Caller(caller), code, [a, b, c], &mut raw_buffer);
             assert_eq!(ALLOCATED.get(), before, "a raw call allocated: {call:?}");
             assert_eq!((result, &buffer), (answer.result(), &raw_buffer), "{call:?}");

@@ -35,7 +35,7 @@ fn the_build_line() {
     let lines = blocks("sh").join("");
     let line = lines.lines().find(|line| line.starts_with("cc ")).expect("there is a line to build with");
     let told = run(&root("build_line"), line);
-    assert!(told.starts_with("set-up: XOK\n") && told.ends_with("read it: XOK, \"quiet\"\n"), "{told}");
+    assert!(told.starts_with("set-up: XOK\n") && told.ends_with("view it: XOK, \"quiet\"\n"), "{told}");
 }
 
 #[test]

@@ -9,7 +9,7 @@ use native.Mathlib.Nat.{mul-le-mul-right}
 use lib.Dec.{eqb, leb}
 use lib.ListN.{length, set, take, drop, replicate, length-replicate, length-take, length-drop}
 use lib.Seq.{take-set-le, take-set-lt, drop-set-lt, drop-set-add, sets}
-use borrow.Author.Tests.{eqb-true, eqb-false, leb-false}
+use borrow.Author.Tests.{eqb-true, eqb-false, ne-eqb, leb-false}
 use borrow.Rule.Slice.PartMut.{midOf, putMid, put-same}
 use Rattle.rules.specs.Words.{part}
 use Rattle.rules.specs.Layout.{blockBytes, process, file, configuration, slots, blocks, storeBytes, Addr, at, live, entries, heldAt, usedAt, size}
@@ -19,14 +19,16 @@ use Rattle.rules.specs.Rights.{lacks}
 use Rattle.rules.specs.Errors.{XbSz, XbadOd, XnotReadable, XnotWritable, XnoObj, XdapViol, XbadBlockNo, XendOfFile}
 use Rattle.rules.specs.Rule.{Refusal, _⇒_, firstRefusal, write, store}
 use Rattle.rules.specs.Find.{stale, rightsAt}
-use Rattle.rules.specs.Call13.{block, readBlock}
+use Rattle.rules.specs.Call13.{block, unbuffered, readBlock}
 use Rattle.rules.specs.Call14.{blockWritten, writeBlock}
+use Rattle.rules.specs.View.{blockPlace}
 use Rattle.laws.proofs.Tests.{passed, both-ways}
 use Rattle.laws.proofs.Shape.{descriptor, file-record}
 use Rattle.layout.specs.declared.Header.{Header}
 use Rattle.layout.specs.Header.{placeOf}
 use Rattle.calls.specs.declared.Answer.{Answer}
 use Rattle.calls.specs.declared.Caller.{Caller}
+use Rattle.calls.specs.declared.Part.{Part}
 use Rattle.calls.specs.declared.entries.Entry.{Entry}
 use Rattle.calls.specs.declared.objects.Seen.{Seen}
 use Rattle.calls.specs.World.{Known, Sound, wordsOf}
@@ -36,8 +38,9 @@ use Rattle.calls.specs.Calls.{useTests}
 use Rattle.calls.specs.Refusing.{orRefuse, refusing}
 use Rattle.calls.specs.Left.{said, ruleAt}
 use Rattle.calls.specs.Blocks.{ReadLeft, WriteLeft}
+use Rattle.calls.specs.View.{partOf, partAt, ShownBy}
 use Rattle.calls.proofs.Worlds.{spot, shape, blocks-is}
-use Rattle.calls.proofs.Refusals.{refusing-first, Clear, clear-of}
+use Rattle.calls.proofs.Refusals.{refusing-first, refusing-alike, none-found, Clear, clear-of}
 use Rattle.calls.proofs.Looks.{seen-formed, slot-is, slot-in}
 use Rattle.calls.proofs.Leaves.{left-refused, left-done, store-refused, store-done, buffer-refused, buffer-done}
 
@@ -145,60 +148,97 @@ module _ {t : List ℕ} {n : Header} {c : Caller} {a : ℕ} {d : Entry} {f : See
           | no q ↦ omega (arith, u .sized, x .free (omega (arith, x .flag)) size (omega arith) (omega arith))
         ]
 
--- ---- the two calls: e is the number that the code has found
+-- ---- reading, with a buffer or by a view: e₀ is the number that has refused so far, e the one that the code has found
 
-abbrev pub readTests : ℕ → ℕ → Entry → Seen → ℕ → ℕ → ℕ → List Refusal
-readTests bytes a d f z blocks b =
-    (not (eqb bytes blockBytes) ⇒ XbSz) ∷ useTests a (d .held) (reads (d .used)) XnotReadable f true false ++ (leb blocks b ⇒ XbadBlockNo) ∷ (leb z b ⇒ XendOfFile) ∷ []
+abbrev pub readTests : ℕ → Entry → Seen → ℕ → ℕ → ℕ → List Refusal
+readTests a d f z blocks b = useTests a (d .held) (reads (d .used)) XnotReadable f true false ++ (leb blocks b ⇒ XbadBlockNo) ∷ (leb z b ⇒ XendOfFile) ∷ []
+
+-- the slot, the block and the file's blocks as the code has them: v, y and x
+module _ {t : List ℕ} {n : Header} {c : Caller} {a : ℕ} {d : Entry} {f : Seen} {z : ℕ} (u : Used t n c a d f z) (st : List ℕ) (b e₀ : ℕ) {e : ℕ} where
+  pub read-told : {held : Bool} {e1 e2 : ℕ} → held ≡ reads (d .used) → e1 ≡ refusing e₀ (useTests a (d .held) held XnotReadable f true false)
+      → e2 ≡ orRefuse e1 (leb (n .blocks) b) XbadBlockNo → e ≡ orRefuse e2 (leb z b) XendOfFile → e ≡ refusing e₀ (readTests a d f z (n .blocks) b)
+  read-told held tests block end = rw (end, block, tests, held) refl
+
+  module _ (told : e ≡ refusing e₀ (readTests a d f z (n .blocks) b)) where
+    block-test : formed (configuration t) file (d .held) ≡ true → firstRefusal ((leb (n .blocks) b ⇒ XbadBlockNo) ∷ (leb z b ⇒ XendOfFile) ∷ [])
+        ≡ firstRefusal ((leb (blocks (configuration t)) b ⇒ XbadBlockNo) ∷ (leb (wordsOf t (at file (indexOf (d .held)) size)) b ⇒ XendOfFile) ∷ [])
+    block-test g = rw (blocks-is (u .sound .known), u .sized, at-slot u g)
+
+    same-list : firstRefusal (readTests a d f z (n .blocks) b) ≡ firstRefusal (unbuffered (configuration t) (wordsOf t) (c .slot) a b)
+    same-list =
+        same-number u (reads (d .used)) XnotReadable true false ((leb (n .blocks) b ⇒ XbadBlockNo) ∷ (leb z b ⇒ XendOfFile) ∷ [])
+        ((leb (blocks (configuration t)) b ⇒ XbadBlockNo) ∷ (leb (wordsOf t (at file (indexOf (d .held)) size)) b ⇒ XendOfFile) ∷ []) block-test
+        ∙ rw (held-is u, used-is u)
+
+    number-is : e ≡ refusing e₀ (unbuffered (configuration t) (wordsOf t) (c .slot) a b)
+    number-is = told ∙ refusing-alike e₀ (readTests a d f z (n .blocks) b) (unbuffered (configuration t) (wordsOf t) (c .slot) a b) refl refl same-list
+
+    pub block-hidden : (e ≡ 0 → ⊥) → {r : Part} → r ≡ partOf e 0 0 → ShownBy e₀ t st (c .slot) a b r
+    block-hidden some re = record { is = re ∙ rw (← number-is, ne-eqb e 0 some) refl; inside = rw re (omega arith) }
+
+    module _ (none : e ≡ 0) where
+      read-clear : Clear (readTests a d f z (n .blocks) b)
+      read-clear = clear-of (readTests a d f z (n .blocks) b) refl (none-found e₀ (readTests a d f z (n .blocks) b) refl (sym told ∙ none))
+
+      read-formed : formed (configuration t) file (d .held) ≡ true
+      read-formed = form u (read-clear .0) (read-clear .1 .0)
+
+      pub block-within : {v x y : ℕ} → length st ≡ storeBytes (configuration t) → x ≡ n .blocks → v ≡ f .slot → y ≡ b
+          → (v * (x * blockBytes) + x * blockBytes ≤ length st) × (y * blockBytes + blockBytes ≤ x * blockBytes)
+      block-within long xe ve ye = (
+        stretch-of u read-formed (length st) long xe ve,
+        omega (arith, leb-false (n .blocks) b (read-clear .1 .1 .1 .1 .1 .0)),
+      )
+
+      place-is : {v x y i : ℕ} → x ≡ n .blocks → v ≡ f .slot → y ≡ b → i ≡ v * (x * blockBytes) + y * blockBytes
+          → i ≡ blockPlace (configuration t) (wordsOf t) (c .slot) a b
+      unfolding blockPlace
+      place-is xe ve ye ie = ie ∙ rw (xe, ve, ye, at-slot u read-formed, held-is u, blocks-is (u .sound .known))
+
+      pub block-shown : {v x y i : ℕ} → x ≡ n .blocks → v ≡ f .slot → y ≡ b → (i ≡ v * (x * blockBytes) + y * blockBytes) × (i + blockBytes ≤ length st)
+          → ShownBy e₀ t st (c .slot) a b (partOf 0 i blockBytes)
+      block-shown xe ve ye ie = record { is = rw (← number-is, none, place-is xe ve ye (ie .0)) refl; inside = ie .1 }
+
+-- a read: the part s has been found after the test of the buffer's length, which has left e
+module _ (t st : List ℕ) (p a b : ℕ) (buf : List ℕ) {e : ℕ} {s : Part} (long : e ≡ orRefuse 0 (not (eqb (length buf) blockBytes)) XbSz) (found : ShownBy e t st p a b s) where
+  abbrev number : ℕ
+  number = refusing e (unbuffered (configuration t) (wordsOf t) p a b)
+
+  told : s .error ≡ number
+  told = ap (λ (x : Part). x .error) (found .is)
+
+  pub read-number : s .error ≡ firstRefusal (ruleAt t (λ h q. readBlock h q st p a b buf) .refusals)
+  unfolding readBlock
+  read-number = told ∙ rw long (refusing-first (ruleAt t (λ h q. readBlock h q st p a b buf) .refusals) refl)
+
+  module _ (none : s .error ≡ 0) where
+    at-block : s ≡ partOf 0 (blockPlace (configuration t) (wordsOf t) p a b) blockBytes
+    at-block = found .is ∙ ap (λ (x : ℕ). partAt x (blockPlace (configuration t) (wordsOf t) p a b)) (sym told ∙ none)
+
+    right-length : length buf ≡ blockBytes
+    unfolding readBlock
+    right-length =
+        let clear = clear-of (ruleAt t (λ h q. readBlock h q st p a b buf) .refusals) refl (sym read-number ∙ none) in
+        eqb-true (length buf) blockBytes (passed (eqb (length buf) blockBytes) (clear .0))
+
+    pub read-within : (s .from + blockBytes ≤ length st) × (length buf ≡ blockBytes)
+    read-within = (omega (arith, found .inside, ap (λ (x : Part). x .count) at-block), right-length)
+
+    pub read-buffer : {buf′ : List ℕ} → buf′ ≡ part st (s .from) blockBytes → buf′ ≡ ruleAt t (λ h q. readBlock h q st p a b buf) .effects .buffer
+    unfolding readBlock block blockPlace
+    read-buffer be = be ∙ rw at-block refl
+
+-- ---- writing: e is the number that the code has found
 
 abbrev pub writeTests : ℕ → ℕ → Entry → Seen → ℕ → ℕ → List Refusal
 writeTests bytes a d f blocks b =
     (not (eqb bytes blockBytes) ⇒ XbSz) ∷ useTests a (d .held) (writes (d .used)) XnotWritable f false true ++ (leb blocks b ⇒ XbadBlockNo) ∷ []
 
--- the slot, the block and the file's blocks as the code has them: v, y and x
 module _ {t : List ℕ} {n : Header} {c : Caller} {a : ℕ} {d : Entry} {f : Seen} {z : ℕ} (u : Used t n c a d f z) (st : List ℕ) (b : ℕ) (buf : List ℕ) {e : ℕ} where
-  pub read-told : {held : Bool} {e1 e2 e3 : ℕ} → held ≡ reads (d .used) → e1 ≡ orRefuse 0 (not (eqb (length buf) blockBytes)) XbSz
-      → e2 ≡ refusing e1 (useTests a (d .held) held XnotReadable f true false) → e3 ≡ orRefuse e2 (leb (n .blocks) b) XbadBlockNo → e ≡ orRefuse e3 (leb z b) XendOfFile
-      → e ≡ firstRefusal (readTests (length buf) a d f z (n .blocks) b)
-  read-told held long tests block end = rw (end, block, tests, held, long) (refusing-first (readTests (length buf) a d f z (n .blocks) b) refl)
-
   pub write-told : {held : Bool} {e1 e2 : ℕ} → held ≡ writes (d .used) → e1 ≡ orRefuse 0 (not (eqb (length buf) blockBytes)) XbSz
       → e2 ≡ refusing e1 (useTests a (d .held) held XnotWritable f false true) → e ≡ orRefuse e2 (leb (n .blocks) b) XbadBlockNo
       → e ≡ firstRefusal (writeTests (length buf) a d f (n .blocks) b)
   write-told held long tests block = rw (block, tests, held, long) (refusing-first (writeTests (length buf) a d f (n .blocks) b) refl)
-
-  module _ (told : e ≡ firstRefusal (readTests (length buf) a d f z (n .blocks) b)) where
-    block-test : formed (configuration t) file (d .held) ≡ true → firstRefusal ((leb (n .blocks) b ⇒ XbadBlockNo) ∷ (leb z b ⇒ XendOfFile) ∷ [])
-        ≡ firstRefusal ((leb (blocks (configuration t)) b ⇒ XbadBlockNo) ∷ (leb (wordsOf t (at file (indexOf (d .held)) size)) b ⇒ XendOfFile) ∷ [])
-    block-test g = rw (blocks-is (u .sound .known), u .sized, at-slot u g)
-
-    pub read-number : e ≡ firstRefusal (ruleAt t (λ h q. readBlock h q st (c .slot) a b buf) .refusals)
-    unfolding readBlock
-    read-number =
-        told
-        ∙ ap (cond (not (eqb (length buf) blockBytes)) XbSz) (same-number u (reads (d .used)) XnotReadable true false ((leb (n .blocks) b ⇒ XbadBlockNo) ∷ (leb z b ⇒ XendOfFile) ∷ [])
-        ((leb (blocks (configuration t)) b ⇒ XbadBlockNo) ∷ (leb (wordsOf t (at file (indexOf (d .held)) size)) b ⇒ XendOfFile) ∷ []) block-test)
-        ∙ rw (held-is u, used-is u)
-
-    module _ (none : e ≡ 0) where
-      read-clear : Clear (readTests (length buf) a d f z (n .blocks) b)
-      read-clear = clear-of (readTests (length buf) a d f z (n .blocks) b) refl (sym told ∙ none)
-
-      read-formed : formed (configuration t) file (d .held) ≡ true
-      read-formed = form u (read-clear .1 .0) (read-clear .1 .1 .0)
-
-      pub read-within : {v x y : ℕ} → length st ≡ storeBytes (configuration t) → x ≡ n .blocks → v ≡ f .slot → y ≡ b
-          → (v * (x * blockBytes) + x * blockBytes ≤ length st) × (y * blockBytes + blockBytes ≤ x * blockBytes) × (length buf ≡ blockBytes)
-      read-within long xe ve ye = (
-        stretch-of u read-formed (length st) long xe ve,
-        omega (arith, leb-false (n .blocks) b (read-clear .1 .1 .1 .1 .1 .1 .0)),
-        eqb-true (length buf) blockBytes (passed (eqb (length buf) blockBytes) (read-clear .0)),
-      )
-
-      pub read-buffer : {v x y : ℕ} {buf′ : List ℕ} → x ≡ n .blocks → v ≡ f .slot → y ≡ b → buf′ ≡ part st (v * (x * blockBytes) + y * blockBytes) blockBytes
-          → buf′ ≡ ruleAt t (λ h q. readBlock h q st (c .slot) a b buf) .effects .buffer
-      unfolding readBlock block
-      read-buffer xe ve ye be = be ∙ rw (xe, ve, ye, at-slot u read-formed, held-is u, blocks-is (u .sound .known))
 
   module _ (told : e ≡ firstRefusal (writeTests (length buf) a d f (n .blocks) b)) where
     pub write-number : e ≡ firstRefusal (ruleAt t (λ h q. writeBlock h q (c .slot) a b buf) .refusals)

@@ -19,6 +19,7 @@ pub mod BlocksLaws
 pub mod RegradeLaws
 pub mod Codes
 pub mod Whole
+pub mod ViewLaws
 pub mod Link
 pub mod TrayLaws
 pub mod Going

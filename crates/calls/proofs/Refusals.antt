@@ -1,12 +1,12 @@
 -- Refusals found one after the other are the rule's first refusal.
-use mathlib.Core.Path.{_≡_, refl, _∙_}
+use mathlib.Core.Path.{_≡_, refl, sym, _∙_}
 use mathlib.Core.Bool.{Bool, true, false, cond, _&&_, not}
 use mathlib.Core.List.{List, [], _∷_, _++_}
 use Prim.Native.Nat.{ℕ, zero, suc}
 use lib.Dec.{eqb}
-use borrow.Author.Tests.{eqb-false}
+use borrow.Author.Tests.{eqb-true, eqb-false}
 use Rattle.rules.specs.Rule.{Refusal, _⇒_, firstRefusal}
-use Rattle.laws.proofs.Tests.{and-left, and-right, failed}
+use Rattle.laws.proofs.Tests.{split, and-left, and-right, failed}
 use Rattle.calls.specs.Refusing.{orRefuse, refusing}
 
 -- every number is one that refuses
@@ -27,6 +27,17 @@ one-more x xs n h false e = rw e h
 pub refusing-first : (xs : List Refusal) → numbered xs ≡ true → refusing 0 xs ≡ firstRefusal xs
 refusing-first [] n = refl
 refusing-first (x ∷ xs) n = one-more x xs n (refusing-first xs (and-right (not (eqb (x .number) 0)) _ n)) (x .test) refl
+
+-- so also after a number found before: lists of one first refusal refuse alike, and where nothing was found, nothing of the list holds
+pub refusing-alike : (e : ℕ) (xs ys : List Refusal) → numbered xs ≡ true → numbered ys ≡ true → firstRefusal xs ≡ firstRefusal ys → refusing e xs ≡ refusing e ys
+refusing-alike e xs ys n m same = split _ (eqb e 0)
+    (λ z. rw (eqb-true e 0 z) (refusing-first xs n ∙ same ∙ sym (refusing-first ys m)))
+    (λ f. found-stays e xs f ∙ sym (found-stays e ys f))
+
+pub none-found : (e : ℕ) (xs : List Refusal) → numbered xs ≡ true → refusing e xs ≡ 0 → firstRefusal xs ≡ 0
+none-found e xs n z = split _ (eqb e 0)
+    (λ y. sym (refusing-first xs n) ∙ (rw (eqb-true e 0 y) at z))
+    (λ f. absurd (eqb-false e 0 f (sym (found-stays e xs f) ∙ z)))
 
 -- past a refusal that does not hold, what follows may be known by that
 pub past : (b : Bool) (n : ℕ) (xs ys : List Refusal) → (b ≡ false → firstRefusal xs ≡ firstRefusal ys) → firstRefusal ((b ⇒ n) ∷ xs) ≡ firstRefusal ((b ⇒ n) ∷ ys)

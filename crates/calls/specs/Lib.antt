@@ -12,4 +12,5 @@ pub mod Blocks
 pub mod Regrade
 pub mod Told
 pub mod Did
+pub mod View
 pub mod Tray

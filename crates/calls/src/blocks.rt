@@ -1,4 +1,4 @@
-// Blocks: read and write.
+// Blocks: view, read and write.
 ghost use mathlib.Core.Path.{_≡_};
 ghost use mathlib.Core.Bool.{Bool};
 ghost use Prim.Native.Nat.{_+_, _-_, _*_, _≤_, _<_, _^_, max};
@@ -10,8 +10,10 @@ ghost use Rattle.calls.specs.World.{Sound};
 ghost use Rattle.calls.specs.Refusing.{refusing};
 ghost use Rattle.calls.specs.Calls.{useTests};
 ghost use Rattle.calls.specs.Blocks.{ReadLeft, WriteLeft};
+ghost use Rattle.calls.specs.View.{ShownBy, partOf};
 use crate::Answer;
 use crate::Caller;
+use crate::Part;
 use crate::base::answered;
 use crate::base::or_refuse;
 use crate::base::read;
@@ -61,16 +63,6 @@ pub(crate) fn bad_use(e: u32, a: u32, s: u32, u: Use, f: Seen) -> u32
     or_refuse(e, lacks(f.rights, u.read, u.write), XDAP_VIOL)
 }
 
-// Block b of a file's stretch, n bytes from f * n on, is copied out.
-fn read_store(store: &[u8], n: usize, f: usize, b: usize, buffer: &mut [u8])
-    requires { ⌜ (f * n + n ≤ length (now store)) × (b * blockBytes + blockBytes ≤ n) × (length (now buffer) ≡ blockBytes) ⌝ }
-    ensures { λ _. ⌜ now (buffer .exit) ≡ part (now (store .entry)) (f * n + b * blockBytes) blockBytes ⌝ }
-{
-    let from = f * n + b * BLOCK_BYTES;
-    let to = from + BLOCK_BYTES;
-    put_bytes(buffer, 0, &store[from..to]);
-}
-
 // Blocks from `size` up to b become zero.
 fn fill_hole(stretch: &mut [u8], size: usize, b: usize)
     requires { ⌜ b < 2 ^ 32 ⌝ }
@@ -106,6 +98,73 @@ fn larger(x: u32, y: u32) -> u32
     if x < y { y } else { x }
 }
 
+// A part that shows nothing.
+pub(crate) fn hidden(error: u32) -> Part
+    ensures { λ r. ⌜ r ≡ partOf error 0 0 ⌝ }
+{
+    Part {
+        error,
+        from: 0,
+        count: 0,
+    }
+}
+
+// Where block b of a file's stretch, n bytes from f * n on, begins in a store of so many bytes.
+fn block_place(bytes: usize, n: usize, f: usize, b: usize) -> usize
+    requires { ⌜ (f * n + n ≤ «bytes») × (b * blockBytes + blockBytes ≤ n) ⌝ }
+    ensures { λ r. ⌜ (r ≡ f * n + b * blockBytes) × (r + blockBytes ≤ «bytes») ⌝ }
+{
+    let start = f * n + b * BLOCK_BYTES;
+    start
+}
+
+// Block b of the file at entry a, where the caller may read it: what refuses a read and a view alike, after the number e found so far, and where the block stands.
+pub(crate) fn shown(
+    e: u32,
+    t: &[u32],
+    n: Header,
+    m: [[bool; MAX_CELLS]; MAX_CELLS],
+    c: Caller,
+    store: &[u8],
+    a: u32,
+    b: u32,
+) -> Part
+    requires { ⌜ Sound (now t) n c × (m ≡ flowMatrix (configuration (now t))) × (length (now store) ≡ storeBytes (configuration (now t))) ⌝ }
+    ensures { λ r. ⌜ ShownBy e (now (t .entry)) (now (store .entry)) (c .slot) a b r ⌝ }
+{
+    let d = entry_of(t, n, Kind::File, c.slot, a);
+    let f = look(t, n, m, c, Kind::File, d.held);
+    let size = read(t, n, Kind::File, f.slot, SIZE);
+    let u = Use {
+        held: reads(d.used),
+        number: XNOT_READABLE,
+        read: true,
+        write: false,
+    };
+    let e = bad_use(e, a, d.held, u, f);
+    let e = or_refuse(e, n.blocks <= b, XBAD_BLOCK_NO);
+    let e = or_refuse(e, size <= b, XEND_OF_FILE);
+    if e != XOK {
+        return hidden(e);
+    }
+    let stretch = wide(n.blocks) * BLOCK_BYTES;
+    let from = block_place(store.len(), stretch, wide(f.slot), wide(b));
+    Part {
+        error: XOK,
+        from,
+        count: BLOCK_BYTES,
+    }
+}
+
+// The block that begins at `from` is copied out.
+fn read_store(store: &[u8], from: usize, buffer: &mut [u8])
+    requires { ⌜ (from + blockBytes ≤ length (now store)) × (length (now buffer) ≡ blockBytes) ⌝ }
+    ensures { λ _. ⌜ now (buffer .exit) ≡ part (now (store .entry)) from blockBytes ⌝ }
+{
+    let to = from + BLOCK_BYTES;
+    put_bytes(buffer, 0, &store[from..to]);
+}
+
 // 13. Read block.
 pub(crate) fn read_block(
     t: &[u32],
@@ -120,24 +179,12 @@ pub(crate) fn read_block(
     requires { ⌜ Sound (now t) n c × (m ≡ flowMatrix (configuration (now t))) × (length (now store) ≡ storeBytes (configuration (now t))) ⌝ }
     ensures { λ r. ⌜ ReadLeft (now (t .entry)) (now (store .entry)) (c .slot) a b (now (buffer .entry)) r (now (buffer .exit)) ⌝ }
 {
-    let d = entry_of(t, n, Kind::File, c.slot, a);
-    let f = look(t, n, m, c, Kind::File, d.held);
-    let size = read(t, n, Kind::File, f.slot, SIZE);
-    let u = Use {
-        held: reads(d.used),
-        number: XNOT_READABLE,
-        read: true,
-        write: false,
-    };
     let e = or_refuse(XOK, buffer.len() != BLOCK_BYTES, XB_SZ);
-    let e = bad_use(e, a, d.held, u, f);
-    let e = or_refuse(e, n.blocks <= b, XBAD_BLOCK_NO);
-    let e = or_refuse(e, size <= b, XEND_OF_FILE);
-    if e != XOK {
-        return refused(e);
+    let p = shown(e, t, n, m, c, store, a, b);
+    if p.error != XOK {
+        return refused(p.error);
     }
-    let stretch = wide(n.blocks) * BLOCK_BYTES;
-    read_store(store, stretch, wide(f.slot), wide(b), buffer);
+    read_store(store, p.from, buffer);
     answered(0, 0)
 }
 

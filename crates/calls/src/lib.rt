@@ -1,12 +1,19 @@
 // The twenty-one calls over the lent table, store and buffer.
 ghost use mathlib.Core.Path.{_≡_};
+ghost use Prim.Native.Nat.{_+_, _≤_};
+ghost use denote.Ref.{ptr};
+ghost use lib.ListN.{length};
 ghost use Rattle.rules.specs.Layout.{configuration};
+ghost use Rattle.rules.specs.View.{viewNumber, viewFrom, viewShown};
 ghost use Rattle.rules.specs.Step.{badCaller, badCode, step};
 ghost use Rattle.calls.specs.World.{Known, wordsOf, Judged};
 ghost use Rattle.calls.specs.Did.{Did, stateOf, callOf};
 ghost use Rattle.calls.specs.Tray.{Trayed};
+ghost use Rattle.calls.specs.View.{viewPart};
 use crate::base::read;
 use crate::base::refused;
+use crate::blocks::hidden;
+use crate::blocks::shown;
 use crate::dispatch::carry_out;
 use crate::room::cell_of;
 use crate::trays::begin;
@@ -21,6 +28,7 @@ use rules::MAX_CELLS;
 use rules::XB_PR_SD;
 use rules::XB_TAB;
 use rules::XBD_KCL;
+use rules::XOK;
 
 mod base;
 mod blocks;
@@ -59,6 +67,14 @@ pub struct Record {
     pub offset: u32,
     pub length: u32,
     pub answer: Answer,
+}
+
+// A part of the store that is shown: the number, the first byte and how many; on a refusal it is empty. A host in C takes it as it stands.
+#[repr(C)]
+pub struct Part {
+    pub error: u32,
+    pub from: usize,
+    pub count: usize,
 }
 
 // The calling process: its slot and its cell.
@@ -129,6 +145,43 @@ pub fn call(
     }
     let n = header_of(table);
     call_judged(table, store, n, m, caller, code, a, b, c, buffer)
+}
+
+// A view's number, and where in the store the block stands that it shows: for a host in C, which can't be handed a part.
+pub fn view_part(table: &[u32], store: &[u8], caller: u32, a: u32, b: u32) -> Part
+    ensures { λ r. ⌜ r ≡ viewPart (stateOf (now (table .entry)) (now (store .entry))) caller a b ⌝ }
+    ensures { λ r. ⌜ (r .from) + (r .count) ≤ length (now (store .entry)) ⌝ }
+{
+    let mut m = [[false; MAX_CELLS]; MAX_CELLS];
+    if !table::judge(table, store.len(), &mut m) {
+        return hidden(XB_TAB);
+    }
+    let n = header_of(table);
+    if bad_caller(table, n, caller) {
+        return hidden(XB_PR_SD);
+    }
+    let cell = cell_of(table, n, Kind::Process, caller);
+    let me = Caller { slot: caller, cell };
+    shown(XOK, table, n, m, me, store, a, b)
+}
+
+// Its number apart.
+pub fn view_number(table: &[u32], store: &[u8], caller: u32, a: u32, b: u32) -> u32
+    ensures { λ r. ⌜ r ≡ viewNumber (stateOf (now (table .entry)) (now (store .entry))) caller a b ⌝ }
+{
+    let p = view_part(table, store, caller, a, b);
+    p.error
+}
+
+// Reading without a copy: the block as a part of the store; an empty part where it is refused.
+pub fn view<'t, 's>(table: &'t [u32], store: &'s [u8], caller: u32, a: u32, b: u32) -> &'s [u8]
+    ensures { λ r. ⌜ now r ≡ viewShown (stateOf (now (table .entry)) (now (store .entry))) caller a b ⌝ }
+    ensures { λ r. ⌜ ptr r ≡ (ptr (store .entry) .0, ptr (store .entry) .1 + viewFrom (stateOf (now (table .entry)) (now (store .entry))) caller a b) ⌝ }
+{
+    let p = view_part(table, store, caller, a, b);
+    let from = p.from;
+    let end = from + p.count;
+    &store[from..end]
 }
 
 // Calls by the tray: the records are run in order, on a table that is judged once.

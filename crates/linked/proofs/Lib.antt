@@ -4,3 +4,4 @@ pub mod Demand3
 pub mod Image
 pub mod Trays
 pub mod Tenants
+pub mod Views

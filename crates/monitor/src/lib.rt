@@ -1,6 +1,8 @@
 // What a host in C or Rust links: the proved functions under C names, with the same contracts. A slice is a pointer and a length.
 ghost use mathlib.Core.Path.{_≡_};
 ghost use mathlib.Core.Bool.{cond};
+ghost use Prim.Native.Nat.{_+_, _≤_};
+ghost use lib.ListN.{length};
 ghost use Rattle.rules.specs.Claim.{test};
 ghost use Rattle.rules.specs.WellFormed.{wellFormed};
 ghost use Rattle.rules.specs.SetUp.{setUpAnswer, setUpTable};
@@ -8,7 +10,9 @@ ghost use Rattle.rules.specs.Step.{step};
 ghost use Rattle.rules.specs.Image.{imageLength, imageAnswer, imageOut, reloadAnswer, reloadTable, reloadStore};
 ghost use Rattle.calls.specs.Did.{Did, stateOf, callOf};
 ghost use Rattle.calls.specs.Tray.{Trayed};
+ghost use Rattle.calls.specs.View.{viewPart};
 use calls::Answer;
+use calls::Part;
 use calls::Record;
 
 const WELL_FORMED: u32 = 0;
@@ -47,6 +51,15 @@ pub extern "C" fn monitor_call(
     ensures { λ r. ⌜ Did (step (stateOf (now (table .entry)) (now (store .entry))) (callOf caller code a b c (now (buffer .entry)))) r (now (table .exit)) (now (store .exit)) (now (buffer .exit)) ⌝ }
 {
     calls::call(table, store, caller, code, a, b, c, buffer)
+}
+
+// A part of the store can't be handed out here: its number, its first byte and its count are.
+#[no_mangle]
+pub extern "C" fn monitor_view(table: &[u32], store: &[u8], caller: u32, a: u32, b: u32) -> Part
+    ensures { λ r. ⌜ r ≡ viewPart (stateOf (now (table .entry)) (now (store .entry))) caller a b ⌝ }
+    ensures { λ r. ⌜ (r .from) + (r .count) ≤ length (now (store .entry)) ⌝ }
+{
+    calls::view_part(table, store, caller, a, b)
 }
 
 #[no_mangle]

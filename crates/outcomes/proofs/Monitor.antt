@@ -3,7 +3,7 @@ use mathlib.Core.Path.{refl}
 use Rattle.monitor.proofs as code
 use Rattle.outcomes.proofs.Exact.{Exact, one, both}
 use Rattle.outcomes.proofs.Image.{image-length, image, reload}
-use Rattle.outcomes.proofs.Calls.{call}
+use Rattle.outcomes.proofs.Calls.{call, view-part}
 
 pub monitor-setup : Exact code.monitor_setup.Kinds.ps code.monitor_setup.Kinds.r code.monitor_setup.Reads.Asked code.monitor_setup.Reads.Learnt
 monitor-setup = (λ κs a. tt, λ κs a z z′ w w′ p q. (one (p .0) (q .0), both (one (p .1) (q .1)) refl))
@@ -22,3 +22,6 @@ monitor-image = image
 
 pub monitor-reload : Exact code.monitor_reload.Kinds.ps code.monitor_reload.Kinds.r code.monitor_reload.Reads.Asked code.monitor_reload.Reads.Learnt
 monitor-reload = reload
+
+pub monitor-view : Exact code.monitor_view.Kinds.ps code.monitor_view.Kinds.r code.monitor_view.Reads.Asked code.monitor_view.Reads.Learnt
+monitor-view = view-part

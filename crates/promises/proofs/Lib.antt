@@ -25,3 +25,4 @@ pub mod Reloaded
 pub mod Tray
 pub mod Finding
 pub mod Printed
+pub mod View

@@ -31,6 +31,7 @@ pub mod Steps
 pub mod Runs
 pub mod Regrades
 pub mod Demand3
+pub mod Viewed
 pub mod TrayRegrades
 pub mod Tray
 pub mod Tenants

@@ -150,7 +150,7 @@ pub record Asking (h : List ℕ) (k : Call) : Type 0 where
   pub cell : k .b < cells h
 
 module _ (h : List ℕ) (s : State) (f : WellUnder h s) (k : Call) where
-  in-table : badCaller h (rd h (s .table)) (k .caller) ≡ false → k .caller < slots h process
+  pub in-table : badCaller h (rd h (s .table)) (k .caller) ≡ false → k .caller < slots h process
   unfolding badCaller
   in-table e = leb-false (slots h process) (k .caller) (or-left (leb (slots h process) (k .caller)) _ e)
 
@@ -315,7 +315,7 @@ abbrev nothing : Effect
 nothing = effect 0 0 [] [] []
 
 module _ (h : List ℕ) (C : ℕ → Bool) (cl : Closed h C) (s t : State) (f : WellUnder h s) (g : WellUnder h t) (a : AgreeAt h C s t) (k : Call) (m : stays h C k ≡ true) where
-  viewed : k .caller < slots h process → View h (k .caller) C (rd h (s .table)) (rd h (t .table))
+  pub viewed : k .caller < slots h process → View h (k .caller) C (rd h (s .table)) (rd h (t .table))
   viewed l = record {
     here = record { shape = shaped h s f; there = l; reaching = is-reaching h (rd h (s .table)) (recorded h s f) };
     closed = cl;

@@ -8,7 +8,7 @@ use lib.Dec.{eqb}
 use borrow.Author.Tests.{eqb-true, eq-eqb}
 use Rattle.rules.specs.Layout.{cells, configuration, flows}
 use Rattle.rules.specs.Step.{State, Call, run}
-use Rattle.rules.specs.Observer.{observer, tenants, Closed, Agree, replies}
+use Rattle.rules.specs.Observer.{observer, tenants, Closed, Agree, stays, replies}
 use Rattle.rules.specs.Regrade.{events, guardWithin, NamesNone}
 use Rattle.rules.specs.Tray.{Record, afterTray}
 use Rattle.rules.specs.TrayRegrade.{callsIn, eventsIn}
@@ -17,6 +17,7 @@ use Rattle.laws.proofs.Below.{some-of, some-where}
 use Rattle.kept.proofs.Kept.{Well}
 use Rattle.secrecy.proofs.CellFlow.{flows-refl, flows-trans}
 use Rattle.secrecy.proofs.Demand3.{as-asked}
+use Rattle.secrecy.proofs.Viewed.{read, SameView, view-alike}
 use Rattle.secrecy.proofs.Tray as trays
 use Rattle.secrecy.proofs.Tray.{Premises, SameTrays}
 
@@ -64,3 +65,8 @@ pub tenants-trays : (T : ℕ → Bool) (s t : State) → Well s → Well t → l
     Agree C s t → (rs qs : List Record) (x y : List ℕ) → Premises h C rs qs x y → eventsIn h C s x rs ≡ eventsIn h C t y qs
     → (guardWithin h C ≡ true → NamesNone h C (callsIn rs)) → SameTrays h C rs (afterTray s x rs) (afterTray t y qs)
 tenants-trays T s t ws wt = trays.as-asked (tenants (configuration (s .table)) T) s t ws wt (tenants-closed (configuration (s .table)) T)
+
+-- and of views
+pub tenants-views : (T : ℕ → Bool) (s t : State) → Well s → Well t → let C : ℕ → Bool = tenants (configuration (s .table)) T in let h : List ℕ = configuration (s .table) in
+    Agree C s t → (p a b : ℕ) → stays h C (read p a b) ≡ true → SameView s t p a b
+tenants-views T s t ws wt = view-alike (tenants (configuration (s .table)) T) s t ws wt (tenants-closed (configuration (s .table)) T)

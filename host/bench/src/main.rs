@@ -6,7 +6,7 @@
 //!
 //! Checking a log is timed beside the replay program, not beside the plain monitor.
 //!
-//!   cargo run --release --bin bench [check|single|creation|opens|mixed|tray|image|replay|logcheck]..
+//!   cargo run --release --bin bench [check|single|creation|opens|view|mixed|tray|image|replay|logcheck]..
 
 use monitor::layout::{ENTRIES, MAX_SLOTS};
 use monitor::{Bits, Caller, Cell, Code, Descriptor, Error, Hall, Modes, Monitor, Seid};
@@ -61,6 +61,9 @@ fn main() {
     }
     if wanted("opens") {
         opens();
+    }
+    if wanted("view") {
+        view();
     }
     if wanted("mixed") {
         heading("1,024 mixed calls");
@@ -400,8 +403,38 @@ fn beyond(world: &World, call: &Call) -> Ratio {
     let proved_check = |n| timed(n, || assert!(monitor::well_formed(table, bytes)));
     let plain_check = |n| timed(n, || assert!(plain::check(table, bytes).is_some()));
     let n = repetitions(&mut plain);
-    let over = |call: Duration, check: Duration| call.saturating_sub(check).max(Duration::from_nanos(1));
     ratio(ROUNDS, n, |n| over(proved(n), proved_check(n)), |n| over(plain(n), plain_check(n)))
+}
+
+/// What a call takes beyond the check.
+fn over(call: Duration, check: Duration) -> Duration {
+    call.saturating_sub(check).max(Duration::from_nanos(1))
+}
+
+/// A view of block 0 by descriptor 0 of process 0, by one of the two monitors; whether anything is shown.
+type View = fn(&[u32], &[u8]) -> bool;
+
+/// A view of a block, to a read of it: both beyond the check, whose time is taken off in each round. The table is as small as it can be.
+fn view() {
+    println!("\n## A view beyond the check, to a read\n\n| | ratio | quartiles | the read |\n|-|-:|-:|-:|");
+    let mut world = after_setup(&World::configured(&[1, 1, 0, 1, 1, 0, 0, 0, 0, 0, 0, 1, 0, 1, 0, 0]));
+    for (code, [a, b]) in [(7, [0o600, 3]), (14, [0, 0])] {
+        let error = plain_call(&mut world, &Request { caller: 0, code, a, b, c: 0 }, &mut [7; 512]);
+        assert_eq!(error, 0, "the file is made and written");
+    }
+    let read = Call { request: Request { caller: 0, code: 13, a: 0, b: 0, c: 0 }, buffer: vec![0; 512] };
+    let sides: [(&str, Make, Judge, View); 2] = [
+        ("proved", proved_call, monitor::well_formed, |table, store| monitor::view(table, store, 0, 0, 0).is_ok()),
+        ("plain", plain_call, plainly_well_formed, |table, store| plain::view(table, store, 0, 0, 0).is_ok()),
+    ];
+    for (name, make, well_formed, view) in sides {
+        let (table, store) = std::hint::black_box((&world.table[..], &world.store[..]));
+        let mut reads = repeated(&world, &read, make);
+        let checks = |n| timed(n, || assert!(well_formed(table, store.len())));
+        let views = |n| timed(n, || assert!(view(table, store)));
+        let n = repetitions(&mut reads);
+        line(name, ratio(ROUNDS, n, |n| over(views(n), checks(n)), |n| over(reads(n), checks(n))));
+    }
 }
 
 // Images.

@@ -3,6 +3,7 @@
 use crate::errors::Error::{self, *};
 use crate::seid::{Kind, Seid};
 use crate::table::*;
+use std::ops::{Deref, Range};
 
 #[derive(Clone, Copy, Debug, PartialEq, Eq)]
 pub struct Answer {
@@ -56,25 +57,11 @@ fn outcome(
     buffer: Option<&mut [u8]>,
 ) -> Outcome {
     let &Request { caller, code, a, b, c } = request;
-    let caller = caller as usize;
-    if caller >= shape.count(Kind::Process) || table[shape.at(Kind::Process, caller) + LIVE] == 0 {
-        return Err(XbPrSd);
-    }
+    let mut caller = Caller::live(shape, table, store, caller)?;
     let Some(buffer) = buffer else {
         // Which codes are calls' is said below: it is asked on copies.
-        let tried = outcome(shape, &mut table.to_vec(), &mut store.to_vec(), request, Some(&mut []));
+        let tried = outcome(shape, &mut caller.table.to_vec(), &mut caller.store.to_vec(), request, Some(&mut []));
         return Err(if tried == Err(XbdKcl) { XbdKcl } else { XbSz });
-    };
-    let at = shape.at(Kind::Process, caller);
-    let mut caller = Caller {
-        at,
-        cell: shape.cell(Kind::Process, caller),
-        seid: Kind::Process.seid(caller, table[at + SERIAL]),
-        owner: table[at + OWNER],
-        group: table[at + GROUP],
-        shape,
-        table,
-        store,
     };
     match code {
         1 => caller.spawn(a, b, c),
@@ -102,10 +89,17 @@ fn outcome(
     }
 }
 
-/// A live process that makes a call on a well-formed table.
-struct Caller<'a> {
-    table: &'a mut [u32],
-    store: &'a mut [u8],
+/// The block that a read would copy, as a part of the store: under the refusals of a read, but for the buffer's length.
+pub fn view<'a>(table: &[u32], store: &'a [u8], caller: u32, descriptor: u32, block: u32) -> Result<&'a [u8], Error> {
+    let shape = check(table, store.len()).ok_or(XbTab)?;
+    let part = Caller::live(&shape, table, store, caller)?.readable(descriptor, block)?;
+    Ok(&store[part])
+}
+
+/// A live process that makes a call on a well-formed table. Table and store are lent to be changed, or to be looked at alone.
+struct Caller<'a, T, S> {
+    table: T,
+    store: S,
     shape: &'a Shape,
     /// The first word of its record.
     at: usize,
@@ -165,7 +159,26 @@ pub fn granted(bits: u32, same_owner: bool, same_group: bool) -> u32 {
     set & (READ | WRITE)
 }
 
-impl Caller<'_> {
+impl<'a, T: Deref<Target = [u32]>, S> Caller<'a, T, S> {
+    /// The process in a slot, if it is live.
+    fn live(shape: &'a Shape, table: T, store: S, caller: u32) -> Result<Self, Error> {
+        let caller = caller as usize;
+        if caller >= shape.count(Kind::Process) || table[shape.at(Kind::Process, caller) + LIVE] == 0 {
+            return Err(XbPrSd);
+        }
+        let at = shape.at(Kind::Process, caller);
+        Ok(Caller {
+            at,
+            cell: shape.cell(Kind::Process, caller),
+            seid: Kind::Process.seid(caller, table[at + SERIAL]),
+            owner: table[at + OWNER],
+            group: table[at + GROUP],
+            shape,
+            table,
+            store,
+        })
+    }
+
     fn slot(&self, kind: Kind, index: usize) -> Object {
         Object { kind, index, at: self.shape.at(kind, index), cell: self.shape.cell(kind, index) }
     }
@@ -228,21 +241,6 @@ impl Caller<'_> {
             .min_by_key(|&slot| self.word(slot, SERIAL))
     }
 
-    /// Makes a free slot live, with what all three kinds have in common; its new seid.
-    fn occupy(&mut self, kind: Kind, slot: Object, owner: u32, group: u32) -> u32 {
-        let serial = self.table[slot.at + SERIAL] + 1;
-        self.table[slot.at..slot.at + 4].copy_from_slice(&[1, serial, owner, group]);
-        kind.seid(slot.index, serial)
-    }
-
-    /// Clears a record but for its serial.
-    fn clear(&mut self, kind: Kind, index: usize) {
-        let record = &mut self.table[self.shape.record(kind, index)];
-        let serial = record[SERIAL];
-        record.fill(0);
-        record[SERIAL] = serial;
-    }
-
     /// The word at which the caller's entry stands.
     fn entry_at(&self, entries: usize, place: usize) -> usize {
         self.at + entries + ENTRY_WORDS * place
@@ -250,12 +248,6 @@ impl Caller<'_> {
 
     fn empty_place(&self, entries: usize) -> Option<usize> {
         (0..ENTRIES).find(|&place| self.table[self.entry_at(entries, place)] == 0)
-    }
-
-    fn put_entry(&mut self, entries: usize, place: usize, seid: u32, rights: u32) {
-        let at = self.entry_at(entries, place);
-        self.table[at] = seid;
-        self.table[at + 1] = rights;
     }
 
     /// The seid and rights that the caller holds at a place, if it is a place and holds something.
@@ -281,6 +273,47 @@ impl Caller<'_> {
         let seid = Seid::of(word);
         let object = self.slot(kind, seid.index);
         (!self.stale(object, seid.serial)).then_some(object)
+    }
+
+    /// The file of a descriptor that is to be used with a mode and an access, up to the judging of its bits.
+    fn opened(&self, descriptor: u32, mode: u32, wrong_mode: Error, access: u32) -> Result<Object, Error> {
+        let (seid, modes) = self.descriptor(descriptor)?;
+        refuse_if(modes & mode == 0, wrong_mode)?;
+        let file = self.object(Kind::File, seid).ok_or(XnoObj)?;
+        refuse_if(self.lacks(file, access), XdapViol)?;
+        Ok(file)
+    }
+
+    /// The bytes of the store that a read of a block copies.
+    fn readable(&self, descriptor: u32, block: u32) -> Result<Range<usize>, Error> {
+        let file = self.opened(descriptor, 1, XnotReadable, READ)?;
+        refuse_if(block as usize >= self.shape.blocks, XbadBlockNo)?;
+        refuse_if(block >= self.word(file, SIZE), XendOfFile)?;
+        let start = self.shape.stretch(file.index).start + block as usize * BLOCK_BYTES;
+        Ok(start..start + BLOCK_BYTES)
+    }
+}
+
+impl Caller<'_, &mut [u32], &mut [u8]> {
+    /// Makes a free slot live, with what all three kinds have in common; its new seid.
+    fn occupy(&mut self, kind: Kind, slot: Object, owner: u32, group: u32) -> u32 {
+        let serial = self.table[slot.at + SERIAL] + 1;
+        self.table[slot.at..slot.at + 4].copy_from_slice(&[1, serial, owner, group]);
+        kind.seid(slot.index, serial)
+    }
+
+    /// Clears a record but for its serial.
+    fn clear(&mut self, kind: Kind, index: usize) {
+        let record = &mut self.table[self.shape.record(kind, index)];
+        let serial = record[SERIAL];
+        record.fill(0);
+        record[SERIAL] = serial;
+    }
+
+    fn put_entry(&mut self, entries: usize, place: usize, seid: u32, rights: u32) {
+        let at = self.entry_at(entries, place);
+        self.table[at] = seid;
+        self.table[at + 1] = rights;
     }
 
     /// Gives up the entry that stands at a word, if it holds anything: a process of the caller's cell holds it.
@@ -491,23 +524,10 @@ impl Caller<'_> {
 
     // Blocks.
 
-    /// The file of a descriptor that is to be used with a mode and an access, up to the judging of its bits.
-    fn opened(&self, descriptor: u32, mode: u32, wrong_mode: Error, access: u32) -> Result<Object, Error> {
-        let (seid, modes) = self.descriptor(descriptor)?;
-        refuse_if(modes & mode == 0, wrong_mode)?;
-        let file = self.object(Kind::File, seid).ok_or(XnoObj)?;
-        refuse_if(self.lacks(file, access), XdapViol)?;
-        Ok(file)
-    }
-
     fn read_block(&mut self, descriptor: u32, block: u32, buffer: &mut [u8]) -> Outcome {
         refuse_if(buffer.len() != BLOCK_BYTES, XbSz)?;
-        let file = self.opened(descriptor, 1, XnotReadable, READ)?;
-        refuse_if(block as usize >= self.shape.blocks, XbadBlockNo)?;
-        refuse_if(block >= self.word(file, SIZE), XendOfFile)?;
-        let stretch = &self.store[self.shape.stretch(file.index)];
-        let start = block as usize * BLOCK_BYTES;
-        buffer.copy_from_slice(&stretch[start..start + BLOCK_BYTES]);
+        let part = self.readable(descriptor, block)?;
+        buffer.copy_from_slice(&self.store[part]);
         DONE
     }
 

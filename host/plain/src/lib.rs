@@ -12,7 +12,7 @@ mod seid;
 pub mod table;
 mod tray;
 
-pub use calls::{Answer, Request, call, clash, granted, valid_modes};
+pub use calls::{Answer, Request, call, clash, granted, valid_modes, view};
 pub use errors::Error;
 pub use image::{image, image_length, reload};
 pub use replay::{HEADER_NUMBERS, number, replay};

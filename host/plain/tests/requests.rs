@@ -199,6 +199,41 @@ fn r14_shared_segments_are_fixed() {
 }
 
 #[test]
+fn r17_views() {
+    let mut hall = Hall::two_levels();
+    hall.done(0, CREATE, [0o640, 3, 0]);
+    hall.done(0, CREATE, [0o640, 3, 0]);
+    hall.done(0, CREATE, [0o640, 2, 0]);
+    hall.write(0, 1, 1, 7);
+    hall.done(3, OPEN, [file(1, 1), 1, 0]);
+    let view = |hall: &Hall, caller, a, b| {
+        let (before, shown) = (hall.clone(), plain::view(&hall.table, &hall.store, caller, a, b));
+        assert_eq!(*hall, before);
+        shown.map(|part| (part.as_ptr().addr() - hall.store.as_ptr().addr(), part.to_vec()))
+    };
+    // The bytes where they stand, in the own cell and from above: file 1 has blocks 2 and 3 of the store.
+    for (caller, descriptor) in [(0, 1), (3, 0)] {
+        assert_eq!(view(&hall, caller, descriptor, 0), Ok((2 * 512, vec![0; 512])));
+        assert_eq!(view(&hall, caller, descriptor, 1), Ok((3 * 512, vec![7; 512])));
+    }
+    // In order: 1, 2, 10, 20, 12, 16, 22, 23.
+    for a in [3, 15, 16, u32::MAX] {
+        assert_eq!(view(&hall, 0, a, 9), Err(XbadOd));
+    }
+    assert_eq!(view(&hall, 0, 2, 9), Err(XnotReadable));
+    assert_eq!(view(&hall, 0, 0, 2), Err(XbadBlockNo), "22 before 23");
+    assert_eq!(view(&hall, 0, 0, 1), Err(XendOfFile));
+    hall.done(0, SET_BITS, [file(1, 1), 0o077, 0]);
+    assert_eq!(view(&hall, 3, 0, 9), Err(XdapViol), "16 before 22, by today's bits");
+    hall.done(0, CLOSE, [1, 0, 0]);
+    assert_eq!(view(&hall, 3, 0, 9), Err(XnoObj), "stale, and 12 before 16");
+    assert_eq!(view(&hall, 1, 99, 9), Err(XbPrSd), "not live");
+    assert_eq!(view(&hall, 6, 99, 9), Err(XbPrSd));
+    hall.table[7] = 1;
+    assert_eq!(view(&hall, 6, 99, 9), Err(XbTab));
+}
+
+#[test]
 fn r09_bits_of_processes() {
     let mut hall = Hall::two_levels();
     assert_eq!(hall.process(0)[6], 438, "a first process");

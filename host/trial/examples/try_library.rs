@@ -28,6 +28,13 @@ struct Answer {
     second: u32,
 }
 
+#[repr(C)]
+struct Part {
+    error: u32,
+    from: usize,
+    count: usize,
+}
+
 type Setup = unsafe extern "C" fn(*mut u32, usize, usize) -> u32;
 type Check = unsafe extern "C" fn(*const u32, usize, usize) -> u32;
 #[rustfmt::skip]
@@ -38,11 +45,14 @@ type Reload = unsafe extern "C" fn(*mut u32, usize, *mut u8, usize, *const u8, u
 #[rustfmt::skip]
 type Call = unsafe extern "C" fn(*mut u32, usize, *mut u8, usize, u32, u32, u32, u32, u32, *mut u8, usize) -> Answer;
 
+type View = unsafe extern "C" fn(*const u32, usize, *const u8, usize, u32, u32, u32) -> Part;
+
 /// The functions of monitor.h, as loaded.
 struct Library {
     setup: Setup,
     check: Check,
     call: Call,
+    view: View,
     tray: Tray,
     image_length: ImageLength,
     image: Image,
@@ -63,7 +73,7 @@ impl Library {
             found
         };
         let (setup, check, call) = (find("monitor_setup"), find("monitor_check"), find("monitor_call"));
-        let tray = find("monitor_tray");
+        let (view, tray) = (find("monitor_view"), find("monitor_tray"));
         let (length, image, reload) = (find("monitor_image_length"), find("monitor_image"), find("monitor_reload"));
         // SAFETY: the functions have the types of monitor.h.
         unsafe {
@@ -71,6 +81,7 @@ impl Library {
                 setup: std::mem::transmute::<*mut c_void, Setup>(setup),
                 check: std::mem::transmute::<*mut c_void, Check>(check),
                 call: std::mem::transmute::<*mut c_void, Call>(call),
+                view: std::mem::transmute::<*mut c_void, View>(view),
                 tray: std::mem::transmute::<*mut c_void, Tray>(tray),
                 image_length: std::mem::transmute::<*mut c_void, ImageLength>(length),
                 image: std::mem::transmute::<*mut c_void, Image>(image),
@@ -99,6 +110,14 @@ impl Monitor for Library {
         let Answer { error, first, second } =
             unsafe { (self.call)(table, words, store, bytes, caller, code, a, b, c, buffer, length) };
         [error, first, second]
+    }
+
+    fn view(&self, table: &[u32], store: &[u8], caller: u32, descriptor: u32, block: u32) -> (u32, usize, usize) {
+        let (words, bytes) = (table.len(), store.len());
+        // SAFETY: as above.
+        let Part { error, from, count } =
+            unsafe { (self.view)(table.as_ptr(), words, store.as_ptr(), bytes, caller, descriptor, block) };
+        (error, from, count)
     }
 
     fn tray(&self, table: &mut [u32], store: &mut [u8], records: &mut [plain::Record], bytes: &mut [u8]) -> u32 {

@@ -8,7 +8,7 @@ use crate::tables::{self, World};
 use crate::tally::{CODES, Tally};
 use crate::{Monitor, Plain};
 use plain::table::*;
-use plain::{Kind, Shape};
+use plain::{Kind, Request, Shape};
 use std::collections::BTreeMap;
 
 pub struct Differ<'a, M> {
@@ -77,7 +77,7 @@ impl<'a, M: Monitor> Differ<'a, M> {
                 let call = made.last().expect("there is one");
                 let answer = same_call(self.monitor, &mut ours, &mut theirs, call);
                 let error = match answer {
-                    Ok(answer) => self.note(&before, &shape, call, answer),
+                    Ok(agreed) => self.note(&before, &shape, call, agreed),
                     Err(_) => self.report(&start, &made),
                 };
                 if error == 0 {
@@ -93,13 +93,14 @@ impl<'a, M: Monitor> Differ<'a, M> {
     /// A call by itself, on two copies of a table.
     fn step(&mut self, before: &World, shape: &Shape, ours: &mut World, theirs: &mut World, call: &Call) -> u32 {
         match same_call(self.monitor, ours, theirs, call) {
-            Ok(answer) => self.note(before, shape, call, answer),
+            Ok(agreed) => self.note(before, shape, call, agreed),
             Err(_) => self.report(before, std::slice::from_ref(call)),
         }
     }
 
-    fn note(&mut self, before: &World, shape: &Shape, call: &Call, answer: [u32; 3]) -> u32 {
+    fn note(&mut self, before: &World, shape: &Shape, call: &Call, Agreed { answer, view }: Agreed) -> u32 {
         self.tally.note(before, shape, call, answer);
+        self.tally.viewed(view);
         self.calls += 1;
         answer[0]
     }
@@ -146,14 +147,15 @@ impl<'a, M: Monitor> Differ<'a, M> {
         assert_eq!(ours, verdict, "the check of a table damaged thus: {name}\n{}", difference(shape, start, &world));
         let call = calls::any(&mut self.rng, start, shape);
         let (mut one, mut other) = (world.clone(), world.clone());
-        let answer = match same_call(self.monitor, &mut one, &mut other, &call) {
-            Ok(answer) => answer,
+        let Agreed { answer, view } = match same_call(self.monitor, &mut one, &mut other, &call) {
+            Ok(agreed) => agreed,
             Err(_) if verdict == 0 => self.report(&world, &[call]), // it is still well formed
             Err(difference) => panic!("on a table damaged thus: {name}\n{difference}"),
         };
         self.calls += 1;
         if verdict != 0 {
-            assert_eq!(answer, [1, 0, 0], "a table damaged thus: {name}");
+            assert_eq!((answer, view), ([1, 0, 0], 1), "a table damaged thus: {name}");
+            self.tally.viewed(view);
             assert!(one == world, "a bad table was changed: {name}");
             self.tally.bad_table();
         }
@@ -206,19 +208,22 @@ fn same_setup(monitor: &impl Monitor, world: World) {
     }
 }
 
+/// What both monitors answered.
+pub struct Agreed {
+    pub answer: [u32; 3],
+    /// The number of the view.
+    pub view: u32,
+}
+
 /// Makes one call with the monitor on one world and with the plain monitor on the other, and compares all that is left: the answer
-/// of both, or in what they differ.
-pub fn same_call(
-    monitor: &impl Monitor,
-    ours: &mut World,
-    theirs: &mut World,
-    call: &Call,
-) -> Result<[u32; 3], String> {
+/// of both, or in what they differ. Before it, the same process has a view by the call's first two arguments.
+pub fn same_call(monitor: &impl Monitor, ours: &mut World, theirs: &mut World, call: &Call) -> Result<Agreed, String> {
+    let view = same_view(monitor, ours, theirs, &call.request)?;
     let (mut our_buffer, mut their_buffer) = (call.buffer.clone(), call.buffer.clone());
     let answer = monitor.call(&mut ours.table, &mut ours.store, &call.request, &mut our_buffer);
     let expected = Plain.call(&mut theirs.table, &mut theirs.store, &call.request, &mut their_buffer);
     if answer == expected && *ours == *theirs && our_buffer == their_buffer {
-        return Ok(answer);
+        return Ok(Agreed { answer, view });
     }
     let shape = Shape::read(&theirs.table, theirs.store.len());
     let place = shape.map_or(String::new(), |shape| difference(&shape, ours, theirs));
@@ -227,6 +232,28 @@ pub fn same_call(
         call.request,
         call.buffer.len(),
         our_buffer == their_buffer,
+    ))
+}
+
+/// A view by the monitor on one world, against a read by the plain monitor on the other: number, place and bytes. Its number.
+fn same_view(monitor: &impl Monitor, ours: &World, theirs: &mut World, request: &Request) -> Result<u32, String> {
+    let &Request { caller, a, b, .. } = request;
+    let (error, from, count) = monitor.view(&ours.table, &ours.store, caller, a, b);
+    let mut block = [0; BLOCK_BYTES];
+    let read = Request { caller, code: 13, a, b, c: 0 };
+    let [due, ..] = Plain.call(&mut theirs.table, &mut theirs.store, &read, &mut block);
+    let (due_from, bytes): (usize, &[u8]) = match due {
+        0 => (theirs.block_at(&theirs.shape(), caller, a, b), &block),
+        _ => (0, &[]),
+    };
+    let part = from.checked_add(count).and_then(|end| ours.store.get(from..end));
+    if (error, from) == (due, due_from) && part == Some(bytes) {
+        return Ok(error);
+    }
+    Err(format!(
+        "a view by process {caller}, descriptor {a}, block {b}\nnumber {error}, a read {due}; {count} bytes from {from}, to be {} from {due_from}; bytes equal: {}",
+        bytes.len(),
+        part == Some(bytes)
     ))
 }
 

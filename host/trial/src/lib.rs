@@ -26,6 +26,9 @@ pub trait Monitor {
     /// Error, first and second.
     fn call(&self, table: &mut [u32], store: &mut [u8], request: &plain::Request, buffer: &mut [u8]) -> [u32; 3];
 
+    /// A view by a caller, of a descriptor and a block: error, first byte and count.
+    fn view(&self, table: &[u32], store: &[u8], caller: u32, descriptor: u32, block: u32) -> (u32, usize, usize);
+
     /// The tray's own answer; the records have theirs.
     fn tray(&self, table: &mut [u32], store: &mut [u8], records: &mut [plain::Record], bytes: &mut [u8]) -> u32;
 
@@ -61,6 +64,10 @@ impl Monitor for Plain {
         [answer.error as u32, answer.first, answer.second]
     }
 
+    fn view(&self, table: &[u32], store: &[u8], caller: u32, descriptor: u32, block: u32) -> (u32, usize, usize) {
+        shown(store, plain::view(table, store, caller, descriptor, block).map_err(|error| error as u32))
+    }
+
     fn tray(&self, table: &mut [u32], store: &mut [u8], records: &mut [plain::Record], bytes: &mut [u8]) -> u32 {
         plain::tray(table, store, records, bytes) as u32
     }
@@ -75,6 +82,14 @@ impl Monitor for Plain {
 
     fn reload(&self, table: &mut [u32], store: &mut [u8], image: &[u8]) -> u32 {
         plain::reload(table, store, image) as u32
+    }
+}
+
+/// What a view has shown, by its place in the store; a refusal shows an empty part.
+pub fn shown(store: &[u8], part: Result<&[u8], u32>) -> (u32, usize, usize) {
+    match part {
+        Ok(part) => (0, part.as_ptr().addr() - store.as_ptr().addr(), part.len()),
+        Err(error) => (error, 0, 0),
     }
 }
 

@@ -21,6 +21,8 @@ pub struct Met {
     pub runs: u64,
     pub visible_done: u64,
     pub visible_refused: u64,
+    /// Views that show something.
+    pub visible_views: u64,
     pub hidden_done: u64,
     pub no_caller: u64,
     /// Posts up that one run delivers and the other drops.
@@ -60,6 +62,7 @@ impl Met {
             self.runs,
             self.visible_done,
             self.visible_refused,
+            self.visible_views,
             self.hidden_done,
             self.no_caller,
             self.posts_that_differ,
@@ -195,6 +198,13 @@ impl<M: Monitor> Run<'_, M> {
         let cell = self.shape.cell(Kind::File, Seid::of(file).index);
         let caller = calls::caller(rng, &self.world, self.shape, |other| other == cell)?;
         Some(Call { request: Request { caller, code: 8, a: file, b: 15, c: 0 }, buffer: Vec::new() })
+    }
+
+    /// What a view by a call's process shows, of the call's first two arguments: number, place and bytes.
+    fn shown(&self, call: &Call) -> (u32, usize, &[u8]) {
+        let Request { caller, a, b, .. } = call.request;
+        let (error, from, count) = self.monitor.view(&self.world.table, &self.world.store, caller, a, b);
+        (error, from, &self.world.store[from..from + count])
     }
 
     /// Whether the bits of a receiver forbid the caller's post.
@@ -468,6 +478,9 @@ fn visible_call<M: Monitor>(one: &mut Run<M>, other: &mut Run<M>, call: &Call, m
     let exclusive = call.request.code == 8 && call.request.b == 15;
     let held = if frees || exclusive { one.held_from_above() } else { Vec::new() };
 
+    let shown = one.shown(call);
+    assert_eq!(shown, other.shown(call), "views by the arguments of {call:?}");
+    met.visible_views += u64::from(shown.0 == 0);
     let (answer, buffer) = one.make(call);
     let (other_answer, other_buffer) = other.make(call);
     assert_eq!(answer, other_answer, "answers to {call:?}");

@@ -58,6 +58,12 @@ impl World {
         (self.table[at], self.table[at + 1])
     }
 
+    /// Where a block of the file that a process holds at a descriptor stands in the store.
+    pub fn block_at(&self, shape: &Shape, process: u32, place: u32, block: u32) -> usize {
+        let (seid, _) = self.entry(shape, process as usize, DESCRIPTORS, place as usize);
+        shape.stretch(Seid::of(seid).index).start + BLOCK_BYTES * block as usize
+    }
+
     pub fn set_entry(&mut self, shape: &Shape, process: usize, entries: usize, place: usize, entry: (u32, u32)) {
         let at = shape.at(Kind::Process, process) + entries + ENTRY_WORDS * place;
         (self.table[at], self.table[at + 1]) = entry;

@@ -37,6 +37,9 @@ pub const REFUSALS: [&[u32]; CODES + 1] = [
     &[34, 5, 4, 10, 20, 12, 16, 26],
 ];
 
+/// The refusals of a view: those of all calls but the code's, and those of a read but the buffer's.
+pub const VIEW_REFUSALS: &[u32] = &[1, 2, 10, 20, 12, 16, 22, 23];
+
 pub const SITUATIONS: &[&str] = &[
     "spawn passes over a free slot of serial 65535",
     "spawn passes over a lower slot that is worn more",
@@ -141,6 +144,8 @@ pub const SITUATIONS: &[&str] = &[
 pub struct Tally {
     /// By code and error: successes, and refusals from the call's own list.
     own: [[u64; ERRORS]; CODES + 1],
+    /// Views, by error.
+    views: [u64; ERRORS],
     bad_table: u64,
     bad_caller: u64,
     bad_code: u64,
@@ -151,6 +156,7 @@ impl Default for Tally {
     fn default() -> Tally {
         Tally {
             own: [[0; ERRORS]; CODES + 1],
+            views: [0; ERRORS],
             bad_table: 0,
             bad_caller: 0,
             bad_code: 0,
@@ -190,6 +196,12 @@ impl Tally {
         assert!(error == 0 || (first, second) == (0, 0), "a refusal with results: {call:?}");
     }
 
+    /// Notes a view, by its number.
+    pub fn viewed(&mut self, error: u32) {
+        assert!(error == 0 || VIEW_REFUSALS.contains(&error), "{error} is not in the list of views");
+        self.views[error as usize] += 1;
+    }
+
     fn met(&mut self, situation: &'static str, true_here: bool) {
         let count = self.situations.get_mut(situation).expect("the situation is listed");
         *count += u64::from(true_here);
@@ -205,6 +217,8 @@ impl Tally {
                 }
             }
         }
+        let unseen = [0].iter().chain(VIEW_REFUSALS).filter(|error| self.views[**error as usize] == 0);
+        missing.extend(unseen.map(|error| format!("a view with error {error}")));
         for (count, name) in [(self.bad_table, "table"), (self.bad_caller, "caller"), (self.bad_code, "code")] {
             if count == 0 {
                 missing.push(format!("a bad {name}"));
@@ -230,6 +244,11 @@ impl fmt::Display for Tally {
             }
             writeln!(f)?;
         }
+        write!(f, "views: shown {:6}; refused", self.views[0])?;
+        for &error in VIEW_REFUSALS {
+            write!(f, "  {error}: {}", self.views[error as usize])?;
+        }
+        writeln!(f)?;
         for (name, count) in &self.situations {
             writeln!(f, "{count:8}  {name}")?;
         }

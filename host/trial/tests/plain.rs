@@ -1,10 +1,10 @@
 //! The plain monitor by itself, on random tables: what every monitor of document 01 must keep, and what it must not tell.
 
 use plain::Kind;
-use plain::table::{BITS, LIVE, MAP, PAGES, SERIAL, SHARABLE};
+use plain::table::{BITS, BLOCK_BYTES, LIVE, MAP, PAGES, SERIAL, SHARABLE};
 use trial::images::Images;
 use trial::tally::Tally;
-use trial::{Monitor, Plain, Rng, World, calls, damage, secrecy, tables, trays};
+use trial::{Call, Monitor, Plain, Rng, World, calls, damage, secrecy, tables, trays};
 
 /// Every call on a well-formed table leaves it well formed, and a refused one changes nothing.
 #[test]
@@ -12,6 +12,7 @@ fn calls_keep_tables_well_formed() {
     let mut rng = Rng::for_trial("calls_keep_tables_well_formed", 1);
     let mut tally = Tally::default();
     tally.bad_table(); // is tried below
+    tally.viewed(1);
     let mut made = 0;
     while made < trial::setting("TRIAL_CALLS", 500_000) {
         let limits = tables::limits(&mut rng);
@@ -24,6 +25,7 @@ fn calls_keep_tables_well_formed() {
         for _ in 0..200 {
             let call = calls::any(&mut rng, &world, &shape);
             let before = world.clone();
+            tally.viewed(view_is_a_read(&world, &call));
             let mut buffer = call.buffer.clone();
             let answer = Plain.call(&mut world.table, &mut world.store, &call.request, &mut buffer);
             tally.note(&before, &shape, &call, answer);
@@ -54,6 +56,24 @@ fn calls_keep_tables_well_formed() {
     }
     println!("{tally}");
     tally.assert_complete();
+}
+
+/// A view by the call's process, of its first two arguments, shows what a read copies: the block's place in its file's stretch, and its
+/// bytes. Its number.
+fn view_is_a_read(world: &World, call: &Call) -> u32 {
+    let plain::Request { caller, a, b, .. } = call.request;
+    let mut copy = world.clone();
+    let mut block = [0; BLOCK_BYTES];
+    let read = plain::Request { caller, code: 13, a, b, c: 0 };
+    let [error, ..] = Plain.call(&mut copy.table, &mut copy.store, &read, &mut block);
+    let shown = Plain.view(&world.table, &world.store, caller, a, b);
+    if error == 0 {
+        let from = world.block_at(&world.shape(), caller, a, b);
+        assert_eq!((shown, &world.store[from..from + BLOCK_BYTES]), ((0, from, BLOCK_BYTES), &block[..]));
+    } else {
+        assert_eq!(shown, (error, 0, 0));
+    }
+    error
 }
 
 /// Every named damage makes a table bad.

@@ -20,6 +20,10 @@ impl Monitor for Faulty {
         Plain.check(table, store_bytes)
     }
 
+    fn view(&self, table: &[u32], store: &[u8], caller: u32, descriptor: u32, block: u32) -> (u32, usize, usize) {
+        Plain.view(table, store, caller, descriptor, block)
+    }
+
     fn tray(&self, table: &mut [u32], store: &mut [u8], records: &mut [plain::Record], bytes: &mut [u8]) -> u32 {
         Plain.tray(table, store, records, bytes)
     }

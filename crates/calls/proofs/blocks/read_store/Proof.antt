@@ -3,21 +3,12 @@ use Rattle.calls.proofs.BlocksLaws.{part-length}
 use Rattle.calls.proofs.Queues.{sets-all}
 use Rattle.rules.specs.Layout.{blockBytes}
 use Rattle.rules.specs.Words.{part}
-use Prim.Native.Nat.{_+_, _-_, _*_}
+use Prim.Native.Nat.{_+_, _-_}
 use mathlib.Core.Path.{_≡_, sym, _∙_}
 use native.Mathlib.Omega.{arith}
 use borrow.Author.Needs.{needs}
 use Rattle.calls.proofs.blocks.read_store.Statement.{statement}
 use Rattle.calls.proofs.blocks.read_store.Tie as tie
-
-mul-from : tie.Need-mul-from
-mul-from c = search needs
-
-mul-from-2 : tie.Need-mul-from-2
-mul-from-2 c = search needs
-
-add-from : tie.Need-add-from
-add-from c = search needs
 
 add-to : tie.Need-add-to
 add-to c = search needs
@@ -40,18 +31,14 @@ same-length c = search needs
 returns : tie.Need-returns
 unfolding part
 returns c =
-    let at-start = c .before .before .before .before .before .before .before in
-    let a = at-start .args in let k : a .f * a .n + a .b * blockBytes + blockBytes - (a .f * a .n + a .b * blockBytes) ≡ blockBytes = omega arith in
-    (rw k at (c .before .before .put-bytes .ensures)) ∙ sets-all _ _ (part-length (a .store .now) (a .f * a .n + a .b * blockBytes) blockBytes (omega
-    arith) ∙ sym (at-start .pre .2))
+    let at-start = c .before .before .before .before .before .before .before in let a = at-start .args in
+    let k : a .from + blockBytes - a .from ≡ blockBytes = omega arith in
+    (rw k at (c .before .before .put-bytes .ensures)) ∙ sets-all _ _ (part-length (a .store .now) (a .from) blockBytes (at-start .pre .0) ∙ sym (at-start .pre .1))
 
 pub read-store-spec : {M : Type 1} → statement M
 read-store-spec =
     tie.close
     (tie.spec
-    mul-from
-    mul-from-2
-    add-from
     add-to
     sub-put-bytes
     part-put-bytes-start
