@@ -1,8 +1,8 @@
 -- A live process: its parent, its designators, its messages, its pages.
-use mathlib.Core.Path.{_≡_, refl, sym, _∙_}
+use mathlib.Core.Path.{_≡_, refl, sym, ap, _∙_}
 use mathlib.Core.Bool.{Bool, true, false, _&&_, _||_, not, and-assoc}
 use mathlib.Core.List.{List}
-use Prim.Native.Nat.{ℕ, _-_, _≤_, _<_}
+use Prim.Native.Nat.{ℕ, zero, suc, _+_, _*_, _-_, _≤_, _<_}
 use native.Mathlib.Omega.{arith}
 use borrow.Author.Tests.{eq-eqb, ne-eqb, lt-ltb, le-ltb, lt-leb, le-leb}
 use lib.Dec.{leb, ltb, eqb}
@@ -18,6 +18,7 @@ use Rattle.layout.specs.declared.Header.{Header}
 use Rattle.table.specs.Shape.{RecordAt, Shaped}
 use Rattle.table.specs.Entries.{recordAt, Indexed, fresh}
 use Rattle.table.proofs.Config.{and-true, base-read}
+use Rattle.table.proofs.Loops.{all-sum}
 use Rattle.table.proofs.Holders.{index-out, index-in}
 use Rattle.table.proofs.Record.{record-claim, dead-record}
 
@@ -56,6 +57,27 @@ module _ (h : List ℕ) (r : Addr → ℕ) (p m : ℕ) where
   pub message-unused : r (at process p queue) ≤ m → allBelow messageWords (λ j. eqb (r (at process p (messageAt m j))) 0) ≡ test (messageOk h r p m)
   unfolding messageOk
   message-unused l = rw (le-ltb m (r (at process p queue)) l, le-leb (r (at process p queue)) m l)
+
+-- the words of n messages, one after the other
+by-message : (n : ℕ) (f : ℕ → Bool) → allBelow (n * messageWords) f ≡ allBelow n (λ m. allBelow messageWords (λ j. f (m * messageWords + j)))
+unfolding allBelow
+by-message zero f = refl
+by-message (suc n) f =
+    let more : suc n * messageWords ≡ n * messageWords + messageWords = omega arith in
+    ap (λ (k : ℕ). allBelow k f) more ∙ all-sum (n * messageWords) messageWords f
+    ∙ ap (λ (b : Bool). b && allBelow messageWords (λ j. f (n * messageWords + j))) (by-message n f)
+
+module _ (h : List ℕ) (r : Addr → ℕ) (p : ℕ) where
+  place-is : (m j : ℕ) → messageAt 0 (m * messageWords + j) ≡ messageAt m j
+  place-is m j = omega arith
+
+  -- of an empty queue every word is zero
+  pub messages-unused : r (at process p queue) ≡ 0
+      → allBelow (messages * messageWords) (λ j. eqb (r (at process p (messageAt 0 j))) 0) ≡ test (each messages (messageOk h r p))
+  messages-unused e =
+      by-message messages (λ j. eqb (r (at process p (messageAt 0 j))) 0)
+      ∙ (λ i. allBelow messages (λ m. allBelow messageWords (λ j. eqb (r (at process p (place-is m j i))) 0)))
+      ∙ (λ i. allBelow messages (λ m. message-unused h r p m (omega (arith, e)) i))
 
 -- ---- its pages
 

@@ -188,6 +188,6 @@ pub names-idle : (h : List ℕ) (k : Kind) (c s u i : ℕ) → eqb s 0 && eqb u 
 names-idle h k c s u i e = rw (and-left (eqb s 0) (eqb u 0) e)
 
 -- the words of a used entry are not both 0
-pub busy-word : (t : List ℕ) (from d e : ℕ) → d ≡ e → unused t from e ≡ false → heldWord t from d ≡ 0 → usedWord t from d ≡ 0 → ⊥
-busy-word t from d e q busy a b =
-    true≢false (sym (and-both _ _ (eq-eqb (heldWord t from d) 0 a) (eq-eqb (usedWord t from d) 0 b)) ∙ ap (unused t from) q ∙ busy)
+pub busy-word : (t : List ℕ) (from d s u : ℕ) → unused t from d ≡ false → s ≡ heldWord t from d → u ≡ usedWord t from d → s ≡ 0 → u ≡ 0 → ⊥
+busy-word t from d s u busy p q a b =
+    true≢false (sym (and-both _ _ (eq-eqb (heldWord t from d) 0 (sym p ∙ a)) (eq-eqb (usedWord t from d) 0 (sym q ∙ b))) ∙ busy)

@@ -1,7 +1,7 @@
 -- Loops that test or add up for each number below a bound: before the first turn, one turn more, after the last.
 use mathlib.Core.Path.{_≡_, refl, sym, ap, ap₂, _∙_}
 use mathlib.Core.Bool.{Bool, true, _&&_, and-true, and-assoc}
-use Prim.Native.Nat.{ℕ, _+_, _≤_}
+use Prim.Native.Nat.{ℕ, zero, suc, _+_, _≤_}
 use native.Mathlib.Omega.{arith}
 use Rattle.rules.specs.Words.{allBelow, sumBelow}
 use Rattle.laws.proofs.Below.{all-more, sum-more}
@@ -16,6 +16,17 @@ module _ (f : ℕ → Bool) where
 
   pub all-last : {ok : Bool} {i n m : ℕ} → ok ≡ allBelow i f → i ≤ n → n ≤ i → n ≡ m → ok ≡ allBelow m f
   all-last {i = i} {m = m} e a b q = e ∙ ap (λ (k : ℕ). allBelow k f) (omega arith)
+
+-- what passes below k + n passes below k, and n more from there on
+pub all-sum : (k n : ℕ) (f : ℕ → Bool) → allBelow (k + n) f ≡ allBelow k f && allBelow n (λ j. f (k + j))
+unfolding allBelow
+all-sum k zero f =
+    let none-more : k + 0 ≡ k = omega arith in
+    ap (λ (i : ℕ). allBelow i f) none-more ∙ sym (and-true (allBelow k f))
+all-sum k (suc n) f =
+    let one-more : k + suc n ≡ k + n + 1 = omega arith in
+    ap (λ (i : ℕ). allBelow i f) one-more ∙ all-more (k + n) f ∙ ap (λ (b : Bool). b && f (k + n)) (all-sum k n f)
+    ∙ and-assoc (allBelow k f) (allBelow n (λ j. f (k + j))) (f (k + n))
 
 -- a loop in a loop that tests each pair of numbers below a bound, the lower one second: those of the turns before, and those of this turn so far
 module _ (f : ℕ → ℕ → Bool) where

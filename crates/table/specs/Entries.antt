@@ -41,6 +41,14 @@ pub record Lists (idle : ℕ → Bool) (l : List ℕ) (n m : ℕ) : Type 0 where
   pub before : (j : ℕ) → j < n → (f : ℕ → Bool) → allBelow j (λ i. f (getD l i 0)) ≡ allBelow (getD l j 0) (λ d. idle d || f d)
   pub count : (f : ℕ → Bool) → countBelow n (λ j. f (getD l j 0)) ≡ countBelow m (λ d. not (idle d) && f d)
 
+-- the list has the two words of each of the first n numbers below m whose entries are used, in order
+pub record Squeezed (t : List ℕ) (from : ℕ) (l : List ℕ) (n m : ℕ) : Type 0 where
+  pub numbers : List ℕ
+  pub long : length numbers ≡ entries
+  pub lists : Lists (unused t from) numbers n m
+  pub held-is : (j : ℕ) → j < n → getD l (2 * j) 0 ≡ heldWord t from (getD numbers j 0)
+  pub used-is : (j : ℕ) → j < n → getD l (1 + 2 * j) 0 ≡ usedWord t from (getD numbers j 0)
+
 -- s names an object of kind k, and one of the cell mine
 abbrev pub holdsOwn : List ℕ → Kind → ℕ → ℕ → Bool
 holdsOwn h k mine s = not (eqb s 0) && eqb (cellOf h k (indexOf s)) mine
@@ -55,9 +63,9 @@ names h k mine s i = holdsOwn h k mine s && eqb (indexOf s) i
 abbrev pub fresh : (ℕ → ℕ) → ℕ → Bool
 fresh w e = allBelow e (λ d. not (not (eqb (w e) 0)) || not (eqb (w d) (w e)))
 
--- no two of those listed hold the same
-abbrev pub Apart : (ℕ → ℕ) → List ℕ → ℕ → Type 0
-Apart w l n = (j : ℕ) → j < n → (i : ℕ) → i < j → w (getD l i 0) ≡ w (getD l j 0) → ⊥
+-- no two of the first n hold the same
+abbrev pub Apart : (ℕ → ℕ) → ℕ → Type 0
+Apart w n = (j : ℕ) → j < n → (i : ℕ) → i < j → w i ≡ w j → ⊥
 
 abbrev pub keys : ℕ
 keys = 256

@@ -10,8 +10,9 @@ ghost use Rattle.rules.specs.Seid.{class, classOf, indexOf};
 ghost use Rattle.rules.specs.WellFormed.{validUse, writeUse, heldOk, entryOk};
 ghost use Rattle.layout.specs.Kinds.{kindOf};
 ghost use Rattle.table.specs.Shape.{Shaped, CellsOf};
-ghost use Rattle.table.specs.Entries.{heldWord, usedWord, unused, Lists, names, Countable, Counts};
+ghost use Rattle.table.specs.Entries.{heldWord, usedWord, Squeezed, names, Countable, Counts};
 use crate::places;
+use crate::records;
 use crate::runs;
 use layout::Header;
 use layout::Kind;
@@ -28,7 +29,7 @@ pub(crate) fn held_ok(
     t: &[u32],
     n: Header,
     kind: Kind,
-    cells: &[u16; MAX_SLOTS],
+    cells: &[u8; MAX_SLOTS],
     flow: &[[bool; MAX_CELLS]; MAX_CELLS],
     mine: usize,
     s: u32,
@@ -67,16 +68,22 @@ fn write_use(kind: Kind, u: u32) -> bool
     }
 }
 
-// Which of the entries that begin at a place are used, in order, at the front of the list; and how many they are. No branch goes by what an entry holds: half of
-// the entries of a table in use are empty, and none can be foretold.
-pub(crate) fn used(t: &[u32], from: usize, list: &mut [u16]) -> usize
-    requires { ⌜ (from + 2 * entries ≤ length (now t)) × (length (now list) ≡ entries) ⌝ }
-    ensures { λ r. ⌜ Lists (unused (now (t .entry)) from) (now (list .exit)) r entries ⌝ }
+// The entries that begin at a place and are used, both words of each, in order, at the front of the list; and how many they are. That none is used is told at once;
+// else no branch goes by what an entry holds: half of the entries of a table in use are empty, and none can be foretold.
+pub(crate) fn used(t: &[u32], from: usize, list: &mut [u32]) -> usize
+    requires { ⌜ (from + 2 * entries ≤ length (now t)) × (length (now list) ≡ 2 * entries) ⌝ }
+    ensures { λ r. ⌜ Squeezed (now (t .entry)) from (now (list .exit)) r entries ⌝ }
 {
+    if records::zeros(t, from, 0, 2 * ENTRIES) {
+        return 0;
+    }
     let mut n = 0;
     for d in 0..ENTRIES {
-        let empty = (t[from + 2 * d] == 0) & (t[from + (1 + 2 * d)] == 0);
-        list[n] = d as u16;
+        let s = t[from + 2 * d];
+        let u = t[from + (1 + 2 * d)];
+        let empty = (s == 0) & (u == 0);
+        list[2 * n] = s;
+        list[1 + 2 * n] = u;
         n = n + wide(first(!empty, 1, 0));
     }
     n
@@ -111,15 +118,15 @@ fn judge_entry(
     t: &[u32],
     n: Header,
     kind: Kind,
-    cells: &[u16; MAX_SLOTS],
+    cells: &[u8; MAX_SLOTS],
     flow: &[[bool; MAX_CELLS]; MAX_CELLS],
     mine: usize,
     s: u32,
     u: u32,
-    counts: &mut [u32],
+    counts: &mut [u16],
 ) -> bool
     requires { ⌜ Shaped (now t) n × CellsOf (configuration (now t)) (kindOf kind) (now cells) × (now flow ≡ flowMatrix (configuration (now t))) × (mine < maxCells) × (s ≡ 0 → u ≡ 0 → ⊥) ⌝ }
-    requires { ⌜ (length (now counts) ≡ maxSlots) × ((i : ℕ) → i < maxSlots → getD (now counts) i 0 < 65536) ⌝ }
+    requires { ⌜ (length (now counts) ≡ maxSlots) × ((i : ℕ) → i < maxSlots → getD (now counts) i 0 < 65535) ⌝ }
     ensures { λ r. ⌜ r ≡ test (entryOk (configuration (now (t .entry))) (rd (configuration (now (t .entry))) (now (t .entry))) (kindOf kind) mine s u) ⌝ }
     ensures { λ r. ⌜ Counts (λ i. cond (names (configuration (now (t .entry))) (kindOf kind) mine s i) 1 0) 1 r (now (counts .entry)) (now (counts .exit)) ⌝ }
 {
@@ -128,33 +135,33 @@ fn judge_entry(
         return false;
     }
     let cell = runs::index(cells[i]);
-    counts[i] = counts[i] + first(cell == mine, 1, 0);
+    let own = first(cell == mine, 1, 0);
+    counts[i] = counts[i] + own as u16;
     entry_ok(t, n, kind, flow, mine, cell, i, s, u)
 }
 
-// The entries for objects of the kind, of which those in the list are used. Those for objects of the own cell are counted, slot by slot.
+// The entries for objects of the kind, of which those in the list are used: they begin at a place. Those for objects of the own cell are counted, slot by slot.
 pub(crate) fn entries_ok(
     t: &[u32],
     n: Header,
     kind: Kind,
-    cells: &[u16; MAX_SLOTS],
+    cells: &[u8; MAX_SLOTS],
     flow: &[[bool; MAX_CELLS]; MAX_CELLS],
     mine: usize,
     from: usize,
-    list: &[u16],
+    list: &[u32],
     used: usize,
-    counts: &mut [u32],
+    counts: &mut [u16],
 ) -> bool
     requires { ⌜ Shaped (now t) n × CellsOf (configuration (now t)) (kindOf kind) (now cells) × (now flow ≡ flowMatrix (configuration (now t))) × (mine < maxCells) × Countable (now counts) ⌝ }
-    requires { ⌜ (from + 2 * entries ≤ length (now t)) × (length (now list) ≡ entries) × Lists (unused (now t) from) (now list) used entries ⌝ }
+    requires { ⌜ (from + 2 * entries ≤ length (now t)) × (length (now list) ≡ 2 * entries) × Squeezed (now t) from (now list) used entries ⌝ }
     ensures { λ r. ⌜ r ≡ allBelow entries (λ d. test (entryOk (configuration (now (t .entry))) (rd (configuration (now (t .entry))) (now (t .entry))) (kindOf kind) mine (heldWord (now (t .entry)) from d) (usedWord (now (t .entry)) from d))) ⌝ }
     ensures { λ r. ⌜ Counts (λ i. countBelow entries (λ d. names (configuration (now (t .entry))) (kindOf kind) mine (heldWord (now (t .entry)) from d) i)) entries r (now (counts .entry)) (now (counts .exit)) ⌝ }
 {
     let mut ok = true;
     for e in 0..used {
-        let d = runs::index(list[e]);
-        let s = t[from + 2 * d];
-        let u = t[from + (1 + 2 * d)];
+        let s = list[2 * e];
+        let u = list[1 + 2 * e];
         ok = ok & judge_entry(t, n, kind, cells, flow, mine, s, u, counts);
     }
     ok

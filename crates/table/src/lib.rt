@@ -30,11 +30,14 @@ fn records_ok(t: &[u32], n: Header, flow: &[[bool; MAX_CELLS]; MAX_CELLS]) -> bo
     requires { ⌜ Shaped (now t) n × (now flow ≡ flowMatrix (configuration (now t))) ⌝ }
     ensures { λ r. ⌜ r ≡ test (recordsOk (configuration (now (t .entry))) (rd (configuration (now (t .entry))) (now (t .entry)))) ⌝ }
 {
-    let cells = runs::slot_cells(t, n, Kind::Process);
-    let segment_cells = runs::slot_cells(t, n, Kind::Segment);
-    let file_cells = runs::slot_cells(t, n, Kind::File);
-    let mut references = [0u32; MAX_SLOTS];
-    let mut opens = [0u32; MAX_SLOTS];
+    let mut cells = [0u8; MAX_SLOTS];
+    let mut segment_cells = [0u8; MAX_SLOTS];
+    let mut file_cells = [0u8; MAX_SLOTS];
+    runs::slot_cells(t, n, Kind::Process, &mut cells);
+    runs::slot_cells(t, n, Kind::Segment, &mut segment_cells);
+    runs::slot_cells(t, n, Kind::File, &mut file_cells);
+    let mut references = [0u16; MAX_SLOTS];
+    let mut opens = [0u16; MAX_SLOTS];
     if !process::processes_ok(
         t,
         n,

@@ -66,13 +66,20 @@ fn object_ok(t: &[u32], n: Header, kind: Kind, i: usize, held: u32) -> bool
     }
 }
 
-pub(crate) fn objects_ok(t: &[u32], n: Header, kind: Kind, counts: &[u32]) -> bool
+// A count is kept in half a word: it is at most 16 for each process.
+fn counted(c: u16) -> u32
+    ensures { λ r. ⌜ r ≡ c ⌝ }
+{
+    c as u32
+}
+
+pub(crate) fn objects_ok(t: &[u32], n: Header, kind: Kind, counts: &[u16]) -> bool
     requires { ⌜ Shaped (now t) n × Tally (configuration (now t)) (rd (configuration (now t)) (now t)) (kindOf kind) (slots (configuration (now t)) process) (now counts) ⌝ }
     ensures { λ r. ⌜ r ≡ test (each (slots (configuration (now (t .entry))) (kindOf kind)) (objectOk (configuration (now (t .entry))) (rd (configuration (now (t .entry))) (now (t .entry))) (kindOf kind))) ⌝ }
 {
     let mut ok = true;
     for i in 0..places::slots(n, kind) {
-        ok = ok & object_ok(t, n, kind, i, counts[i]);
+        ok = ok & object_ok(t, n, kind, i, counted(counts[i]));
     }
     ok
 }

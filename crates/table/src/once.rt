@@ -2,11 +2,10 @@
 ghost use mathlib.Core.Path.{_≡_};
 ghost use mathlib.Core.Bool.{true};
 ghost use Prim.Native.Nat.{_+_, _*_, _≤_, _<_};
-ghost use lib.ListN.{length};
+ghost use lib.ListN.{length, getD};
 ghost use Rattle.rules.specs.Words.{allBelow};
 ghost use Rattle.rules.specs.Layout.{entries};
-ghost use Rattle.table.specs.Entries.{heldWord, unused, Lists, keys, keyOf, Apart, fresh};
-use crate::runs;
+ghost use Rattle.table.specs.Entries.{heldWord, Squeezed, keys, keyOf, Apart, fresh};
 use rules::ENTRIES;
 use words::wide;
 
@@ -51,14 +50,14 @@ fn key(s: u32) -> usize
 }
 
 // Whether the used entries' keys all differ: then so do the identifiers.
-fn apart(t: &[u32], from: usize, list: &[u16], used: usize) -> bool
-    requires { ⌜ (from + 2 * entries ≤ length (now t)) × (length (now list) ≡ entries) × Lists (unused (now t) from) (now list) used entries ⌝ }
-    ensures { λ r. ⌜ (r ≡ true → Apart (heldWord (now (t .entry)) from) (now (list .entry)) used) ⌝ }
+fn apart(list: &[u32], used: usize) -> bool
+    requires { ⌜ (length (now list) ≡ 2 * entries) × (used ≤ entries) ⌝ }
+    ensures { λ r. ⌜ (r ≡ true → Apart (λ j. getD (now (list .entry)) (2 * j) 0) used) ⌝ }
 {
     let mut seen = [false; KEYS];
     let mut ok = true;
     for e in 0..used {
-        let k = key(t[from + 2 * runs::index(list[e])]);
+        let k = key(list[2 * e]);
         ok = ok & !seen[k];
         seen[k] = true;
     }
@@ -66,11 +65,11 @@ fn apart(t: &[u32], from: usize, list: &[u16], used: usize) -> bool
 }
 
 // Whether none is held twice. Where two keys fall together each is compared with each.
-pub(crate) fn held_once(t: &[u32], from: usize, list: &[u16], used: usize) -> bool
-    requires { ⌜ (from + 2 * entries ≤ length (now t)) × (length (now list) ≡ entries) × Lists (unused (now t) from) (now list) used entries ⌝ }
+pub(crate) fn held_once(t: &[u32], from: usize, list: &[u32], used: usize) -> bool
+    requires { ⌜ (from + 2 * entries ≤ length (now t)) × (length (now list) ≡ 2 * entries) × Squeezed (now t) from (now list) used entries ⌝ }
     ensures { λ r. ⌜ r ≡ allBelow entries (fresh (heldWord (now (t .entry)) from)) ⌝ }
 {
-    if apart(t, from, list, used) {
+    if apart(list, used) {
         return true;
     }
     all_fresh(t, from)

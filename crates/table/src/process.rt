@@ -37,7 +37,7 @@ const SENDER: usize = 0;
 // The word of a process that is zero.
 const ZERO_7: usize = 7;
 
-fn parent_ok(t: &[u32], n: Header, cells: &[u16; MAX_SLOTS], p: usize) -> bool
+fn parent_ok(t: &[u32], n: Header, cells: &[u8; MAX_SLOTS], p: usize) -> bool
     requires { ⌜ Shaped (now t) n × CellsOf (configuration (now t)) process (now cells) × (p < slotsOf n process) ⌝ }
     ensures { λ r. ⌜ r ≡ test (parentOk (configuration (now (t .entry))) (cellOf (configuration (now (t .entry))) process p) (rd (configuration (now (t .entry))) (now (t .entry)) (at process p parent))) ⌝ }
 {
@@ -57,7 +57,7 @@ fn parent_ok(t: &[u32], n: Header, cells: &[u16; MAX_SLOTS], p: usize) -> bool
 fn message_ok(
     t: &[u32],
     n: Header,
-    cells: &[u16; MAX_SLOTS],
+    cells: &[u8; MAX_SLOTS],
     flow: &[[bool; MAX_CELLS]; MAX_CELLS],
     p: usize,
     m: usize,
@@ -78,13 +78,18 @@ fn message_ok(
 fn messages_ok(
     t: &[u32],
     n: Header,
-    cells: &[u16; MAX_SLOTS],
+    cells: &[u8; MAX_SLOTS],
     flow: &[[bool; MAX_CELLS]; MAX_CELLS],
     p: usize,
 ) -> bool
     requires { ⌜ Shaped (now t) n × CellsOf (configuration (now t)) process (now cells) × (now flow ≡ flowMatrix (configuration (now t))) × (p < slotsOf n process) ⌝ }
     ensures { λ r. ⌜ r ≡ test (each messages (messageOk (configuration (now (t .entry))) (rd (configuration (now (t .entry))) (now (t .entry))) p)) ⌝ }
 {
+    // Most queues are empty: then all their words are looked at together.
+    let at = places::record_at(n, Kind::Process, p);
+    if t[at + QUEUE] == 0 {
+        return records::zeros(t, at, MESSAGES_AT, MESSAGES * MESSAGE_WORDS);
+    }
     let mut ok = true;
     for m in 0..MESSAGES {
         ok = ok & message_ok(t, n, cells, flow, p, m);
@@ -96,17 +101,17 @@ fn messages_ok(
 fn descriptors_ok(
     t: &[u32],
     n: Header,
-    cells: &[u16; MAX_SLOTS],
+    cells: &[u8; MAX_SLOTS],
     flow: &[[bool; MAX_CELLS]; MAX_CELLS],
     mine: usize,
     from: usize,
-    opens: &mut [u32],
+    opens: &mut [u16],
 ) -> bool
     requires { ⌜ Shaped (now t) n × CellsOf (configuration (now t)) file (now cells) × (now flow ≡ flowMatrix (configuration (now t))) × (mine < maxCells) × Countable (now opens) × (from + 2 * entries ≤ length (now t)) ⌝ }
     ensures { λ r. ⌜ r ≡ allBelow entries (λ d. test (entryOk (configuration (now (t .entry))) (rd (configuration (now (t .entry))) (now (t .entry))) file mine (heldWord (now (t .entry)) from d) (usedWord (now (t .entry)) from d))) ⌝ }
     ensures { λ r. ⌜ Counts (λ i. countBelow entries (λ d. names (configuration (now (t .entry))) file mine (heldWord (now (t .entry)) from d) i)) entries r (now (opens .entry)) (now (opens .exit)) ⌝ }
 {
-    let mut list = [0u16; ENTRIES];
+    let mut list = [0u32; 2 * ENTRIES];
     let used = held::used(t, from, &mut list);
     held::entries_ok(
         t,
@@ -126,17 +131,17 @@ fn descriptors_ok(
 fn designators_ok(
     t: &[u32],
     n: Header,
-    cells: &[u16; MAX_SLOTS],
+    cells: &[u8; MAX_SLOTS],
     flow: &[[bool; MAX_CELLS]; MAX_CELLS],
     mine: usize,
     from: usize,
-    references: &mut [u32],
+    references: &mut [u16],
 ) -> bool
     requires { ⌜ Shaped (now t) n × CellsOf (configuration (now t)) segment (now cells) × (now flow ≡ flowMatrix (configuration (now t))) × (mine < maxCells) × Countable (now references) × (from + 2 * entries ≤ length (now t)) ⌝ }
     ensures { λ r. ⌜ r ≡ allBelow entries (λ d. test (entryOk (configuration (now (t .entry))) (rd (configuration (now (t .entry))) (now (t .entry))) segment mine (heldWord (now (t .entry)) from d) (usedWord (now (t .entry)) from d))) && allBelow entries (fresh (heldWord (now (t .entry)) from)) ⌝ }
     ensures { λ r. ⌜ Counts (λ i. countBelow entries (λ d. names (configuration (now (t .entry))) segment mine (heldWord (now (t .entry)) from d) i)) entries r (now (references .entry)) (now (references .exit)) ⌝ }
 {
-    let mut list = [0u16; ENTRIES];
+    let mut list = [0u32; 2 * ENTRIES];
     let used = held::used(t, from, &mut list);
     held::entries_ok(
         t,
@@ -157,13 +162,13 @@ fn designators_ok(
 fn process_ok(
     t: &[u32],
     n: Header,
-    cells: &[u16; MAX_SLOTS],
-    segment_cells: &[u16; MAX_SLOTS],
-    file_cells: &[u16; MAX_SLOTS],
+    cells: &[u8; MAX_SLOTS],
+    segment_cells: &[u8; MAX_SLOTS],
+    file_cells: &[u8; MAX_SLOTS],
     flow: &[[bool; MAX_CELLS]; MAX_CELLS],
     p: usize,
-    references: &mut [u32],
-    opens: &mut [u32],
+    references: &mut [u16],
+    opens: &mut [u16],
 ) -> bool
     requires { ⌜ Shaped (now t) n × CellsOf (configuration (now t)) process (now cells) × CellsOf (configuration (now t)) segment (now «segment_cells») × CellsOf (configuration (now t)) file (now «file_cells») × (now flow ≡ flowMatrix (configuration (now t))) × (p < slotsOf n process) ⌝ }
     requires { ⌜ Countable (now references) × Countable (now opens) ⌝ }
@@ -200,12 +205,12 @@ fn process_ok(
 pub(crate) fn processes_ok(
     t: &[u32],
     n: Header,
-    cells: &[u16; MAX_SLOTS],
-    segment_cells: &[u16; MAX_SLOTS],
-    file_cells: &[u16; MAX_SLOTS],
+    cells: &[u8; MAX_SLOTS],
+    segment_cells: &[u8; MAX_SLOTS],
+    file_cells: &[u8; MAX_SLOTS],
     flow: &[[bool; MAX_CELLS]; MAX_CELLS],
-    references: &mut [u32],
-    opens: &mut [u32],
+    references: &mut [u16],
+    opens: &mut [u16],
 ) -> bool
     requires { ⌜ Shaped (now t) n × CellsOf (configuration (now t)) process (now cells) × CellsOf (configuration (now t)) segment (now «segment_cells») × CellsOf (configuration (now t)) file (now «file_cells») × (now flow ≡ flowMatrix (configuration (now t))) ⌝ }
     requires { ⌜ Tally (configuration (now t)) (rd (configuration (now t)) (now t)) segment 0 (now references) × Tally (configuration (now t)) (rd (configuration (now t)) (now t)) file 0 (now opens) ⌝ }

@@ -17,16 +17,16 @@ use rules::MAX_SERIAL;
 use rules::OWNER;
 use rules::SERIAL;
 
-// Whether n words from the word `from` of the record at `at` on are zero.
+// Whether n words from the word `from` of the record at `at` on are zero: they are put together and looked at once, so that several are read at a time.
 pub(crate) fn zeros(t: &[u32], at: usize, from: usize, n: usize) -> bool
     requires { ⌜ at + (from + n) ≤ length (now t) ⌝ }
     ensures { λ r. ⌜ r ≡ allBelow n (λ j. eqb (getD (now (t .entry)) (at + (from + j)) 0) 0) ⌝ }
 {
-    let mut ok = true;
+    let mut all = 0;
     for j in 0..n {
-        ok = ok & (t[at + (from + j)] == 0);
+        all = all | t[at + (from + j)];
     }
-    ok
+    all == 0
 }
 
 // The record of a kind at `at`: free, and zero but for its serial; or live, and then `alive` says whether the rest is right.

@@ -42,9 +42,6 @@ returns c =
 record-at-requires : tie.Need-record-at-requires
 record-at-requires c κs = (c .before .before .before .before .pre .0 .framed .small, omega (arith, c .before .slots .ensures, c .if1 .left))
 
-mul-index : tie.Need-mul-index
-mul-index c = omega (arith, c .before .before .slots .ensures, c .before .if1 .left, slots-small (c .before .before .before .before .before .args .n) (c .before .before .before .before .before .pre .0 .framed .small) (kindOf (c .before .before .before .before .before .args .kind)))
-
 element-copy-out-index : tie.Need-element-copy-out-index
 element-copy-out-index c = omega (arith, c .before .before .slots .ensures, c .before .if1 .left, slots-small (c .before .before .before .before .before .args .n) (c .before .before .before .before .before .pre .0 .framed .small) (kindOf (c .before .before .before .before .before .args .kind)))
 
@@ -96,7 +93,6 @@ held-ok-spec =
     slots-requires
     returns
     record-at-requires
-    mul-index
     element-copy-out-index
     index-requires
     serial-of-requires

@@ -37,26 +37,29 @@ returns c =
     let e = slots-read t (s .args .n) (s .pre .0 .0 .framed .header) k in
     (sym (entry-out (configuration t) (rd (configuration t) t) k (s .args .mine) (s .args .s) (s .args .u) _ (s .pre .0 .4) (c .before .before .index-in .ensures) (slots-few t (s .args .n) (s .pre .0 .0) k) (omega (arith, c .before .slots .ensures, c .if1 .taken))), counted-none _ _)
 
-mul-index : tie.Need-mul-index
-mul-index c = omega (arith, c .before .slots .ensures, c .if1 .left, slots-small (c .before .before .before .before .before .args .n) (c .before .before .before .before .before .pre .0 .0 .framed .small) (kindOf (c .before .before .before .before .before .args .kind)))
-
 element-copy-out-index : tie.Need-element-copy-out-index
 element-copy-out-index c = omega (arith, c .before .slots .ensures, c .if1 .left, slots-small (c .before .before .before .before .before .args .n) (c .before .before .before .before .before .pre .0 .0 .framed .small) (kindOf (c .before .before .before .before .before .args .kind)))
 
 index-requires : tie.Need-index-requires
 index-requires c κs = search needs
 
-mul-counts : tie.Need-mul-counts
-mul-counts c = omega (arith, slot-low (c))
-
-slice-read-counts : tie.Need-slice-read-counts
-slice-read-counts c = omega (arith, slot-low (c .before), c .before .before .before .before .before .before .before .before .pre .1 .0)
-
 first-requires : tie.Need-first-requires
 first-requires c κs = search needs
 
+mul-counts : tie.Need-mul-counts
+mul-counts c = omega (arith, slot-low (c .before))
+
+slice-read-counts : tie.Need-slice-read-counts
+slice-read-counts c = omega (arith, slot-low (c .before .before), c .before .before .before .before .before .before .before .before .before .pre .1 .0)
+
+-- what is added is 0 or 1
+cast-counts : tie.Need-cast-counts
+cast-counts c = omega (arith, c .before .first .ensures, one-le (eqb (c .before .before .index .result) (c .before .before .before .before .before .before .before .before .before .args .mine)))
+
 add-counts : tie.Need-add-counts
-add-counts c = omega (arith, c .first .ensures, one-le (eqb (c .before .before .index .result) (c .before .before .before .before .before .before .before .before .before .args .mine)), c .before .before .before .before .before .before .before .before .before .pre .1 .1 (c .before .before .before .before .before .before .index-in .result) (slot-low (c .before .before)))
+add-counts c =
+    let s = c .before .before .before .before .before .before .before .before .before in
+    omega (arith, c .before .first .ensures, one-le (eqb (c .before .before .index .result) (s .args .mine)), s .pre .1 .1 (c .before .before .before .before .before .before .index-in .result) (slot-low (c .before .before)))
 
 mul-counts-2 : tie.Need-mul-counts-2
 mul-counts-2 c = omega (arith, slot-low (c .before .before))
@@ -82,7 +85,7 @@ returns-2 c =
     let l = slot-in (c .before .before .before) in
     let is = c .before .before .before .before .before .before .before .index-in .ensures .right (omega (arith, slot-low (c .before .before .before))) in (
       c .entry-ok .ensures,
-      rw (c .before .first .ensures)
+      rw (c .before .before .first .ensures)
           (counted-one (configuration t) k (s .args .mine) (s .args .s) (c .before .before .before .before .before .before .before .index-in .result) (c .before .before .before .index .result) (is .0) (is .1) (c .before .before .before .index .ensures ∙ s .pre .0 .1 (c .before .before .before .before .before .before .before .index-in .result) l) _ (s .args .counts .now) (omega (arith, slot-low (c .before .before .before), s .pre .1 .0)) (s .pre .1 .0)),
     )
 
@@ -93,12 +96,12 @@ judge-entry-spec =
     index-in-requires
     slots-requires
     returns
-    mul-index
     element-copy-out-index
     index-requires
+    first-requires
     mul-counts
     slice-read-counts
-    first-requires
+    cast-counts
     add-counts
     mul-counts-2
     slice-write-counts

@@ -1,60 +1,92 @@
--- `held::used` meets its contract: the entries passed are listed, and the number put at the list's end counts only where its entry is used.
+-- `held::used` meets its contract: where all words are zero no entry is used; else the used entries passed are squeezed to the front, and the words put at its end
+-- count only where their entry is used.
 use native.Mathlib.Omega.{arith}
-use mathlib.Core.Path.{_≡_, _∙_}
+use mathlib.Core.Path.{_≡_, refl, sym, _∙_}
 use mathlib.Core.Bool.{not}
-use Prim.Native.Nat.{_-_, _≤_}
+use Prim.Native.Nat.{_+_, _*_, _-_, _≤_, _<_}
 use lib.ListN.{length, length-set}
+use lib.Seq.{lt-length-set}
 use Rattle.rules.specs.Layout.{entries}
-use Rattle.table.specs.Entries.{unused, Lists}
-use Rattle.table.proofs.Listed.{lists-none, lists-next, one-le}
+use Rattle.table.specs.Entries.{unused, Squeezed}
+use Rattle.table.proofs.Listed.{squeezed-none, squeezed-zeros, squeezed-next, one-le}
 use borrow.Author.Needs.{needs}
 use Rattle.table.proofs.held.used.Statement.{statement}
 use Rattle.table.proofs.held.used.Tie as tie
 
 abbrev Inv-loop : tie.InvT-loop
-Inv-loop t from list₀ n₀ d₀ list n d = (d ≤ entries) × (length list ≡ entries) × Lists (unused t from) list n d
+Inv-loop t from list₀ n₀ d₀ list n d = (d ≤ entries) × (length list ≡ 2 * entries) × Squeezed t from list n d
 
 abbrev μ-loop : tie.MeasureT-loop
 μ-loop t from list₀ n₀ d₀ list n d = entries - d
 
+-- there is room for one more
+room : (c : tie.After-shared-slice-known3 Inv-loop μ-loop) → c .before .before .before .loop .n < entries
+room c = omega (arith, c .before .before .before .loop .inv .2 .lists .few, c .before .before .loop-test .taken)
+
+mul-zeros : tie.Need-mul-zeros Inv-loop μ-loop
+mul-zeros c = search needs
+
+zeros-requires : tie.Need-zeros-requires Inv-loop μ-loop
+zeros-requires c κs = search needs
+
+returns : tie.Need-returns Inv-loop μ-loop
+returns c =
+    let s = c .before .before .before .before in
+    squeezed-zeros (s .args .t .now) (s .args .from) (s .args .list .now) (sym (c .before .zeros .ensures) ∙ c .if1 .taken)
+
 loop-holds : tie.Need-loop-holds Inv-loop μ-loop
-loop-holds c = (search needs, search needs, lists-none _ _)
+loop-holds c = (search needs, search needs, squeezed-none _ _ _)
 
-mul-empty : tie.Need-mul-empty Inv-loop μ-loop
-mul-empty c = search needs
+mul-s : tie.Need-mul-s Inv-loop μ-loop
+mul-s c = search needs
 
-add-empty : tie.Need-add-empty Inv-loop μ-loop
-add-empty c = search needs
+add-s : tie.Need-add-s Inv-loop μ-loop
+add-s c = search needs
 
-mul-empty-2 : tie.Need-mul-empty-2 Inv-loop μ-loop
-mul-empty-2 c = search needs
+mul-s-2 : tie.Need-mul-s-2 Inv-loop μ-loop
+mul-s-2 c = search needs
 
-shared-slice-read-empty : tie.Need-shared-slice-read-empty Inv-loop μ-loop
-shared-slice-read-empty c = search needs
+shared-slice-read-s : tie.Need-shared-slice-read-s Inv-loop μ-loop
+shared-slice-read-s c = search needs
 
-mul-empty-3 : tie.Need-mul-empty-3 Inv-loop μ-loop
-mul-empty-3 c = search needs
+mul-u : tie.Need-mul-u Inv-loop μ-loop
+mul-u c = search needs
 
-add-empty-2 : tie.Need-add-empty-2 Inv-loop μ-loop
-add-empty-2 c = search needs
+add-u : tie.Need-add-u Inv-loop μ-loop
+add-u c = search needs
 
-add-empty-3 : tie.Need-add-empty-3 Inv-loop μ-loop
-add-empty-3 c = search needs
+add-u-2 : tie.Need-add-u-2 Inv-loop μ-loop
+add-u-2 c = search needs
 
-mul-empty-4 : tie.Need-mul-empty-4 Inv-loop μ-loop
-mul-empty-4 c = search needs
+mul-u-2 : tie.Need-mul-u-2 Inv-loop μ-loop
+mul-u-2 c = search needs
 
-shared-slice-read-empty-2 : tie.Need-shared-slice-read-empty-2 Inv-loop μ-loop
-shared-slice-read-empty-2 c = search needs
-
-cast-list : tie.Need-cast-list Inv-loop μ-loop
-cast-list c = search needs
+shared-slice-read-u : tie.Need-shared-slice-read-u Inv-loop μ-loop
+shared-slice-read-u c = search needs
 
 mul-list : tie.Need-mul-list Inv-loop μ-loop
-mul-list c = omega (arith, c .before .before .before .loop .inv .2 .few)
+mul-list c = omega (arith, room c)
+
+mul-list-2 : tie.Need-mul-list-2 Inv-loop μ-loop
+mul-list-2 c = omega (arith, room c)
 
 slice-write-list : tie.Need-slice-write-list Inv-loop μ-loop
-slice-write-list c = omega (arith, c .before .before .before .loop .inv .2 .few, c .before .before .before .loop .inv .1)
+slice-write-list c = omega (arith, room c, c .before .before .before .loop .inv .1)
+
+mul-list-3 : tie.Need-mul-list-3 Inv-loop μ-loop
+mul-list-3 c = omega (arith, room c)
+
+add-list : tie.Need-add-list Inv-loop μ-loop
+add-list c = omega (arith, room c)
+
+mul-list-4 : tie.Need-mul-list-4 Inv-loop μ-loop
+mul-list-4 c = omega (arith, room c)
+
+slice-write-list-2 : tie.Need-slice-write-list-2 Inv-loop μ-loop
+slice-write-list-2 c =
+    let l = c .before .before .before .loop in
+    let fits : 1 + 2 * l .n < length (l .list) = omega (arith, room c, l .inv .1) in
+    lt-length-set (l .list) (2 * l .n) _ fits
 
 first-requires : tie.Need-first-requires Inv-loop μ-loop
 first-requires c κs = search needs
@@ -63,7 +95,10 @@ wide-requires : tie.Need-wide-requires Inv-loop μ-loop
 wide-requires c κs = search needs
 
 add-n : tie.Need-add-n Inv-loop μ-loop
-add-n c = omega (arith, c .wide .ensures, c .before .first .ensures, one-le (not (unused (c .before .before .before .before .before .before .before .before .args .t .now) (c .before .before .before .before .before .before .before .before .args .from) (c .before .before .before .before .before .loop .d))), c .before .before .before .before .before .loop .inv .2 .few)
+add-n c =
+    let s = c .before .before .before .before .before .before .before .before .before .before in
+    let l = c .before .before .before .before .before .loop in
+    omega (arith, c .wide .ensures, c .before .first .ensures, one-le (not (unused (s .args .t .now) (s .args .from) (l .d))), l .inv .2 .lists .few)
 
 add-d : tie.Need-add-d Inv-loop μ-loop
 add-d c = search needs
@@ -73,14 +108,19 @@ loop-less c = search needs
 
 loop-again : tie.Need-loop-again Inv-loop μ-loop
 loop-again c =
-    let l = c .before .before .before .before .before .loop in
-    (search needs, simp length-set (l .inv .1), lists-next _ (l .list) (l .n) (l .d) (l .inv .2) (omega (arith, l .inv .2 .few)) _ (c .wide .ensures ∙ c .before .first .ensures))
+    let s = c .before .before .before .before .before .before .before .before .before .before in
+    let l = c .before .before .before .before .before .loop in (
+      search needs,
+      simp length-set (l .inv .1),
+      squeezed-next (s .args .t .now) (s .args .from) (l .list) (l .n) (l .d) (l .inv .2) (room (c .before .before)) (l .inv .1) _ _ refl refl _
+          (c .wide .ensures ∙ c .before .first .ensures),
+    )
 
 same-length : tie.Need-same-length Inv-loop μ-loop
 same-length c = search needs
 
-returns : tie.Need-returns Inv-loop μ-loop
-returns c = let e : c .before .loop .d ≡ entries = omega (arith, c .before .loop .inv .0, c .loop-test .left) in rw e at (c .before .loop .inv .2)
+returns-2 : tie.Need-returns-2 Inv-loop μ-loop
+returns-2 c = let e : c .before .loop .d ≡ entries = omega (arith, c .before .loop .inv .0, c .loop-test .left) in rw e at (c .before .loop .inv .2)
 
 pub used-spec : {M : Type 1} → statement M
 used-spec =
@@ -88,19 +128,26 @@ used-spec =
     (tie.spec
     Inv-loop
     μ-loop
+    mul-zeros
+    zeros-requires
+    returns
     loop-holds
-    mul-empty
-    add-empty
-    mul-empty-2
-    shared-slice-read-empty
-    mul-empty-3
-    add-empty-2
-    add-empty-3
-    mul-empty-4
-    shared-slice-read-empty-2
-    cast-list
+    mul-s
+    add-s
+    mul-s-2
+    shared-slice-read-s
+    mul-u
+    add-u
+    add-u-2
+    mul-u-2
+    shared-slice-read-u
     mul-list
+    mul-list-2
     slice-write-list
+    mul-list-3
+    add-list
+    mul-list-4
+    slice-write-list-2
     first-requires
     wide-requires
     add-n
@@ -108,4 +155,4 @@ used-spec =
     loop-less
     loop-again
     same-length
-    returns)
+    returns-2)

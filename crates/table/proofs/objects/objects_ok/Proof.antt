@@ -29,21 +29,25 @@ loop-holds c =
     let s = c .before .before .before in
     (search needs, c .slots .ensures ∙ sym (slots-read (s .args .t .now) (s .args .n) (s .pre .0 .framed .header) (kindOf (s .args .kind))), all-first _)
 
-mul-object-ok : tie.Need-mul-object-ok Inv-loop μ-loop
-mul-object-ok c =
+mul-counted : tie.Need-mul-counted Inv-loop μ-loop
+mul-counted c =
     let s = c .before .before .before .before .before in
     omega (arith, c .before .before .slots .ensures, slots-small (s .args .n) (s .pre .0 .framed .small) (kindOf (s .args .kind)))
 
-shared-slice-read-object-ok : tie.Need-shared-slice-read-object-ok Inv-loop μ-loop
-shared-slice-read-object-ok c =
+shared-slice-read-counted : tie.Need-shared-slice-read-counted Inv-loop μ-loop
+shared-slice-read-counted c =
     let s = c .before .before .before .before .before .before in
     omega (arith, c .before .before .before .slots .ensures, slots-small (s .args .n) (s .pre .0 .framed .small) (kindOf (s .args .kind)), s .pre .1 .long)
+
+counted-requires : tie.Need-counted-requires Inv-loop μ-loop
+counted-requires c κs = search needs
 
 object-ok-requires : tie.Need-object-ok-requires Inv-loop μ-loop
 unfolding ownEntries
 object-ok-requires c κs =
-    let s = c .before .before .before .before .before .before in
-    (s .pre .0, omega (arith, c .before .before .before .slots .ensures), s .pre .1 .exact (c .before .before .loop .i) (omega (arith, c .before .before .loop .inv .1)))
+    let s = c .before .before .before .before .before .before .before in
+    let l = c .before .before .before .loop in
+    (s .pre .0, omega (arith, c .before .before .before .before .slots .ensures), c .counted .ensures ∙ s .pre .1 .exact (l .i) (omega (arith, l .inv .1)))
 
 add-i : tie.Need-add-i Inv-loop μ-loop
 add-i c = search needs
@@ -52,7 +56,7 @@ loop-less : tie.Need-loop-less Inv-loop μ-loop
 loop-less c = search needs
 
 loop-again : tie.Need-loop-again Inv-loop μ-loop
-loop-again c = (search needs, search needs, all-next _ (c .before .before .before .loop .inv .2) (c .object-ok .ensures))
+loop-again c = (search needs, search needs, all-next _ (c .before .before .before .before .loop .inv .2) (c .object-ok .ensures))
 
 returns : tie.Need-returns Inv-loop μ-loop
 returns c = all-last _ (c .before .loop .inv .2) (c .before .loop .inv .0) (c .loop-test .left) (c .before .loop .inv .1)
@@ -65,8 +69,9 @@ objects-ok-spec =
     μ-loop
     slots-requires
     loop-holds
-    mul-object-ok
-    shared-slice-read-object-ok
+    mul-counted
+    shared-slice-read-counted
+    counted-requires
     object-ok-requires
     add-i
     loop-less

@@ -1,5 +1,6 @@
 -- `once::held_once` meets its contract: keys that all differ show it, and else each entry against each does.
-use mathlib.Core.Path.{sym}
+use native.Mathlib.Omega.{arith}
+use mathlib.Core.Path.{sym, _∙_}
 use Rattle.rules.specs.Layout.{entries}
 use Rattle.laws.proofs.Tests.{and-left}
 use borrow.Author.Tests.{eqb-true}
@@ -10,12 +11,15 @@ use Rattle.table.proofs.once.held_once.Statement.{statement}
 use Rattle.table.proofs.once.held_once.Tie as tie
 
 apart-requires : tie.Need-apart-requires
-apart-requires c κs = search needs
+apart-requires c κs = (c .before .before .pre .1, c .before .before .pre .2 .lists .few)
 
 returns : tie.Need-returns
 returns c =
     let s = c .before .before .before .before in
-    sym (all-apart (unused (s .args .t .now) (s .args .from)) (heldWord (s .args .t .now) (s .args .from)) (s .args .list .now) (s .args .used) entries (s .pre .2) (λ d e. eqb-true _ 0 (and-left _ _ e)) (c .before .apart .ensures (c .if1 .taken)))
+    let t = s .args .t .now in
+    let x = s .pre .2 in
+    sym (all-apart (unused t (s .args .from)) (heldWord t (s .args .from)) (x .numbers) (s .args .used) entries (x .lists) (λ d e. eqb-true _ 0 (and-left _ _ e)) (λ j k i a q.
+    c .before .apart .ensures (c .if1 .taken) j k i a (x .held-is i (omega arith) ∙ q ∙ sym (x .held-is j k))))
 
 all-fresh-requires : tie.Need-all-fresh-requires
 all-fresh-requires c κs = search needs

@@ -47,9 +47,6 @@ mul-s c = search needs
 shared-slice-read-s : tie.Need-shared-slice-read-s
 shared-slice-read-s c = search needs
 
-mul-index : tie.Need-mul-index
-mul-index c = search needs
-
 element-copy-out-index : tie.Need-element-copy-out-index
 element-copy-out-index c = search needs
 
@@ -104,7 +101,6 @@ message-ok-spec =
     add-s-2
     mul-s
     shared-slice-read-s
-    mul-index
     element-copy-out-index
     index-requires
     held-ok-requires

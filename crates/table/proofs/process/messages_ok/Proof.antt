@@ -1,20 +1,53 @@
--- `process::messages_ok` meets its contract: `ok` says that every message passed is right.
+-- `process::messages_ok` meets its contract: of an empty queue every word is zero; else `ok` says that every message passed is right.
 use borrow.Author.Needs.{needs}
-use mathlib.Core.Path.{_≡_, refl}
-use Prim.Native.Nat.{_-_, _≤_}
+use mathlib.Core.Path.{_≡_, refl, sym, ap, _∙_}
+use Prim.Native.Nat.{ℕ, _*_, _-_, _≤_}
+use native.Mathlib.Omega.{arith}
+use lib.Dec.{eqb}
 use Rattle.rules.specs.Words.{allBelow}
 use Rattle.rules.specs.Claim.{test}
-use Rattle.rules.specs.Layout.{messages, configuration, rd}
+use Rattle.rules.specs.Layout.{process, queue, messages, messageWords, messageAt, configuration, rd}
 use Rattle.rules.specs.WellFormed.{messageOk}
+use Rattle.table.proofs.Holders.{record-word, record-words}
+use Rattle.table.proofs.Alive.{messages-unused}
 use Rattle.table.proofs.process.messages_ok.Statement.{statement}
 use Rattle.table.proofs.Loops.{all-first, all-next, all-last}
 use Rattle.table.proofs.process.messages_ok.Tie as tie
 
 abbrev Inv-loop : tie.InvT-loop
-Inv-loop t n cells flow p ok₀ m₀ ok m = (m ≤ messages) × (ok ≡ allBelow m (λ m. test (messageOk (configuration t) (rd (configuration t) t) p m)))
+Inv-loop t n cells flow p at ok₀ m₀ ok m = (m ≤ messages) × (ok ≡ allBelow m (λ m. test (messageOk (configuration t) (rd (configuration t) t) p m)))
 
 abbrev μ-loop : tie.MeasureT-loop
-μ-loop t n cells flow p ok₀ m₀ ok m = messages - m
+μ-loop t n cells flow p at ok₀ m₀ ok m = messages - m
+
+record-at-requires : tie.Need-record-at-requires Inv-loop μ-loop
+record-at-requires c κs = search needs
+
+add-if1 : tie.Need-add-if1 Inv-loop μ-loop
+add-if1 c = search needs
+
+mul-if1 : tie.Need-mul-if1 Inv-loop μ-loop
+mul-if1 c = search needs
+
+shared-slice-read-if1 : tie.Need-shared-slice-read-if1 Inv-loop μ-loop
+shared-slice-read-if1 c = search needs
+
+mul-zeros : tie.Need-mul-zeros Inv-loop μ-loop
+mul-zeros c = search needs
+
+zeros-requires : tie.Need-zeros-requires Inv-loop μ-loop
+zeros-requires c κs = search needs
+
+returns : tie.Need-returns Inv-loop μ-loop
+returns c =
+    let s = c .before .before .before .before .before in
+    let t = s .args .t .now in
+    let h = configuration t in
+    let place = c .before .before .before .record-at .ensures in
+    let empty = sym (record-word t (s .args .n) (s .pre .0) process (s .args .p) queue _ place) ∙ c .before .if1 .taken in
+    let words = record-words t (s .args .n) (s .pre .0) process (s .args .p) _ place in
+    c .zeros .ensures ∙ ap (λ (w : ℕ → ℕ). allBelow (messages * messageWords) (λ j. eqb (w (messageAt 0 j)) 0)) words
+    ∙ messages-unused h (rd h t) (s .args .p) empty
 
 loop-holds : tie.Need-loop-holds Inv-loop μ-loop
 loop-holds c = (search needs, all-first _)
@@ -31,10 +64,11 @@ loop-less c = search needs
 loop-again : tie.Need-loop-again Inv-loop μ-loop
 loop-again c = (search needs, all-next _ (c .before .before .loop .inv .1) (c .message-ok .ensures))
 
-returns : tie.Need-returns Inv-loop μ-loop
-returns c = all-last _ (c .before .loop .inv .1) (c .before .loop .inv .0) (c .loop-test .left) refl
+returns-2 : tie.Need-returns-2 Inv-loop μ-loop
+returns-2 c = all-last _ (c .before .loop .inv .1) (c .before .loop .inv .0) (c .loop-test .left) refl
 
 pub messages-ok-spec : {M : Type 1} → statement M
 messages-ok-spec =
     tie.close
-    (tie.spec Inv-loop μ-loop loop-holds message-ok-requires add-m loop-less loop-again returns)
+    (tie.spec Inv-loop μ-loop record-at-requires add-if1 mul-if1 shared-slice-read-if1 mul-zeros zeros-requires returns loop-holds message-ok-requires add-m loop-less
+    loop-again returns-2)

@@ -46,17 +46,11 @@ returns-2 c =
 serial-of-requires : tie.Need-serial-of-requires
 serial-of-requires c κs = search needs
 
-mul-index : tie.Need-mul-index
-mul-index c = omega (arith, c .before .before .slots .ensures, c .before .if2 .left, c .before .before .before .before .before .before .before .before .pre .0 .framed .small .few-processes)
-
 element-copy-out-index : tie.Need-element-copy-out-index
 element-copy-out-index c = omega (arith, c .before .before .slots .ensures, c .before .if2 .left, c .before .before .before .before .before .before .before .before .pre .0 .framed .small .few-processes)
 
 index-requires : tie.Need-index-requires
 index-requires c κs = search needs
-
-mul-index-2 : tie.Need-mul-index-2
-mul-index-2 c = search needs
 
 element-copy-out-index-2 : tie.Need-element-copy-out-index-2
 element-copy-out-index-2 c = search needs
@@ -89,10 +83,8 @@ parent-ok-spec =
     slots-requires
     returns-2
     serial-of-requires
-    mul-index
     element-copy-out-index
     index-requires
-    mul-index-2
     element-copy-out-index-2
     index-requires-2
     returns-3)

@@ -39,9 +39,6 @@ mul-if1 c = search needs
 shared-slice-read-if1 : tie.Need-shared-slice-read-if1
 shared-slice-read-if1 c = search needs
 
-mul-index : tie.Need-mul-index
-mul-index c = search needs
-
 element-copy-out-index : tie.Need-element-copy-out-index
 element-copy-out-index c = search needs
 
@@ -180,7 +177,6 @@ process-ok-spec =
     add-if1
     mul-if1
     shared-slice-read-if1
-    mul-index
     element-copy-out-index
     index-requires
     cast-entry-at

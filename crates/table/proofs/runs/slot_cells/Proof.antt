@@ -14,20 +14,20 @@ use Rattle.table.proofs.runs.slot_cells.Statement.{statement}
 use Rattle.table.proofs.runs.slot_cells.Tie as tie
 
 abbrev Inv-loop2 : tie.InvT-loop2
-Inv-loop2 t k of₀ i₀ c end c-end of i =
+Inv-loop2 t of₀ k i₀ c end c-end of i =
     (i ≤ end) × (end ≤ maxSlots) × (length of ≡ maxSlots)
     × ((κ : Kind) → cellSlotsWord κ ≡ k → (firstSlot (configuration t) κ c ≤ i) × (end ≡ firstSlot (configuration t) κ (c + 1)) × CellsTo (configuration t) κ i of)
 
 abbrev μ-loop2 : tie.MeasureT-loop2
-μ-loop2 t k of₀ i₀ c end c-end of i = end - i
+μ-loop2 t of₀ k i₀ c end c-end of i = end - i
 
 abbrev Inv-loop : tie.InvT-loop
-Inv-loop t k of₀ i₀ c₀ c-end of i c =
+Inv-loop t of₀ k i₀ c₀ c-end of i c =
     (c ≤ c-end) × (c-end ≡ cells (configuration t)) × (length of ≡ maxSlots) × (i ≤ maxSlots)
     × ((κ : Kind) → cellSlotsWord κ ≡ k → (i ≡ firstSlot (configuration t) κ c) × CellsTo (configuration t) κ i of)
 
 abbrev μ-loop : tie.MeasureT-loop
-μ-loop t k of₀ i₀ c₀ c-end of i c = c-end - c
+μ-loop t of₀ k i₀ c₀ c-end of i c = c-end - c
 
 cell-word-requires : tie.Need-cell-word-requires Inv-loop2 μ-loop2 Inv-loop μ-loop
 cell-word-requires c κs = search needs
@@ -38,22 +38,22 @@ wide-requires c κs = search needs
 loop-holds : tie.Need-loop-holds Inv-loop2 μ-loop2 Inv-loop μ-loop
 unfolding firstSlot
 loop-holds c =
-    (search needs, c .wide .ensures ∙ sym (cells-read _ _ (c .before .before .before .pre .framed .header)), search needs, search needs, λ κ e. (sum-first _, below-none _))
+    (search needs, c .wide .ensures ∙ sym (cells-read _ _ (c .before .before .before .before .pre .0 .framed .header)), c .before .before .before .before .pre .1, search needs, λ κ e. (sum-first _, below-none _))
 
 mul-wide : tie.Need-mul-wide Inv-loop2 μ-loop2 Inv-loop μ-loop
-mul-wide c = omega (arith, c .before .before .wide .ensures, c .loop-test .taken, c .before .before .before .before .before .pre .framed .small .few-cells)
+mul-wide c = omega (arith, c .before .before .wide .ensures, c .loop-test .taken, c .before .before .before .before .before .before .pre .0 .framed .small .few-cells)
 
 add-wide : tie.Need-add-wide Inv-loop2 μ-loop2 Inv-loop μ-loop
-add-wide c = omega (arith, c .before .before .wide .ensures, c .loop-test .taken, c .before .before .before .before .before .pre .framed .small .few-cells)
+add-wide c = omega (arith, c .before .before .wide .ensures, c .loop-test .taken, c .before .before .before .before .before .before .pre .0 .framed .small .few-cells)
 
 add-wide-2 : tie.Need-add-wide-2 Inv-loop2 μ-loop2 Inv-loop μ-loop
-add-wide-2 c = omega (arith, c .before .before .wide .ensures, c .loop-test .taken, c .before .before .before .before .before .pre .framed .small .few-cells, c .before .before .before .cell-word .ensures .1)
+add-wide-2 c = omega (arith, c .before .before .wide .ensures, c .loop-test .taken, c .before .before .before .before .before .before .pre .0 .framed .small .few-cells, c .before .before .before .cell-word .ensures .1)
 
 mul-wide-2 : tie.Need-mul-wide-2 Inv-loop2 μ-loop2 Inv-loop μ-loop
-mul-wide-2 c = omega (arith, c .before .before .wide .ensures, c .loop-test .taken, c .before .before .before .before .before .pre .framed .small .few-cells, c .before .before .before .cell-word .ensures .1)
+mul-wide-2 c = omega (arith, c .before .before .wide .ensures, c .loop-test .taken, c .before .before .before .before .before .before .pre .0 .framed .small .few-cells, c .before .before .before .cell-word .ensures .1)
 
 shared-slice-read-wide : tie.Need-shared-slice-read-wide Inv-loop2 μ-loop2 Inv-loop μ-loop
-shared-slice-read-wide c = omega (arith, c .before .before .before .wide .ensures, c .before .loop-test .taken, c .before .before .before .before .before .before .pre .framed .exact, c .before .before .before .before .cell-word .ensures .1)
+shared-slice-read-wide c = omega (arith, c .before .before .before .wide .ensures, c .before .loop-test .taken, c .before .before .before .before .before .before .before .pre .0 .framed .exact, c .before .before .before .before .cell-word .ensures .1)
 
 wide-requires-2 : tie.Need-wide-requires-2 Inv-loop2 μ-loop2 Inv-loop μ-loop
 wide-requires-2 c κs = search needs
@@ -63,29 +63,26 @@ add-end c = omega (arith, c .wide2 .ensures, c .before .before .before .loop .in
 
 loop2-holds : tie.Need-loop2-holds Inv-loop2 μ-loop2 Inv-loop μ-loop
 loop2-holds c =
-    let s = c .before .before .before .before .before .before .before in
+    let s = c .before .before .before .before .before .before .before .before in
     let t = s .args .t .now in
     let κ₀ = kindOf (s .args .kind) in
     let e₀ = sym (c .before .before .before .before .before .cell-word .ensures .0) in
     let l = c .before .before .before .loop in
     let in-table : l .c < s .args .n .cells = omega (arith, c .before .before .before .before .wide .ensures, c .before .before .loop-test .taken) in
-    let is : s .args .n .cells ≡ cells (configuration t) = sym (cells-read t (s .args .n) (s .pre .framed .header)) in
+    let is : s .args .n .cells ≡ cells (configuration t) = sym (cells-read t (s .args .n) (s .pre .0 .framed .header)) in
     let next : (κ : Kind) → cellSlotsWord κ ≡ c .before .before .before .before .before .cell-word .result → firstSlot (configuration t) κ (l .c) + c .wide2 .result ≡ firstSlot (configuration t) κ (l .c + 1) =
-    λ κ e. run-next t (s .args .n) (s .pre) κ (l .c) _ _ (omega (arith, in-table, s .pre .framed .header .cells-is)) (c .before .before .before .before .before .cell-word .ensures .1) e (c .wide2 .ensures) in (
+    λ κ e. run-next t (s .args .n) (s .pre .0) κ (l .c) _ _ (omega (arith, in-table, s .pre .0 .framed .header .cells-is)) (c .before .before .before .before .before .cell-word .ensures .1) e (c .wide2 .ensures) in (
       search needs,
-      omega (arith, l .inv .4 κ₀ e₀ .0, next κ₀ e₀, run-fits t (s .args .n) (s .pre) κ₀ (l .c) in-table is),
+      omega (arith, l .inv .4 κ₀ e₀ .0, next κ₀ e₀, run-fits t (s .args .n) (s .pre .0) κ₀ (l .c) in-table is),
       search needs,
       λ κ e. (omega (arith, l .inv .4 κ e .0), omega (arith, l .inv .4 κ e .0, next κ e), l .inv .4 κ e .1),
     )
 
 cast-of : tie.Need-cast-of Inv-loop2 μ-loop2 Inv-loop μ-loop
-cast-of c = omega (arith, c .before .before .before .before .before .before .wide .ensures, c .before .before .before .before .loop-test .taken, c .before .before .before .before .before .before .before .before .before .pre .framed .small .few-cells)
+cast-of c = omega (arith, c .before .before .before .before .before .before .wide .ensures, c .before .before .before .before .loop-test .taken, c .before .before .before .before .before .before .before .before .before .before .pre .0 .framed .small .few-cells)
 
-mul-of : tie.Need-mul-of Inv-loop2 μ-loop2 Inv-loop μ-loop
-mul-of c = omega (arith, c .loop2-test .taken, c .before .loop2 .inv .1)
-
-array-write-of : tie.Need-array-write-of Inv-loop2 μ-loop2 Inv-loop μ-loop
-array-write-of c = omega (arith, c .loop2-test .taken, c .before .loop2 .inv .1, c .before .loop2 .inv .2)
+slice-write-of : tie.Need-slice-write-of Inv-loop2 μ-loop2 Inv-loop μ-loop
+slice-write-of c = omega (arith, c .loop2-test .taken, c .before .loop2 .inv .1, c .before .loop2 .inv .2)
 
 add-i : tie.Need-add-i Inv-loop2 μ-loop2 Inv-loop μ-loop
 add-i c = omega (arith, c .loop2-test .taken, c .before .loop2 .inv .1)
@@ -120,14 +117,17 @@ loop-again c =
       λ κ e. (omega (arith, f κ e .1, c .loop2-test .left, l .inv .0), f κ e .2),
     )
 
+same-length : tie.Need-same-length Inv-loop2 μ-loop2 Inv-loop μ-loop
+same-length c = search needs
+
 returns : tie.Need-returns Inv-loop2 μ-loop2 Inv-loop μ-loop
 returns c =
-    let s = c .before .before .before .before .before in
+    let s = c .before .before .before .before .before .before in
     let l = c .before .loop in
     let κ₀ = kindOf (s .args .kind) in
     let f = l .inv .4 κ₀ (sym (c .before .before .before .cell-word .ensures .0)) in
     let all : l .c ≡ cells (configuration (s .args .t .now)) = omega (arith, l .inv .0, l .inv .1, c .loop-test .left) in
-    λ i lt. f .1 i (omega (arith, f .0, ap (firstSlot (configuration (s .args .t .now)) κ₀) all, s .pre .sums κ₀))
+    λ i lt. f .1 i (omega (arith, f .0, ap (firstSlot (configuration (s .args .t .now)) κ₀) all, s .pre .0 .sums κ₀))
 
 pub slot-cells-spec : {M : Type 1} → statement M
 slot-cells-spec =
@@ -149,12 +149,12 @@ slot-cells-spec =
     add-end
     loop2-holds
     cast-of
-    mul-of
-    array-write-of
+    slice-write-of
     add-i
     loop2-less
     loop2-again
     add-c
     loop-less
     loop-again
+    same-length
     returns)
