@@ -22,11 +22,13 @@ use Rattle.calls.specs.Refusing.{refusing}
 use Rattle.calls.specs.Did.{stateOf}
 use Rattle.calls.specs.View.{partOf, viewPart, partAt, ShownBy}
 use Rattle.calls.proofs.Refusals.{refusing-first}
-use Rattle.calls.proofs.Whole.{judged-by, known}
+use Rattle.calls.proofs.Whole.{ready-by, known}
+use Rattle.calls.proofs.TrayLaws.{ready-judged}
 
 -- what judging has shown of the table
 pub known-by : (t s : List ℕ) {x : Bool} {n : Header} → x ≡ test (wellFormed t (length s)) → x ≡ true → n ≡ headerOf t → Known t n
-known-by t s xe e ne = known (judged-by t s {m = cond (test (canSetUp t (length s))) (flowMatrix (configuration t)) []} [] xe e refl ne)
+known-by t s xe e ne =
+    known (ready-judged (ready-by t s {m = cond (test (canSetUp t (length s))) (flowMatrix (configuration t)) []} [] xe e refl) ne)
 
 module _ (t s : List ℕ) (p a b : ℕ) where
   -- the part hangs on the number alone

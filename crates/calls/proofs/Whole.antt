@@ -20,6 +20,7 @@ use Rattle.layout.specs.Header.{headerOf}
 use Rattle.calls.specs.declared.Caller.{Caller}
 use Rattle.calls.specs.declared.Answer.{Answer}
 use Rattle.calls.specs.World.{Known, Sound, wordsOf, Judged}
+use Rattle.calls.specs.Tray.{Ready}
 use Rattle.calls.specs.Left.{said}
 use Rattle.calls.specs.Did.{stateOf, callOf, Did, Through, ruleIn}
 use Rattle.calls.proofs.Worlds.{slots-is}
@@ -46,13 +47,9 @@ shaped t s e =
     and-both (test (configured (configuration t))) _ a b
 
 -- what judging leaves: m is the matrix, of any before
-pub judged-by : (t s : List ℕ) {x : Bool} {n : Header} {m : List (List Bool)} (m₀ : List (List Bool)) → x ≡ test (wellFormed t (length s)) → x ≡ true
-    → m ≡ cond (test (canSetUp t (length s))) (flowMatrix (configuration t)) m₀ → n ≡ headerOf t → Judged t s n m
-judged-by t s m₀ xe e me ne = let good = sym xe ∙ e in record {
-  good = good;
-  header = ne ∙ header-conf t;
-  matrix = me ∙ rw (shaped t s good);
-}
+pub ready-by : (t s : List ℕ) {x : Bool} {m : List (List Bool)} (m₀ : List (List Bool)) → x ≡ test (wellFormed t (length s)) → x ≡ true
+    → m ≡ cond (test (canSetUp t (length s))) (flowMatrix (configuration t)) m₀ → Ready t s m
+ready-by t s m₀ xe e me = let good = sym xe ∙ e in record { good = good; matrix = me ∙ rw (shaped t s good) }
 
 -- out of range, or not live, in the words that the code reads
 pub caller-told : {t : List ℕ} {n : Header} → Known t n → (p : ℕ) {x : ℕ} → x ≡ wordsOf t (at process p live)

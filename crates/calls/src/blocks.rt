@@ -114,8 +114,7 @@ fn block_place(bytes: usize, n: usize, f: usize, b: usize) -> usize
     requires { ⌜ (f * n + n ≤ «bytes») × (b * blockBytes + blockBytes ≤ n) ⌝ }
     ensures { λ r. ⌜ (r ≡ f * n + b * blockBytes) × (r + blockBytes ≤ «bytes») ⌝ }
 {
-    let start = f * n + b * BLOCK_BYTES;
-    start
+    f * n + b * BLOCK_BYTES
 }
 
 // Block b of the file at entry a, where the caller may read it: what refuses a read and a view alike, after the number e found so far, and where the block stands.

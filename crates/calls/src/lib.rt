@@ -6,9 +6,9 @@ ghost use lib.ListN.{length};
 ghost use Rattle.rules.specs.Layout.{configuration};
 ghost use Rattle.rules.specs.View.{viewNumber, viewFrom, viewShown};
 ghost use Rattle.rules.specs.Step.{badCaller, badCode, step};
-ghost use Rattle.calls.specs.World.{Known, wordsOf, Judged};
+ghost use Rattle.calls.specs.World.{Known, wordsOf};
 ghost use Rattle.calls.specs.Did.{Did, stateOf, callOf};
-ghost use Rattle.calls.specs.Tray.{Trayed};
+ghost use Rattle.calls.specs.Tray.{Ready, Trayed};
 ghost use Rattle.calls.specs.View.{viewPart};
 use crate::base::read;
 use crate::base::refused;
@@ -99,11 +99,11 @@ pub(crate) fn bad_code(code: u32) -> bool
     (code == 0) | (LAST_CODE < code)
 }
 
-// One call on a judged table: the caller, then the code, then the call's own list.
+// One call on a judged table: the caller, then the code, then the call's own list. It reads the header from the table: handed on by value, it would be written to memory
+// and read back in wider pieces at each call of a tray.
 pub(crate) fn call_judged(
     t: &mut [u32],
     store: &mut [u8],
-    n: Header,
     m: [[bool; MAX_CELLS]; MAX_CELLS],
     caller: u32,
     code: u32,
@@ -112,9 +112,10 @@ pub(crate) fn call_judged(
     c: u32,
     buffer: &mut [u8],
 ) -> Answer
-    requires { ⌜ Judged (now t) (now store) n m ⌝ }
+    requires { ⌜ Ready (now t) (now store) m ⌝ }
     ensures { λ r. ⌜ Did (step (stateOf (now (t .entry)) (now (store .entry))) (callOf caller code a b c (now (buffer .entry)))) r (now (t .exit)) (now (store .exit)) (now (buffer .exit)) ⌝ }
 {
+    let n = header_of(t);
     if bad_caller(t, n, caller) {
         return refused(XB_PR_SD);
     }
@@ -143,8 +144,7 @@ pub fn call(
     if !table::judge(table, store.len(), &mut m) {
         return refused(XB_TAB);
     }
-    let n = header_of(table);
-    call_judged(table, store, n, m, caller, code, a, b, c, buffer)
+    call_judged(table, store, m, caller, code, a, b, c, buffer)
 }
 
 // A view's number, and where in the store the block stands that it shows: for a host in C, which can't be handed a part.

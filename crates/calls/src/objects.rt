@@ -35,6 +35,7 @@ use rules::XNO_ACC;
 use rules::XNO_OBJ;
 use rules::XNO_OWNER;
 use words::first;
+use words::word;
 
 // "Seid 0 means the calling process."
 pub(crate) fn or_self(t: &[u32], n: Header, c: Caller, a: u32) -> u32
@@ -143,13 +144,16 @@ pub(crate) fn look(
     let slot = x.slot;
     let me = c.slot;
     let cell = cell_of(t, n, kind, slot);
-    let live = read(t, n, kind, slot, LIVE);
-    let serial = read(t, n, kind, slot, SERIAL);
-    let owner = read(t, n, kind, slot, OWNER);
-    let group = read(t, n, kind, slot, GROUP);
-    let bits = read(t, n, kind, slot, kind.bits_word());
-    let my_owner = read(t, n, Kind::Process, me, OWNER);
-    let my_group = read(t, n, Kind::Process, me, GROUP);
+    let at = n.record_at(kind, slot);
+    let live = word(t, at + LIVE);
+    let serial = word(t, at + SERIAL);
+    let owner = word(t, at + OWNER);
+    let group = word(t, at + GROUP);
+    let bits_at = kind.bits_word();
+    let bits = word(t, at + bits_at);
+    let mine = n.record_at(Kind::Process, me);
+    let my_owner = word(t, mine + OWNER);
+    let my_group = word(t, mine + GROUP);
     let flows = may_flow(m, cell, c.cell);
     let rights = rights::rights(my_owner, my_group, owner, group, bits);
     Seen {

@@ -107,14 +107,12 @@ pub(crate) fn run(
     requires { ⌜ Ready (now t) (now store) m ⌝ }
     ensures { λ y. ⌜ Ran (stateOf (now (t .entry)) (now (store .entry))) (now (bytes .entry)) r y (now (t .exit)) (now (store .exit)) (now (bytes .exit)) ⌝ }
 {
-    let n = header_of(t);
     let from = wide(r.offset);
     let end = from + wide(r.length);
     if end <= bytes.len() {
         let x = call_judged(
             t,
             store,
-            n,
             m,
             r.caller,
             r.code,
@@ -125,5 +123,6 @@ pub(crate) fn run(
         );
         return answered(r, x);
     }
+    let n = header_of(t);
     answered(r, outside(t, n, r))
 }

@@ -1,5 +1,5 @@
 use Rattle.laws.proofs.Tests.{passed, failed}
-use Rattle.calls.proofs.Whole.{no-table, judged-by}
+use Rattle.calls.proofs.Whole.{no-table, ready-by}
 -- `call` meets its contract: refused where the table is bad, and else the call on the judged table.
 use borrow.Author.Needs.{needs}
 use Rattle.calls.proofs.call.Statement.{statement}
@@ -17,14 +17,10 @@ same-length c = search needs
 returns : tie.Need-returns
 returns c = no-table _ _ _ _ _ _ _ _ (c .before .before .judge .ensures .0) (failed (c .before .before .judge .result) (c .before .if1 .taken)) (c .refused .ensures)
 
-header-of-requires : tie.Need-header-of-requires
-header-of-requires c κs = search needs
-
 call-judged-requires : tie.Need-call-judged-requires
 call-judged-requires c κs =
-    let at-header-of = c .before .before .before in let at-if1 = at-header-of .before .before in let at-judge = at-if1 .before in
-    judged-by _ _ _ (at-judge .judge .ensures .0) (passed (at-judge .judge .result) (at-if1 .if1 .left)) (at-judge .judge .ensures .1) (at-header-of
-    .header-of .ensures)
+    let at-if1 = c .before .before .before in let at-judge = at-if1 .before in
+    ready-by _ _ _ (at-judge .judge .ensures .0) (passed (at-judge .judge .result) (at-if1 .if1 .left)) (at-judge .judge .ensures .1)
 
 same-length-2 : tie.Need-same-length-2
 same-length-2 c = search needs
@@ -46,7 +42,6 @@ call-spec =
     refused-requires
     same-length
     returns
-    header-of-requires
     call-judged-requires
     same-length-2
     same-length-3

@@ -1,11 +1,23 @@
-use Rattle.calls.proofs.Whole.{known, store-long, sound, no-caller, no-code, all-done, good-code}
 -- `call_judged` meets its contract: the caller's refusal, the code's, or the rule of the code carried out.
 use borrow.Author.Needs.{needs}
+use Rattle.calls.specs.World.{Judged}
+use Rattle.calls.proofs.Whole.{known, store-long, sound, no-caller, no-code, all-done, good-code}
+use Rattle.calls.proofs.TrayLaws.{ready-judged}
 use Rattle.calls.proofs.call_judged.Statement.{statement}
 use Rattle.calls.proofs.call_judged.Tie as tie
 
+abbrev start : tie.After-header-of → tie.Start
+start c = c .before .before .before .before .before
+
+-- the header that was read is the judged table's
+judged : (c : tie.After-header-of) → Judged (start c .args .t .now) (start c .args .store .now) (c .header-of .result) (start c .args .m)
+judged c = ready-judged (start c .pre) (c .header-of .ensures)
+
+header-of-requires : tie.Need-header-of-requires
+header-of-requires c κs = search needs
+
 bad-caller-requires : tie.Need-bad-caller-requires
-bad-caller-requires c κs = known (c .before .before .before .before .pre)
+bad-caller-requires c κs = known (judged (c .before))
 
 refused-requires : tie.Need-refused-requires
 refused-requires c κs = search needs
@@ -14,7 +26,9 @@ same-length : tie.Need-same-length
 same-length c = search needs
 
 returns : tie.Need-returns
-returns c = no-caller (c .before .before .before .before .before .before .before .pre) _ (c .before .before .bad-caller .ensures) _ _ _ _ _ (c .before .if1 .taken) (c .refused .ensures)
+returns c =
+    let at-if1 = c .before in let at-bad-caller = at-if1 .before in let at-header-of = at-bad-caller .before .before in
+    no-caller (judged at-header-of) _ (at-bad-caller .bad-caller .ensures) _ _ _ _ _ (at-if1 .if1 .taken) (c .refused .ensures)
 
 bad-code-requires : tie.Need-bad-code-requires
 bad-code-requires c κs = search needs
@@ -26,22 +40,26 @@ same-length-2 : tie.Need-same-length-2
 same-length-2 c = search needs
 
 returns-2 : tie.Need-returns-2
-returns-2 c = no-code (c .before .before .before .before .before .before .before .before .before .pre) _ (c .before .before .before .before .bad-caller .ensures) _ _ _ _ _ (c .before .before .before .if1 .left) (c .before .before .bad-code .ensures) (c .before .if2 .taken) (c .refused2 .ensures)
+returns-2 c =
+    let at-if2 = c .before in let at-bad-code = at-if2 .before in let at-if1 = at-bad-code .before in let at-bad-caller = at-if1 .before in
+    let at-header-of = at-bad-caller .before .before in
+    no-code (judged at-header-of) _ (at-bad-caller .bad-caller .ensures) _ _ _ _ _ (at-if1 .if1 .left) (at-bad-code .bad-code .ensures) (at-if2 .if2 .taken)
+    (c .refused2 .ensures)
 
 cell-of-requires : tie.Need-cell-of-requires
-cell-of-requires c κs = known (c .before .before .before .before .before .before .before .before .before .pre)
+cell-of-requires c κs = known (judged (c .before .before .before .before .before .before))
 
 carry-out-requires : tie.Need-carry-out-requires
-carry-out-requires c κs = let g = good-code _ (c .before .before .before .before .before .before .bad-code .ensures) (c .before .before .before .before .before .if2 .left) in (
-  sound (c .before .before .before .before .before .before .before .before .before .before .before .before .before .pre) _ (c .before .before
-      .before .before .before .before .before .before .bad-caller .ensures) (c .before .before .before .before .before .before .before .if1 .left) (c
-      .before .before .before .cell-of .ensures),
-  c .before .before .before .before .before .before .before .before .before .before .before .before
-      .before .pre .matrix,
-  store-long (c .before .before .before .before .before .before .before .before .before .before .before .before .before .pre),
-  g .0,
-  g .1,
-)
+carry-out-requires c κs =
+    let at-cell-of = c .before .before .before in let at-if2 = at-cell-of .before .before in let at-bad-code = at-if2 .before in
+    let at-if1 = at-bad-code .before in let at-bad-caller = at-if1 .before in let at-header-of = at-bad-caller .before .before in
+    let g = good-code _ (at-bad-code .bad-code .ensures) (at-if2 .if2 .left) in (
+      sound (judged at-header-of) _ (at-bad-caller .bad-caller .ensures) (at-if1 .if1 .left) (at-cell-of .cell-of .ensures),
+      start at-header-of .pre .matrix,
+      store-long (judged at-header-of),
+      g .0,
+      g .1,
+    )
 
 same-length-3 : tie.Need-same-length-3
 same-length-3 c = search needs
@@ -56,14 +74,15 @@ returns-3 : tie.Need-returns-3
 returns-3 c =
     let at-carry-out = c .before .before .before .before .before .before in
     let at-if2 = at-carry-out .before .before .before .before .before .before in let at-bad-code = at-if2 .before in
-    let at-if1 = at-bad-code .before in let at-bad-caller = at-if1 .before in let at-start = at-bad-caller .before .before .before .before .before in
-    all-done (at-start .pre) _ (at-bad-caller .bad-caller .ensures) _ _ _ _ _ (at-if1 .if1 .left) (at-bad-code .bad-code .ensures) (at-if2 .if2 .left)
+    let at-if1 = at-bad-code .before in let at-bad-caller = at-if1 .before in let at-header-of = at-bad-caller .before .before in
+    all-done (judged at-header-of) _ (at-bad-caller .bad-caller .ensures) _ _ _ _ _ (at-if1 .if1 .left) (at-bad-code .bad-code .ensures) (at-if2 .if2 .left)
     (at-carry-out .carry-out .ensures)
 
 pub call-judged-spec : {M : Type 1} → statement M
 call-judged-spec =
     tie.close
     (tie.spec
+    header-of-requires
     bad-caller-requires
     refused-requires
     same-length

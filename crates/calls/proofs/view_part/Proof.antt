@@ -1,7 +1,8 @@
 -- `view_part` meets its contract: refused where the table or the caller is bad, and else the block's place on the judged table.
 use mathlib.Core.Path.{sym, _∙_}
 use Rattle.laws.proofs.Tests.{passed, failed}
-use Rattle.calls.proofs.Whole.{judged-by, store-long, sound}
+use Rattle.calls.proofs.Whole.{ready-by, store-long, sound}
+use Rattle.calls.proofs.TrayLaws.{ready-judged}
 use Rattle.calls.proofs.ViewLaws.{known-by, view-no-table, view-no-caller, view-done}
 use borrow.Author.Needs.{needs}
 use Rattle.calls.proofs.view_part.Statement.{statement}
@@ -46,7 +47,9 @@ cell-of-requires c κs =
 shown-requires : tie.Need-shown-requires
 shown-requires c κs =
     let at-if2 = c .before in let at-bad = at-if2 .before in let at-header = at-bad .before in let at-if1 = at-header .before in let at-judge = at-if1 .before in
-    let j = judged-by (start at-judge .args .table .now) (start at-judge .args .store .now) _ (at-judge .judge .ensures .0) (passed (at-judge .judge .result) (at-if1 .if1 .left)) (at-judge .judge .ensures .1) (at-header .header-of .ensures) in
+    let good = passed (at-judge .judge .result) (at-if1 .if1 .left) in
+    let ready = ready-by (start at-judge .args .table .now) (start at-judge .args .store .now) _ (at-judge .judge .ensures .0) good (at-judge .judge .ensures .1) in
+    let j = ready-judged ready (at-header .header-of .ensures) in
     (sound j _ (at-bad .bad-caller .ensures) (at-if2 .if2 .left) (c .cell-of .ensures), j .matrix, store-long j)
 
 returns-3 : tie.Need-returns-3

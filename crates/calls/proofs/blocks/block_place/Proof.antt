@@ -5,14 +5,14 @@ use borrow.Author.Needs.{needs}
 use Rattle.calls.proofs.blocks.block_place.Statement.{statement}
 use Rattle.calls.proofs.blocks.block_place.Tie as tie
 
-mul-start : tie.Need-mul-start
-mul-start c = search needs
+mul-result : tie.Need-mul-result
+mul-result c = search needs
 
-mul-start-2 : tie.Need-mul-start-2
-mul-start-2 c = search needs
+mul-result-2 : tie.Need-mul-result-2
+mul-result-2 c = search needs
 
-add-start : tie.Need-add-start
-add-start c = search needs
+add-result : tie.Need-add-result
+add-result c = search needs
 
 returns : tie.Need-returns
 returns c = (refl, omega arith)
@@ -21,7 +21,7 @@ pub block-place-spec : {M : Type 1} → statement M
 block-place-spec =
     tie.close
     (tie.spec
-    mul-start
-    mul-start-2
-    add-start
+    mul-result
+    mul-result-2
+    add-result
     returns)

@@ -1,6 +1,7 @@
 -- `objects::look` meets its contract: each field is what the rules say of the slot.
 use Rattle.layout.specs.Kinds.{kindOf}
 use Rattle.calls.proofs.Names.{bits-small, seen}
+use Rattle.calls.proofs.Worlds.{see}
 use native.Mathlib.Omega.{arith}
 use borrow.Author.Needs.{needs}
 use Rattle.calls.proofs.objects.look.Statement.{statement}
@@ -12,29 +13,59 @@ name-of-requires c κs = search needs
 cell-of-requires : tie.Need-cell-of-requires
 cell-of-requires c κs = search needs
 
-read-requires : tie.Need-read-requires
-read-requires c κs = search needs
+record-at-requires : tie.Need-record-at-requires
+record-at-requires c κs = search needs
 
-read-requires-2 : tie.Need-read-requires-2
-read-requires-2 c κs = search needs
+add-word : tie.Need-add-word
+add-word c = search needs
 
-read-requires-3 : tie.Need-read-requires-3
-read-requires-3 c κs = search needs
+word-requires : tie.Need-word-requires
+word-requires c κs = search needs
 
-read-requires-4 : tie.Need-read-requires-4
-read-requires-4 c κs = search needs
+add-word-2 : tie.Need-add-word-2
+add-word-2 c = search needs
+
+word-requires-2 : tie.Need-word-requires-2
+word-requires-2 c κs = search needs
+
+add-word-3 : tie.Need-add-word-3
+add-word-3 c = search needs
+
+word-requires-3 : tie.Need-word-requires-3
+word-requires-3 c κs = search needs
+
+add-word-4 : tie.Need-add-word-4
+add-word-4 c = search needs
+
+word-requires-4 : tie.Need-word-requires-4
+word-requires-4 c κs = search needs
 
 bits-word-requires : tie.Need-bits-word-requires
 bits-word-requires c κs = search needs
 
-read-requires-5 : tie.Need-read-requires-5
-read-requires-5 c κs = (c .before .before .before .before .before .before .before .before .pre .0 .known, bits-small (kindOf (c .before .before .before .before .before .before .before .before .args .kind)) (c .bits-word .ensures))
+add-word-5 : tie.Need-add-word-5
+add-word-5 c =
+    let at-record-at = c .before .before .before .before .before in let at-start = at-record-at .before .before .before .before in
+    let small = bits-small (kindOf (at-start .args .kind)) (c .bits-word .ensures) in let near = at-record-at .record-at .ensures .1 in
+    omega (arith, small, near)
 
-read-requires-6 : tie.Need-read-requires-6
-read-requires-6 c κs = search needs
+word-requires-5 : tie.Need-word-requires-5
+word-requires-5 c κs = search needs
 
-read-requires-7 : tie.Need-read-requires-7
-read-requires-7 c κs = search needs
+record-at-requires-2 : tie.Need-record-at-requires-2
+record-at-requires-2 c κs = search needs
+
+add-word-6 : tie.Need-add-word-6
+add-word-6 c = search needs
+
+word-requires-6 : tie.Need-word-requires-6
+word-requires-6 c κs = search needs
+
+add-word-7 : tie.Need-add-word-7
+add-word-7 c = search needs
+
+word-requires-7 : tie.Need-word-requires-7
+word-requires-7 c κs = search needs
 
 may-flow-requires : tie.Need-may-flow-requires
 may-flow-requires c κs = search needs
@@ -44,13 +75,15 @@ rights-requires c κs = search needs
 
 returns : tie.Need-returns
 returns c =
-    let at-may-flow = c .before .before .before in let at-read7 = at-may-flow .before in let at-read6 = at-read7 .before in
-    let at-read5 = at-read6 .before in let at-bits-word = at-read5 .before in let at-read4 = at-bits-word .before in
-    let at-read3 = at-read4 .before in let at-read2 = at-read3 .before in let at-read = at-read2 .before in let at-cell-of = at-read .before in
-    let at-name-of = at-cell-of .before in let at-start = at-name-of .before .before in
-    seen (at-start .pre .0) (at-start .pre .1) _ _ (at-name-of .name-of .ensures) (at-cell-of .cell-of .ensures) (at-read .read .ensures) (at-read2
-    .read2 .ensures) (at-read3 .read3 .ensures) (at-read4 .read4 .ensures) (at-bits-word .bits-word .ensures) (at-read5 .read5 .ensures) (at-read6
-    .read6 .ensures) (at-read7 .read7 .ensures) (at-may-flow .may-flow .ensures) (c .before .before .rights .ensures)
+    let at-may-flow = c .before .before .before in let at-word7 = at-may-flow .before in let at-word6 = at-word7 .before in
+    let at-home = at-word6 .before in let at-word5 = at-home .before in let at-bits-word = at-word5 .before in let at-word4 = at-bits-word .before in
+    let at-word3 = at-word4 .before in let at-word2 = at-word3 .before in let at-word = at-word2 .before in let at-record-at = at-word .before in
+    let at-cell-of = at-record-at .before in let at-name-of = at-cell-of .before in let at-start = at-name-of .before .before in
+    let known = at-start .pre .0 .known in let place = at-record-at .record-at .ensures .0 in let home = at-home .record-at2 .ensures .0 in
+    seen (at-start .pre .0) (at-start .pre .1) _ _ (at-name-of .name-of .ensures) (at-cell-of .cell-of .ensures) (see known _ _ _ place (at-word .word .ensures))
+    (see known _ _ _ place (at-word2 .word2 .ensures)) (see known _ _ _ place (at-word3 .word3 .ensures)) (see known _ _ _ place (at-word4 .word4 .ensures))
+    (at-bits-word .bits-word .ensures) (see known _ _ _ place (at-word5 .word5 .ensures)) (see known _ _ _ home (at-word6 .word6 .ensures))
+    (see known _ _ _ home (at-word7 .word7 .ensures)) (at-may-flow .may-flow .ensures) (c .before .before .rights .ensures)
 
 pub look-spec : {M : Type 1} → statement M
 look-spec =
@@ -58,14 +91,23 @@ look-spec =
     (tie.spec
     name-of-requires
     cell-of-requires
-    read-requires
-    read-requires-2
-    read-requires-3
-    read-requires-4
+    record-at-requires
+    add-word
+    word-requires
+    add-word-2
+    word-requires-2
+    add-word-3
+    word-requires-3
+    add-word-4
+    word-requires-4
     bits-word-requires
-    read-requires-5
-    read-requires-6
-    read-requires-7
+    add-word-5
+    word-requires-5
+    record-at-requires-2
+    add-word-6
+    word-requires-6
+    add-word-7
+    word-requires-7
     may-flow-requires
     rights-requires
     returns)
