@@ -122,7 +122,8 @@ module _ (t₀ : List ℕ) (base end : ℕ) (t : List ℕ) (slot c : ℕ) (b : B
 
     pub begun-more : (x first-owner first-group : ℕ) (t′ : List ℕ)
         → x ≡ getD t (headerWords + cellWords * c + 3) 0 → first-owner ≡ getD t (headerWords + cellWords * c + 6) 0 → first-group ≡ getD t (headerWords + cellWords * c + 7) 0
-        → t′ ≡ set (set (set (set (set t (base + recordWords process * slot + live) 1) (base + recordWords process * slot + serial) 1) (base + recordWords process * slot + owner) first-owner)
+        → t′ ≡ set (set (set (set (set t (base + recordWords process * slot + live) 1) (base + recordWords process * slot + serial) 1)
+        (base + recordWords process * slot + owner) first-owner)
         (base + recordWords process * slot + group) first-group) (base + recordWords process * slot + bits process) firstBits
         → Begun t₀ base end t′ (slot + x) (c + 1)
     unfolding firstProcesses
@@ -210,7 +211,8 @@ module _ (t : List ℕ) (n : Header) (f : Framed t n) where
           let long : length t ≡ tableWords (configuration t) = rw (base-read t n (f .header) file, slots-read t n (f .header) file) (f .exact) in
           let past : from ≡ length (configuration t) = rw configuration-is (sym (length-take-le from t clear-from)) in
           rw (done, cleared-configuration)
-          (ap₂ (λ (a : List ℕ) (k : ℕ). write (configuration t) (a ++ replicate k 0) (firstProcesses (configuration t) (cells (configuration t)))) (sym configuration-is) (ap₂ _-_ long past))
+          (ap₂ (λ (a : List ℕ) (k : ℕ). write (configuration t) (a ++ replicate k 0) (firstProcesses (configuration t) (cells (configuration t))))
+          (sym configuration-is) (ap₂ _-_ long past))
 
 -- ---- what set-up answers and leaves
 

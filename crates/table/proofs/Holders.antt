@@ -154,7 +154,8 @@ module _ (h : List ℕ) (r : Addr → ℕ) (k : Kind) (c s u : ℕ) (right : tes
       (λ z. rw z (sym (empty-names-none i (eqb (cellOf h k i) c) (eqb-true s 0 z))))
       (λ z.
       rw (z, right-class (eqb-false s 0 z))
-      (split _ (eqb (indexOf s) i) (λ q. let e : indexOf s ≡ i = eqb-true (indexOf s) i q in rw e) (λ q. rw q (and-false (eqb (cellOf h k (indexOf s)) c) ∙ sym (and-false (eqb (cellOf h k i) c))))))
+      (split _ (eqb (indexOf s) i) (λ q. let e : indexOf s ≡ i = eqb-true (indexOf s) i q in rw e)
+      (λ q. rw q (and-false (eqb (cellOf h k (indexOf s)) c) ∙ sym (and-false (eqb (cellOf h k i) c))))))
 
 -- ---- what a used entry counts for
 

@@ -21,7 +21,9 @@ use Rattle.table.proofs.Record.{record-claim}
 
 module _ (t : List ℕ) (n : Header) (shaped : Shaped t n) (i place held : ℕ) where
   pub segment-claim : RecordAt n segment i place → held ≡ ownEntries (configuration t) (rd (configuration t) t) segment i
-      → test (recordOk (recordAt t place) segment 0 (is (leb (getD t (place + bits segment) 0) maxBits && (leb (getD t (place + sharable) 0) 1 && ((eqb (getD t (place + size) 0 % 512) 0 && (leb 512 (getD t (place + size) 0) && leb (getD t (place + size) 0) 65024)) && leb 1 (getD t (place + references) 0))))))
+      → test (recordOk (recordAt t place) segment 0 (is (leb (getD t (place + bits segment) 0) maxBits &&
+      (leb (getD t (place + sharable) 0) 1 && ((eqb (getD t (place + size) 0 % 512) 0 &&
+      (leb 512 (getD t (place + size) 0) && leb (getD t (place + size) 0) 65024)) && leb 1 (getD t (place + references) 0))))))
       && eqb (getD t (place + references) 0) held
       ≡ test (segmentOk (configuration t) (rd (configuration t) t) i)
   unfolding segmentOk segmentSize
@@ -33,10 +35,12 @@ module _ (t : List ℕ) (n : Header) (shaped : Shaped t n) (i place held : ℕ) 
         record-word t n shaped segment i references place lies,
         e,
       )
-      (ap (λ (b : Bool). b && eqb (rd (configuration t) t (at segment i references)) (ownEntries (configuration t) (rd (configuration t) t) segment i)) (record-claim t n shaped segment i place _ lies))
+      (ap (λ (b : Bool). b && eqb (rd (configuration t) t (at segment i references)) (ownEntries (configuration t) (rd (configuration t) t) segment i))
+      (record-claim t n shaped segment i place _ lies))
 
   pub file-claim : RecordAt n file i place → held ≡ ownEntries (configuration t) (rd (configuration t) t) file i
-      → test (recordOk (recordAt t place) file 0 (is (leb (getD t (place + bits file) 0) maxBits && (leb (getD t (place + links) 0) maxLinks && (leb (getD t (place + size) 0) (n .blocks) && leb 1 (getD t (place + links) 0 + getD t (place + opens) 0))))))
+      → test (recordOk (recordAt t place) file 0 (is (leb (getD t (place + bits file) 0) maxBits &&
+      (leb (getD t (place + links) 0) maxLinks && (leb (getD t (place + size) 0) (n .blocks) && leb 1 (getD t (place + links) 0 + getD t (place + opens) 0))))))
       && eqb (getD t (place + opens) 0) held
       ≡ test (fileOk (configuration t) (rd (configuration t) t) i)
   unfolding fileOk
@@ -49,7 +53,8 @@ module _ (t : List ℕ) (n : Header) (shaped : Shaped t n) (i place held : ℕ) 
         ← blocks-read t n (shaped .framed .header),
         e,
       )
-      (ap (λ (b : Bool). b && eqb (rd (configuration t) t (at file i opens)) (ownEntries (configuration t) (rd (configuration t) t) file i)) (record-claim t n shaped file i place _ lies))
+      (ap (λ (b : Bool). b && eqb (rd (configuration t) t (at file i opens)) (ownEntries (configuration t) (rd (configuration t) t) file i))
+      (record-claim t n shaped file i place _ lies))
 
 -- ---- the counts
 

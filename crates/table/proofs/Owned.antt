@@ -71,7 +71,8 @@ pub once-read : (t : List ℕ) (n : Header) → Shaped t n → (p from : ℕ) �
     → allBelow entries (fresh (heldWord t from)) ≡ test (heldOnce (rd (configuration t) t) p)
 unfolding heldOnce
 once-read t n shaped p from lies =
-    ap (λ (w : ℕ → ℕ). allBelow entries (fresh w)) (fun-ext (held-read t n shaped p (cellOf (configuration t) process p) refl segment (λ d. (omega arith, omega arith)) from lies))
+    ap (λ (w : ℕ → ℕ). allBelow entries (fresh w)) (fun-ext (held-read t n shaped p (cellOf (configuration t) process p) refl segment
+    (λ d. (omega arith, omega arith)) from lies))
 
 -- a process that is not live, and right, holds nothing
 module _ (h : List ℕ) (r : Addr → ℕ) (p : ℕ) (free : r (at process p live) ≡ 1 → ⊥) (k : Kind) where
@@ -84,7 +85,8 @@ module _ (h : List ℕ) (r : Addr → ℕ) (p : ℕ) (free : r (at process p liv
   holds-none : (i s : ℕ) (same : Bool) → s ≡ 0 → same && (eqb (classOf s) (class k) && eqb (indexOf s) i) ≡ false
   holds-none i s same z = rw (ne-eqb (classOf s) (class k) (λ e. class-some s (class k) (class-pos k) e z)) (and-false same)
 
-  pub free-counted : (counts : List ℕ) → test (processOk h r p) ≡ true → ((d : ℕ) → d < entries → (2 ≤ heldAt k d) × (heldAt k d < recordWords process)) → Counted h r k p counts counts
+  pub free-counted : (counts : List ℕ) → test (processOk h r p) ≡ true → ((d : ℕ) → d < entries → (2 ≤ heldAt k d) × (heldAt k d < recordWords process))
+      → Counted h r k p counts counts
   unfolding ownEntry
   free-counted counts right held =
       record {

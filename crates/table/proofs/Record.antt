@@ -23,7 +23,8 @@ module _ (r : Addr → ℕ) (k : Kind) (i : ℕ) (alive : Claim) where
   free-record e = rw e (ap (λ (b : Bool). leb (r (at k i serial)) maxSerial && b) (sym (and-true _)))
 
   pub other-record : (r (at k i live) ≡ 0 → ⊥)
-      → eqb (r (at k i live)) 1 && (leb (r (at k i serial)) maxSerial && (leb 1 (r (at k i serial)) && (leb (r (at k i owner)) maxOwner && (leb (r (at k i group)) maxOwner && test alive))))
+      → eqb (r (at k i live)) 1 && (leb (r (at k i serial)) maxSerial && (leb 1 (r (at k i serial)) &&
+      (leb (r (at k i owner)) maxOwner && (leb (r (at k i group)) maxOwner && test alive))))
       ≡ test (recordOk r k i alive)
   unfolding recordOk
   other-record n =

@@ -30,16 +30,21 @@ clear-requires c κs =
 
 begin-all-requires : tie.Need-begin-all-requires
 begin-all-requires c κs =
-    let right = sym (c .before .before .before .before .before .before .before .before .before .can-set-up .ensures) ∙ passed _ (c .before .before .before .before .before .before .before .before .if1 .left) in
-    begin-from _ _ (shaped-of _ _ right _ (header-read _ _ (c .before .before .before .before .before .before .header-of .ensures)) .framed) _ (c .before .before .before .before .before .base .ensures .0) _ (c .before .before .before .clear .ensures) (right-configuration _ _ right)
+    let right = sym (c .before .before .before .before .before .before .before .before .before .can-set-up .ensures)
+    ∙ passed _ (c .before .before .before .before .before .before .before .before .if1 .left) in
+    begin-from _ _ (shaped-of _ _ right _ (header-read _ _ (c .before .before .before .before .before .before .header-of .ensures)) .framed) _
+    (c .before .before .before .before .before .base .ensures .0) _ (c .before .before .before .clear .ensures) (right-configuration _ _ right)
 
 same-length-2 : tie.Need-same-length-2
 same-length-2 c = search needs
 
 returns-2 : tie.Need-returns-2
 returns-2 c =
-    let right = sym (c .before .before .before .before .before .before .before .before .before .before .before .before .can-set-up .ensures) ∙ passed _ (c .before .before .before .before .before .before .before .before .before .before .before .if1 .left) in
-    let fresh = fresh-done _ _ (shaped-of _ _ right _ (header-read _ _ (c .before .before .before .before .before .before .before .before .before .header-of .ensures)) .framed) _ (c .before .before .before .before .before .before .before .before .base .ensures .0) _ (c .before .before .before .before .before .before .clear .ensures) in
+    let right = sym (c .before .before .before .before .before .before .before .before .before .before .before .before .can-set-up .ensures)
+    ∙ passed _ (c .before .before .before .before .before .before .before .before .before .before .before .if1 .left) in
+    let fresh = fresh-done _ _
+    (shaped-of _ _ right _ (header-read _ _ (c .before .before .before .before .before .before .before .before .before .header-of .ensures)) .framed) _
+    (c .before .before .before .before .before .before .before .before .base .ensures .0) _ (c .before .before .before .before .before .before .clear .ensures) in
     (done-answer _ _ right, c .before .before .begin-all .ensures ∙ fresh ∙ done-table _ _ right)
 
 pub set-up-spec : {M : Type 1} → statement M

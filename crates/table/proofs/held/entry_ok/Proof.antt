@@ -20,7 +20,13 @@ slot-in : (c : tie.Start) → c .args .i < slotsOf (c .args .n) (kindOf (c .args
 slot-in c = let e = slots-read (c .args .t .now) (c .args .n) (c .pre .0 .0 .framed .header) (kindOf (c .args .kind)) in omega (arith, c .pre .0 .3)
 
 cell-low : (c : tie.Start) → c .args .cell < maxCells
-cell-low c = omega (arith, c .pre .1 .2, cell-few (c .args .t .now) (c .args .n) (c .pre .0 .0) (kindOf (c .args .kind)) (c .args .i) (slot-in c), c .pre .0 .0 .framed .small .few-cells)
+cell-low c =
+    omega (
+      arith,
+      c .pre .1 .2,
+      cell-few (c .args .t .now) (c .args .n) (c .pre .0 .0) (kindOf (c .args .kind)) (c .args .i) (slot-in c),
+      c .pre .0 .0 .framed .small .few-cells,
+    )
 
 record-at-requires : tie.Need-record-at-requires
 record-at-requires c κs = (c .before .pre .0 .0 .framed .small, slot-in (c .before))
@@ -29,13 +35,19 @@ serial-of-requires : tie.Need-serial-of-requires
 serial-of-requires c κs = search needs
 
 add-held : tie.Need-add-held
-add-held c = omega (arith, c .before .record-at .ensures .within, c .before .record-at .ensures .whole, c .before .before .before .pre .0 .0 .framed .small .few-files)
+add-held c =
+    let s = c .before .before .before in
+    omega (arith, c .before .record-at .ensures .within, c .before .record-at .ensures .whole, s .pre .0 .0 .framed .small .few-files)
 
 mul-held : tie.Need-mul-held
-mul-held c = omega (arith, c .before .record-at .ensures .within, c .before .record-at .ensures .whole, c .before .before .before .pre .0 .0 .framed .small .few-files)
+mul-held c =
+    let s = c .before .before .before in
+    omega (arith, c .before .record-at .ensures .within, c .before .record-at .ensures .whole, s .pre .0 .0 .framed .small .few-files)
 
 shared-slice-read-held : tie.Need-shared-slice-read-held
-shared-slice-read-held c = omega (arith, c .before .before .record-at .ensures .within, c .before .before .record-at .ensures .whole, c .before .before .before .before .pre .0 .0 .framed .exact)
+shared-slice-read-held c =
+    let s = c .before .before .before .before in
+    omega (arith, c .before .before .record-at .ensures .within, c .before .before .record-at .ensures .whole, s .pre .0 .0 .framed .exact)
 
 mul-held-2 : tie.Need-mul-held-2
 mul-held-2 c = omega (arith, cell-low (c .before .before .before .before))
@@ -47,22 +59,64 @@ index-2-held : tie.Need-index-2-held
 index-2-held c = search needs
 
 add-current : tie.Need-add-current
-add-current c = omega (arith, c .before .before .before .record-at .ensures .within, c .before .before .before .record-at .ensures .whole, c .before .before .before .before .before .pre .0 .0 .framed .small .few-files)
+add-current c =
+    let s = c .before .before .before .before .before in
+    omega (
+      arith,
+      c .before .before .before .record-at .ensures .within,
+      c .before .before .before .record-at .ensures .whole,
+      s .pre .0 .0 .framed .small .few-files,
+    )
 
 mul-current : tie.Need-mul-current
-mul-current c = omega (arith, c .before .before .before .record-at .ensures .within, c .before .before .before .record-at .ensures .whole, c .before .before .before .before .before .pre .0 .0 .framed .small .few-files)
+mul-current c =
+    let s = c .before .before .before .before .before in
+    omega (
+      arith,
+      c .before .before .before .record-at .ensures .within,
+      c .before .before .before .record-at .ensures .whole,
+      s .pre .0 .0 .framed .small .few-files,
+    )
 
 shared-slice-read-current : tie.Need-shared-slice-read-current
-shared-slice-read-current c = omega (arith, c .before .before .before .before .record-at .ensures .within, c .before .before .before .before .record-at .ensures .whole, c .before .before .before .before .before .before .pre .0 .0 .framed .exact)
+shared-slice-read-current c =
+    let s = c .before .before .before .before .before .before in
+    omega (
+      arith,
+      c .before .before .before .before .record-at .ensures .within,
+      c .before .before .before .before .record-at .ensures .whole,
+      s .pre .0 .0 .framed .exact,
+    )
 
 add-current-2 : tie.Need-add-current-2
-add-current-2 c = omega (arith, c .before .before .before .before .record-at .ensures .within, c .before .before .before .before .record-at .ensures .whole, c .before .before .before .before .before .before .pre .0 .0 .framed .small .few-files)
+add-current-2 c =
+    let s = c .before .before .before .before .before .before in
+    omega (
+      arith,
+      c .before .before .before .before .record-at .ensures .within,
+      c .before .before .before .before .record-at .ensures .whole,
+      s .pre .0 .0 .framed .small .few-files,
+    )
 
 mul-current-2 : tie.Need-mul-current-2
-mul-current-2 c = omega (arith, c .before .before .before .before .record-at .ensures .within, c .before .before .before .before .record-at .ensures .whole, c .before .before .before .before .before .before .pre .0 .0 .framed .small .few-files)
+mul-current-2 c =
+    let s = c .before .before .before .before .before .before in
+    omega (
+      arith,
+      c .before .before .before .before .record-at .ensures .within,
+      c .before .before .before .before .record-at .ensures .whole,
+      s .pre .0 .0 .framed .small .few-files,
+    )
 
 shared-slice-read-current-2 : tie.Need-shared-slice-read-current-2
-shared-slice-read-current-2 c = omega (arith, c .before .before .before .before .before .record-at .ensures .within, c .before .before .before .before .before .record-at .ensures .whole, c .before .before .before .before .before .before .before .pre .0 .0 .framed .exact)
+shared-slice-read-current-2 c =
+    let s = c .before .before .before .before .before .before .before in
+    omega (
+      arith,
+      c .before .before .before .before .before .record-at .ensures .within,
+      c .before .before .before .before .before .record-at .ensures .whole,
+      s .pre .0 .0 .framed .exact,
+    )
 
 valid-use-requires : tie.Need-valid-use-requires
 valid-use-requires c κs = search needs
@@ -78,13 +132,15 @@ returns c =
     let k = kindOf (s .args .kind) in
     let h = configuration t in
     let i = s .args .i in
-    let word : (j : ℕ) → getD t (c .before .before .before .before .before .before .before .record-at .result + j) 0 ≡ rd h t (at k i j) = λ j. record-word t n (s .pre .0 .0) k i j _ (c .before .before .before .before .before .before .before .record-at .ensures) in
+    let word : (j : ℕ) → getD t (c .before .before .before .before .before .before .before .record-at .result + j) 0 ≡ rd h t (at k i j) =
+    λ j. record-word t n (s .pre .0 .0) k i j _ (c .before .before .before .before .before .before .before .record-at .ensures) in
     let own = ap (λ (x : ℕ). eqb x (s .args .mine)) (s .pre .1 .2) in
     ap₂ _&&_
     (ap₂ _&&_ (ap (ltb 0) (c .before .before .before .before .before .before .serial-of .ensures))
     (ap₂ _&&_ (ap₂ leb (c .before .before .before .before .before .before .serial-of .ensures) (word serial))
     (flow-at h (s .args .flow .now) (s .pre .0 .1) (s .args .cell) (s .args .mine) [] (cell-low s) (s .pre .0 .2) ∙ ap (λ (x : ℕ). flows h x (s .args .mine)) (s .pre .1 .2))))
-    (ap₂ _&&_ (ap₂ _||_ (ap not own) (ap₂ _&&_ (ap (λ (x : ℕ). eqb x 1) (word live)) (ap₂ eqb (word serial) (c .before .before .before .before .before .before .serial-of .ensures))))
+    (ap₂ _&&_ (ap₂ _||_ (ap not own) (ap₂ _&&_ (ap (λ (x : ℕ). eqb x 1) (word live))
+    (ap₂ eqb (word serial) (c .before .before .before .before .before .before .serial-of .ensures))))
     (ap₂ _&&_ (c .before .valid-use .ensures) (ap₂ _||_ (ap not (c .write-use .ensures)) own)))
     ∙ entry-in h (rd h t) k (s .args .mine) (s .args .s) (s .args .u) i (s .pre .1 .0) (s .pre .1 .1) (s .pre .0 .3)
 

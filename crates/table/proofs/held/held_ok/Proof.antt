@@ -37,13 +37,16 @@ returns c =
     let t = s .args .t .now in
     let k = kindOf (s .args .kind) in
     let e = slots-read t (s .args .n) (s .pre .0 .framed .header) k in
-    sym (held-out (configuration t) (rd (configuration t) t) k (s .args .mine) (s .args .s) _ (c .before .before .index-in .ensures) (slots-few t (s .args .n) (s .pre .0) k) (omega (arith, c .before .slots .ensures, c .if1 .taken)))
+    sym (held-out (configuration t) (rd (configuration t) t) k (s .args .mine) (s .args .s) _ (c .before .before .index-in .ensures)
+    (slots-few t (s .args .n) (s .pre .0) k) (omega (arith, c .before .slots .ensures, c .if1 .taken)))
 
 record-at-requires : tie.Need-record-at-requires
 record-at-requires c κs = (c .before .before .before .before .pre .0 .framed .small, omega (arith, c .before .slots .ensures, c .if1 .left))
 
 element-copy-out-index : tie.Need-element-copy-out-index
-element-copy-out-index c = omega (arith, c .before .before .slots .ensures, c .before .if1 .left, slots-small (c .before .before .before .before .before .args .n) (c .before .before .before .before .before .pre .0 .framed .small) (kindOf (c .before .before .before .before .before .args .kind)))
+element-copy-out-index c =
+    let s = c .before .before .before .before .before in
+    omega (arith, c .before .before .slots .ensures, c .before .if1 .left, slots-small (s .args .n) (s .pre .0 .framed .small) (kindOf (s .args .kind)))
 
 index-requires : tie.Need-index-requires
 index-requires c κs = search needs
@@ -52,13 +55,24 @@ serial-of-requires : tie.Need-serial-of-requires
 serial-of-requires c κs = search needs
 
 add-result : tie.Need-add-result
-add-result c = omega (arith, c .before .before .before .record-at .ensures .within, c .before .before .before .record-at .ensures .whole, c .before .before .before .before .before .before .before .before .pre .0 .framed .small .few-files)
+add-result c =
+    let s = c .before .before .before .before .before .before .before .before in
+    omega (arith, c .before .before .before .record-at .ensures .within, c .before .before .before .record-at .ensures .whole, s .pre .0 .framed .small .few-files)
 
 mul-result : tie.Need-mul-result
-mul-result c = omega (arith, c .before .before .before .record-at .ensures .within, c .before .before .before .record-at .ensures .whole, c .before .before .before .before .before .before .before .before .pre .0 .framed .small .few-files)
+mul-result c =
+    let s = c .before .before .before .before .before .before .before .before in
+    omega (arith, c .before .before .before .record-at .ensures .within, c .before .before .before .record-at .ensures .whole, s .pre .0 .framed .small .few-files)
 
 shared-slice-read-result : tie.Need-shared-slice-read-result
-shared-slice-read-result c = omega (arith, c .before .before .before .before .record-at .ensures .within, c .before .before .before .before .record-at .ensures .whole, c .before .before .before .before .before .before .before .before .before .pre .0 .framed .exact)
+shared-slice-read-result c =
+    let s = c .before .before .before .before .before .before .before .before .before in
+    omega (
+      arith,
+      c .before .before .before .before .record-at .ensures .within,
+      c .before .before .before .before .record-at .ensures .whole,
+      s .pre .0 .framed .exact,
+    )
 
 mul-result-2 : tie.Need-mul-result-2
 mul-result-2 c = omega (arith, cell-low (c .before .before))
@@ -78,12 +92,18 @@ returns-2 c =
     let h = configuration t in
     let i = c .before .before .before .before .before .before .before .before .index-in .result in
     let e = slots-read t n (s .pre .0 .framed .header) k in
-    let lt : i < slots h k = omega (arith, c .before .before .before .before .before .before .before .slots .ensures, c .before .before .before .before .before .before .if1 .left) in
+    let lt : i < slots h k = omega (
+      arith,
+      c .before .before .before .before .before .before .before .slots .ensures,
+      c .before .before .before .before .before .before .if1 .left,
+    ) in
     let cell = c .before .before .before .index .ensures ∙ s .pre .1 i lt in
     ap₂ _&&_ (ap (ltb 0) (c .before .before .serial-of .ensures))
     (ap₂ _&&_ (ap₂ leb (c .before .before .serial-of .ensures) (record-word t n (s .pre .0) k i serial _ (c .before .before .before .before .before .record-at .ensures)))
-    (flow-at h (s .args .flow .now) (s .pre .2) (c .before .before .before .index .result) (s .args .mine) [] (cell-low (c .before .before .before)) (s .pre .3) ∙ ap (λ (x : ℕ). flows h x (s .args .mine)) cell))
-    ∙ held-in h (rd h t) k (s .args .mine) (s .args .s) i (c .before .before .before .before .before .before .before .before .index-in .ensures) (slots-few t n (s .pre .0) k) lt
+    (flow-at h (s .args .flow .now) (s .pre .2) (c .before .before .before .index .result) (s .args .mine) [] (cell-low (c .before .before .before)) (s .pre .3)
+    ∙ ap (λ (x : ℕ). flows h x (s .args .mine)) cell))
+    ∙ held-in h (rd h t) k (s .args .mine) (s .args .s) i (c .before .before .before .before .before .before .before .before .index-in .ensures)
+    (slots-few t n (s .pre .0) k) lt
 
 pub held-ok-spec : {M : Type 1} → statement M
 held-ok-spec =

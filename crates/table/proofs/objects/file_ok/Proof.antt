@@ -66,7 +66,15 @@ wide-requires-4 : tie.Need-wide-requires-4
 wide-requires-4 c κs = search needs
 
 add-alive-2 : tie.Need-add-alive-2
-add-alive-2 c = omega (arith, c .before .before .before .before .before .before .wide .ensures, c .before .before .before .before .wide2 .ensures, c .before .before .before .before .before .before .before .shared-slice-known2 .given (c .before .before .before .before .before .before .before .before .record-at .result + links), c .before .before .before .before .before .shared-slice-known3 .given (c .before .before .before .before .before .before .before .before .record-at .result + opens))
+add-alive-2 c =
+    let s = c .before .before .before .before .before .before .before .before in
+    omega (
+      arith,
+      c .before .before .before .before .before .before .wide .ensures,
+      c .before .before .before .before .wide2 .ensures,
+      c .before .before .before .before .before .before .before .shared-slice-known2 .given (s .record-at .result + links),
+      c .before .before .before .before .before .shared-slice-known3 .given (s .record-at .result + opens),
+    )
 
 record-ok-requires : tie.Need-record-ok-requires
 record-ok-requires c κs = search needs
@@ -83,8 +91,17 @@ shared-slice-read-result c = search needs
 returns : tie.Need-returns
 returns c =
     let s = c .before .before .before .before .before .before .before .before .before .before .before .before in
-    ap (λ (b : Bool). b && eqb (getD (s .args .t .now) (c .before .before .before .before .before .before .before .before .before .before .record-at .result + opens) 0) (s .args .held)) (c .before .record-ok .ensures)
-    ∙ rw (c .before .before .wide4 .ensures, c .before .before .before .before .wide3 .ensures, c .before .before .before .before .before .before .wide2 .ensures, c .before .before .before .before .before .before .before .before .wide .ensures) (file-claim (s .args .t .now) (s .args .n) (s .pre .0) (s .args .f) _ (s .args .held) (c .before .before .before .before .before .before .before .before .before .before .record-at .ensures) (s .pre .2))
+    ap (λ (b : Bool). b && eqb
+    (getD (s .args .t .now) (c .before .before .before .before .before .before .before .before .before .before .record-at .result + opens) 0) (s .args .held))
+    (c .before .record-ok .ensures)
+    ∙ rw (
+      c .before .before .wide4 .ensures,
+      c .before .before .before .before .wide3 .ensures,
+      c .before .before .before .before .before .before .wide2 .ensures,
+      c .before .before .before .before .before .before .before .before .wide .ensures,
+    )
+    (file-claim (s .args .t .now) (s .args .n) (s .pre .0) (s .args .f) _ (s .args .held)
+    (c .before .before .before .before .before .before .before .before .before .before .record-at .ensures) (s .pre .2))
 
 pub file-ok-spec : {M : Type 1} → statement M
 file-ok-spec =

@@ -16,7 +16,8 @@ use Rattle.table.proofs.Config.{slots-small}
 use Rattle.table.proofs.objects.objects_ok.Tie as tie
 
 abbrev Inv-loop : tie.InvT-loop
-Inv-loop t n kind counts ok₀ i₀ i-end ok i = (i ≤ i-end) × (i-end ≡ slots (configuration t) (kindOf kind)) × (ok ≡ allBelow i (λ i. test (objectOk (configuration t) (rd (configuration t) t) (kindOf kind) i)))
+Inv-loop t n kind counts ok₀ i₀ i-end ok i = (i ≤ i-end) × (i-end ≡ slots (configuration t) (kindOf kind)) ×
+    (ok ≡ allBelow i (λ i. test (objectOk (configuration t) (rd (configuration t) t) (kindOf kind) i)))
 
 abbrev μ-loop : tie.MeasureT-loop
 μ-loop t n kind counts ok₀ i₀ i-end ok i = i-end - i

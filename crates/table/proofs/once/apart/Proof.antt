@@ -59,7 +59,9 @@ loop-again c =
     )
 
 returns : tie.Need-returns Inv-loop μ-loop
-returns c = λ ok. let end : c .before .loop .e ≡ c .before .before .before .args .used = omega (arith, c .before .loop .inv .0, c .loop-test .left) in rw end at (c .before .loop .inv .3 ok)
+returns c =
+    let s = c .before .before .before in
+    λ ok. let end : c .before .loop .e ≡ s .args .used = omega (arith, c .before .loop .inv .0, c .loop-test .left) in rw end at (c .before .loop .inv .3 ok)
 
 pub apart-spec : {M : Type 1} → statement M
 apart-spec =

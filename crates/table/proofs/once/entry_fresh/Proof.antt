@@ -52,7 +52,9 @@ shared-slice-read-if2 c = search needs
 returns-2 : tie.Need-returns-2 Inv-loop μ-loop
 returns-2 c =
     let a = c .before .before .before .before .before .before .args in
-    sym (all-not _ _ (c .before .before .before .loop .d) (c .before .before .loop-test .taken) (sym (fresh-next (heldWord (a .t .now) (a .from)) (a .e) (c .before .before .before .before .if1 .left) (c .before .before .before .loop .d)) ∙ ap not (eq-eqb _ _ (c .if2 .taken))))
+    sym (all-not _ _ (c .before .before .before .loop .d) (c .before .before .loop-test .taken)
+    (sym (fresh-next (heldWord (a .t .now) (a .from)) (a .e) (c .before .before .before .before .if1 .left) (c .before .before .before .loop .d))
+    ∙ ap not (eq-eqb _ _ (c .if2 .taken))))
 
 add-d : tie.Need-add-d Inv-loop μ-loop
 add-d c = search needs
@@ -62,8 +64,11 @@ loop-less c = search needs
 
 loop-again : tie.Need-loop-again Inv-loop μ-loop
 loop-again c =
-    let a = c .before .before .before .before .before .before .args in
-    (search needs, all-next _ (c .before .before .before .loop .inv .1) (sym (ap not (ne-eqb _ _ (c .if2 .left))) ∙ fresh-next (heldWord (a .t .now) (a .from)) (a .e) (c .before .before .before .before .if1 .left) (c .before .before .before .loop .d)))
+    let a = c .before .before .before .before .before .before .args in (
+      search needs,
+      all-next _ (c .before .before .before .loop .inv .1) (sym (ap not (ne-eqb _ _ (c .if2 .left)))
+          ∙ fresh-next (heldWord (a .t .now) (a .from)) (a .e) (c .before .before .before .before .if1 .left) (c .before .before .before .loop .d)),
+    )
 
 returns-3 : tie.Need-returns-3 Inv-loop μ-loop
 returns-3 c = all-last _ (c .before .loop .inv .1) (c .before .loop .inv .0) (c .loop-test .left) refl

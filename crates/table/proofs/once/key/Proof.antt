@@ -23,10 +23,22 @@ mul-result : tie.Need-mul-result
 mul-result c = omega (arith, c .wide2 .ensures, c .before .serial-of .ensures, serial-small (c .before .before .before .before .args .s))
 
 add-result : tie.Need-add-result
-add-result c = omega (arith, c .wide2 .ensures, c .before .serial-of .ensures, serial-small (c .before .before .before .before .args .s), c .before .before .wide .ensures, c .before .before .before .index-of .ensures, index-small (c .before .before .before .before .args .s))
+add-result c =
+    let s = c .before .before .before .before in
+    omega (
+      arith,
+      c .wide2 .ensures,
+      c .before .serial-of .ensures,
+      serial-small (s .args .s),
+      c .before .before .wide .ensures,
+      c .before .before .before .index-of .ensures,
+      index-small (s .args .s),
+    )
 
 returns : tie.Need-returns
-returns c = (ap₂ (λ (i x : ℕ). (i + 67 * x) % 256) (c .before .before .wide .ensures ∙ c .before .before .before .index-of .ensures) (c .wide2 .ensures ∙ c .before .serial-of .ensures), omega arith)
+returns c =
+    let s = c .before .before .before in
+    (ap₂ (λ (i x : ℕ). (i + 67 * x) % 256) (c .before .before .wide .ensures ∙ s .index-of .ensures) (c .wide2 .ensures ∙ c .before .serial-of .ensures), omega arith)
 
 pub key-spec : {M : Type 1} → statement M
 key-spec =

@@ -22,7 +22,9 @@ wide-requires c κs = search needs
 returns : tie.Need-returns
 returns c =
     let s = c .before .before .before in
-    indexed (class (kindOf (s .args .kind))) (s .args .s) (c .before .before .class .result) (c .before .wrapping-sub-u32 .result) _ (class-low (kindOf (s .args .kind))) (s .fits .s .fits) (c .before .before .class .ensures) (c .before .wrapping-sub-u32 .ensures) (c .before .wrapping-sub-u32 .ok) (c .wide .ensures)
+    indexed (class (kindOf (s .args .kind))) (s .args .s) (c .before .before .class .result) (c .before .wrapping-sub-u32 .result) _
+    (class-low (kindOf (s .args .kind))) (s .fits .s .fits) (c .before .before .class .ensures) (c .before .wrapping-sub-u32 .ensures)
+    (c .before .wrapping-sub-u32 .ok) (c .wide .ensures)
 
 pub index-in-spec : {M : Type 1} → statement M
 index-in-spec =

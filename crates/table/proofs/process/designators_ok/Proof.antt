@@ -24,13 +24,17 @@ slice-aggregate-held-once : tie.Need-slice-aggregate-held-once
 slice-aggregate-held-once c = search needs
 
 held-once-requires : tie.Need-held-once-requires
-held-once-requires c κs = (c .before .before .before .before .before .before .before .before .before .before .before .pre .5, search needs, c .before .before .before .before .before .before .before .used .ensures)
+held-once-requires c κs =
+    let s = c .before .before .before .before .before .before .before .before .before .before .before in
+    (s .pre .5, search needs, c .before .before .before .before .before .before .before .used .ensures)
 
 same-length : tie.Need-same-length
 same-length c = search needs
 
 returns : tie.Need-returns
-returns c = (ap₂ _&&_ (c .before .before .before .before .entries-ok .ensures .0) (c .held-once .ensures), counts-also _ _ _ _ _ _ (c .before .before .before .before .entries-ok .ensures .1))
+returns c =
+    let s = c .before .before .before .before in
+    (ap₂ _&&_ (s .entries-ok .ensures .0) (c .held-once .ensures), counts-also _ _ _ _ _ _ (s .entries-ok .ensures .1))
 
 pub designators-ok-spec : {M : Type 1} → statement M
 designators-ok-spec =

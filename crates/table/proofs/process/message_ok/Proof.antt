@@ -69,7 +69,8 @@ returns c =
     let h = configuration t in
     let q = record-word t (s .args .n) (s .pre .0) process (s .args .p) queue _ (c .before .before .before .before .before .before .before .record-at .ensures) in
     let e = slots-read t (s .args .n) (s .pre .0 .framed .header) process in
-    let word = record-word t (s .args .n) (s .pre .0) process (s .args .p) (messageAt (s .args .m) 0) _ (c .before .before .before .before .before .before .before .record-at .ensures) in
+    let word = record-word t (s .args .n) (s .pre .0) process (s .args .p) (messageAt (s .args .m) 0) _
+    (c .before .before .before .before .before .before .before .record-at .ensures) in
     c .held-ok .ensures ∙ ap₂ (λ (c x : ℕ). test (heldOk h (rd h t) process c x)) (c .before .index .ensures ∙ s .pre .1 (s .args .p) (omega arith)) word
     ∙ message-held h (rd h t) (s .args .p) (s .args .m) (omega (arith, c .before .before .before .before .before .wide .ensures))
 

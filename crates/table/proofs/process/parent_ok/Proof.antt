@@ -27,7 +27,8 @@ shared-slice-read-s c = search needs
 returns : tie.Need-returns
 returns c =
     let s = c .before .before .before .before in
-    rw (← record-word (s .args .t .now) (s .args .n) (s .pre .0) process (s .args .p) parent _ (c .before .before .record-at .ensures)) (sym (parent-none _ _ _ (c .if1 .taken)))
+    rw (← record-word (s .args .t .now) (s .args .n) (s .pre .0) process (s .args .p) parent _ (c .before .before .record-at .ensures))
+    (sym (parent-none _ _ _ (c .if1 .taken)))
 
 index-in-requires : tie.Need-index-in-requires
 index-in-requires c κs = search needs
@@ -41,13 +42,16 @@ returns-2 c =
     let t = s .args .t .now in
     let e = slots-read t (s .args .n) (s .pre .0 .framed .header) process in
     rw (← record-word t (s .args .n) (s .pre .0) process (s .args .p) parent _ (c .before .before .before .before .before .record-at .ensures))
-    (sym (parent-out (configuration t) _ _ _ (c .before .before .index-in .ensures) (slots-few t (s .args .n) (s .pre .0) process) (c .before .before .before .if1 .left) (omega (arith, c .before .slots .ensures, c .if2 .taken))))
+    (sym (parent-out (configuration t) _ _ _ (c .before .before .index-in .ensures) (slots-few t (s .args .n) (s .pre .0) process)
+    (c .before .before .before .if1 .left) (omega (arith, c .before .slots .ensures, c .if2 .taken))))
 
 serial-of-requires : tie.Need-serial-of-requires
 serial-of-requires c κs = search needs
 
 element-copy-out-index : tie.Need-element-copy-out-index
-element-copy-out-index c = omega (arith, c .before .before .slots .ensures, c .before .if2 .left, c .before .before .before .before .before .before .before .before .pre .0 .framed .small .few-processes)
+element-copy-out-index c =
+    let s = c .before .before .before .before .before .before .before .before in
+    omega (arith, c .before .before .slots .ensures, c .before .if2 .left, s .pre .0 .framed .small .few-processes)
 
 index-requires : tie.Need-index-requires
 index-requires c κs = search needs
@@ -64,11 +68,16 @@ returns-3 c =
     let t = s .args .t .now in
     let h = configuration t in
     let e = slots-read t (s .args .n) (s .pre .0 .framed .header) process in
-    let l : c .before .before .before .before .before .before .before .index-in .result < slots h process = omega (arith, c .before .before .before .before .before .before .slots .ensures, c .before .before .before .before .before .if2 .left) in
+    let l : c .before .before .before .before .before .before .before .index-in .result < slots h process =
+    omega (arith, c .before .before .before .before .before .before .slots .ensures, c .before .before .before .before .before .if2 .left) in
     let m : s .args .p < slots h process = omega arith in
-    rw (← record-word t (s .args .n) (s .pre .0) process (s .args .p) parent _ (c .before .before .before .before .before .before .before .before .before .before .record-at .ensures))
-    (ap₂ _&&_ (ap (ltb 0) (c .before .before .before .before .serial-of .ensures)) (ap₂ eqb (c .before .before .index .ensures ∙ s .pre .1 (c .before .before .before .before .before .before .before .index-in .result) l) (c .index2 .ensures ∙ s .pre .1 (s .args .p) m))
-    ∙ parent-in h _ _ _ (c .before .before .before .before .before .before .before .index-in .ensures) (slots-few t (s .args .n) (s .pre .0) process) (c .before .before .before .before .before .before .before .before .if1 .left) l)
+    rw (← record-word t (s .args .n) (s .pre .0) process (s .args .p) parent _
+    (c .before .before .before .before .before .before .before .before .before .before .record-at .ensures))
+    (ap₂ _&&_ (ap (ltb 0) (c .before .before .before .before .serial-of .ensures))
+    (ap₂ eqb (c .before .before .index .ensures ∙ s .pre .1 (c .before .before .before .before .before .before .before .index-in .result) l)
+    (c .index2 .ensures ∙ s .pre .1 (s .args .p) m))
+    ∙ parent-in h _ _ _ (c .before .before .before .before .before .before .before .index-in .ensures) (slots-few t (s .args .n) (s .pre .0) process)
+    (c .before .before .before .before .before .before .before .before .if1 .left) l)
 
 pub parent-ok-spec : {M : Type 1} → statement M
 parent-ok-spec =

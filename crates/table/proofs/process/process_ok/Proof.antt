@@ -16,7 +16,8 @@ use Rattle.table.proofs.process.process_ok.Statement.{statement}
 use Rattle.table.proofs.process.process_ok.Tie as tie
 
 -- the cell of the process
-own : (c : tie.After-index) → c .index .result ≡ cellOf (configuration (c .before .before .before .before .before .before .before .before .args .t .now)) process (c .before .before .before .before .before .before .before .before .args .p)
+own : (c : tie.After-index) → c .index .result ≡ cellOf (configuration (c .before .before .before .before .before .before .before .before .args .t .now)) process
+    (c .before .before .before .before .before .before .before .before .args .p)
 own c =
     let s = c .before .before .before .before .before .before .before .before in
     let e = slots-read (s .args .t .now) (s .args .n) (s .pre .0 .0 .framed .header) process in
@@ -92,20 +93,53 @@ shared-slice-read-alive-2 c = search needs
 
 descriptors-ok-requires : tie.Need-descriptors-ok-requires
 descriptors-ok-requires c κs =
-    let s = c .before .before .before .before .before .before .before .before .before .before .before .before .before .before .before .before in
-    (s .pre .0 .0, s .pre .0 .3, s .pre .0 .4, low (c .before .before .before .before .before .before .before .before), s .pre .1 .1, omega (arith, c .before .before .before .before .before .before .before .entry-at .ensures .0, c .before .before .before .before .before .before .before .before .before .before .before .before .record-at .ensures .at-is, c .before .before .before .before .before .before .before .before .before .before .before .before .record-at .ensures .within, s .pre .0 .0 .framed .exact))
+    let s = c .before .before .before .before .before .before .before .before .before .before .before .before .before .before .before .before in (
+      s .pre .0 .0,
+      s .pre .0 .3,
+      s .pre .0 .4,
+      low (c .before .before .before .before .before .before .before .before),
+      s .pre .1 .1,
+      omega (
+        arith,
+        c .before .before .before .before .before .before .before .entry-at .ensures .0,
+        c .before .before .before .before .before .before .before .before .before .before .before .before .record-at .ensures .at-is,
+        c .before .before .before .before .before .before .before .before .before .before .before .before .record-at .ensures .within,
+        s .pre .0 .0 .framed .exact,
+      ),
+    )
 
 designators-ok-requires : tie.Need-designators-ok-requires
 designators-ok-requires c κs =
-    let s = c .before .before .before .before .before .before .before .before .before .before .before .before .before .before .before .before .before .before .before .before in
-    (s .pre .0 .0, s .pre .0 .2, s .pre .0 .4, low (c .before .before .before .before .before .before .before .before .before .before .before .before), s .pre .1 .0, omega (arith, c .before .before .before .before .before .before .before .before .before .before .entry-at2 .ensures .0, c .before .before .before .before .before .before .before .before .before .before .before .before .before .before .before .before .record-at .ensures .at-is, c .before .before .before .before .before .before .before .before .before .before .before .before .before .before .before .before .record-at .ensures .within, s .pre .0 .0 .framed .exact))
+    let s = c .before .before .before .before .before .before .before .before .before .before .before .before .before .before .before .before .before .before .before .before in (
+      s .pre .0 .0,
+      s .pre .0 .2,
+      s .pre .0 .4,
+      low (c .before .before .before .before .before .before .before .before .before .before .before .before),
+      s .pre .1 .0,
+      omega (
+        arith,
+        c .before .before .before .before .before .before .before .before .before .before .entry-at2 .ensures .0,
+        c .before .before .before .before .before .before .before .before .before .before .before .before .before .before .before .before .record-at .ensures .at-is,
+        c .before .before .before .before .before .before .before .before .before .before .before .before .before .before .before .before .record-at .ensures .within,
+        s .pre .0 .0 .framed .exact,
+      ),
+    )
 
 messages-ok-requires : tie.Need-messages-ok-requires
-messages-ok-requires c κs = let s = c .before .before .before .before .before .before .before .before .before .before .before .before .before .before .before .before .before .before .before .before .before .before .before in (s .pre .0 .0, s .pre .0 .1, s .pre .0 .4, s .pre .0 .5)
+messages-ok-requires c κs =
+    let s = c .before .before .before .before .before .before .before .before .before .before .before .before .before .before .before .before .before .before .before .before .before .before .before in
+    (s .pre .0 .0, s .pre .0 .1, s .pre .0 .4, s .pre .0 .5)
+
+-- where the record was found, and the start
+abbrev at-record : tie.After-messages-ok → tie.After-record-at
+at-record c = c .before .before .before .before .before .before .before .before .before .before .before .before .before .before .before .before .before .before .before .before
+
+abbrev start : tie.After-messages-ok → tie.Start
+start c = at-record c .before .before .before .before
 
 -- the record lies within the table
-within : (c : tie.After-messages-ok) → (c .before .before .before .before .before .before .before .before .before .before .before .before .before .before .before .before .before .before .before .before .record-at .result) + recordWords process ≤ length (c .before .before .before .before .before .before .before .before .before .before .before .before .before .before .before .before .before .before .before .before .before .before .before .before .args .t .now)
-within c = omega (arith, c .before .before .before .before .before .before .before .before .before .before .before .before .before .before .before .before .before .before .before .before .record-at .ensures .within, c .before .before .before .before .before .before .before .before .before .before .before .before .before .before .before .before .before .before .before .before .before .before .before .before .pre .0 .0 .framed .exact)
+within : (c : tie.After-messages-ok) → at-record c .record-at .result + recordWords process ≤ length (start c .args .t .now)
+within c = omega (arith, at-record c .record-at .ensures .within, start c .pre .0 .0 .framed .exact)
 
 pages-ok-requires : tie.Need-pages-ok-requires
 pages-ok-requires c κs = within c
@@ -122,36 +156,47 @@ same-length-2 c = search needs
 returns : tie.Need-returns
 returns c =
     let m = c .before .before in
-    let s = m .before .before .before .before .before .before .before .before .before .before .before .before .before .before .before .before .before .before .before .before .before .before .before .before in
+    let s = start m in
     let t = s .args .t .now in
     let n = s .args .n in
     let p = s .args .p in
-    let lies = m .before .before .before .before .before .before .before .before .before .before .before .before .before .before .before .before .before .before .before .before .record-at .ensures in
+    let lies = at-record m .record-at .ensures in
     let mine = own (m .before .before .before .before .before .before .before .before .before .before .before .before .before .before .before .before) in
-    let files = entries-read t n (s .pre .0 .0) p _ mine file (λ d. (omega arith, omega arith)) _ (m .before .before .before .before .before .before .before .before .before .before .before .before .before .before .before .entry-at .ensures .0) in
-    let segments = entries-read t n (s .pre .0 .0) p _ mine segment (λ d. (omega arith, omega arith)) _ (m .before .before .before .before .before .before .before .before .before .before .before .before .before .before .entry-at2 .ensures .0) in
-    let once = once-read t n (s .pre .0 .0) p _ (m .before .before .before .before .before .before .before .before .before .before .before .before .before .before .entry-at2 .ensures .0) in
+    let files = entries-read t n (s .pre .0 .0) p _ mine file (λ d. (omega arith, omega arith)) _
+    (m .before .before .before .before .before .before .before .before .before .before .before .before .before .before .before .entry-at .ensures .0) in
+    let segments = entries-read t n (s .pre .0 .0) p _ mine segment (λ d. (omega arith, omega arith)) _
+    (m .before .before .before .before .before .before .before .before .before .before .before .before .before .before .entry-at2 .ensures .0) in
+    let once = once-read t n (s .pre .0 .0) p _
+    (m .before .before .before .before .before .before .before .before .before .before .before .before .before .before .entry-at2 .ensures .0) in
     let held = m .before .before .before .designators-ok .ensures .0 ∙ ap₂ _&&_ segments once in
     let says =
     c .record-ok .ensures
     ∙ live-process t n (s .pre .0 .0) p _ lies _ _ _ _ _ _ _ _
     (m .before .before .before .before .before .before .before .before .before .before .before .before .before .parent-ok .ensures)
-    (ap (λ (x : ℕ). leb x 8) (m .before .before .before .before .before .before .before .before .before .before .before .wide .ensures ∙ record-word t n (s .pre .0 .0) process p queue _ lies))
+    (ap (λ (x : ℕ). leb x 8) (m .before .before .before .before .before .before .before .before .before .before .before .wide .ensures
+    ∙ record-word t n (s .pre .0 .0) process p queue _ lies))
     (ap (λ (x : ℕ). leb x maxBits) (record-word t n (s .pre .0 .0) process p (bits process) _ lies))
     (ap (λ (x : ℕ). eqb x 0) (record-word t n (s .pre .0 .0) process p zero7 _ lies))
     (m .before .before .before .before .before .before .before .descriptors-ok .ensures .0 ∙ files)
     held
     (m .messages-ok .ensures)
     (c .before .pages-ok .ensures) in
-    let alive = sym (record-word t n (s .pre .0 .0) process p live _ lies) ∙ m .before .before .before .before .before .before .before .before .before .before .before .before .before .before .before .before .before .before .if1 .taken in (
+    let alive = sym (record-word t n (s .pre .0 .0) process p live _ lies)
+    ∙ m .before .before .before .before .before .before .before .before .before .before .before .before .before .before .before .before .before .before .if1 .taken in (
       says,
       (
         λ good.
             let right = right-segments (configuration t) (rd (configuration t) t) p alive (sym says ∙ good) in
-            live-counted t n (s .pre .0 .0) p _ mine segment (λ d. (omega arith, omega arith)) _ (m .before .before .before .before .before .before .before .before .before .before .before .before .before .before .entry-at2 .ensures .0) _ _ _ (m .before .before .before .designators-ok .ensures .1) (held ∙ and-both _ _ right (right-once (configuration t) (rd (configuration t) t) p alive (sym says ∙ good))) right,
+            live-counted t n (s .pre .0 .0) p _ mine segment (λ d. (omega arith, omega arith)) _
+            (m .before .before .before .before .before .before .before .before .before .before .before .before .before .before .entry-at2 .ensures .0) _ _ _
+            (m .before .before .before .designators-ok .ensures .1) (held ∙ and-both _ _ right
+            (right-once (configuration t) (rd (configuration t) t) p alive (sym says ∙ good))) right,
         λ good.
             let right = right-files (configuration t) (rd (configuration t) t) p alive (sym says ∙ good) in
-            live-counted t n (s .pre .0 .0) p _ mine file (λ d. (omega arith, omega arith)) _ (m .before .before .before .before .before .before .before .before .before .before .before .before .before .before .before .entry-at .ensures .0) _ _ _ (m .before .before .before .before .before .before .before .descriptors-ok .ensures .1) (m .before .before .before .before .before .before .before .descriptors-ok .ensures .0 ∙ files ∙ right) right,
+            live-counted t n (s .pre .0 .0) p _ mine file (λ d. (omega arith, omega arith)) _
+            (m .before .before .before .before .before .before .before .before .before .before .before .before .before .before .before .entry-at .ensures .0) _ _ _
+            (m .before .before .before .before .before .before .before .descriptors-ok .ensures .1)
+            (m .before .before .before .before .before .before .before .descriptors-ok .ensures .0 ∙ files ∙ right) right,
       ),
     )
 
@@ -166,8 +211,14 @@ returns-2 c =
     let p = s .args .p in
     let lies = c .before .before .before .record-at .ensures in
     let free : rd (configuration t) t (at process p live) ≡ 1 → ⊥ = λ e. c .before .if1 .left (record-word t n (s .pre .0 .0) process p live _ lies ∙ e) in
-    let says = c .record-ok2 .ensures ∙ dead-process t n (s .pre .0 .0) p _ lies free _ in
-    (says, (λ good. free-counted _ _ p free segment _ (sym says ∙ good) (λ d l. (omega arith, omega arith)), λ good. free-counted _ _ p free file _ (sym says ∙ good) (λ d l. (omega arith, omega arith))))
+    let says = c .record-ok2 .ensures ∙ dead-process t n (s .pre .0 .0) p _ lies free _ in (
+      says,
+      (
+        λ good. free-counted _ _ p free segment _ (sym says ∙ good) (λ d l. (omega arith, omega arith)),
+        λ good. free-counted _ _ p free file _ (sym says ∙ good)
+            (λ d l. (omega arith, omega arith)),
+      ),
+    )
 
 pub process-ok-spec : {M : Type 1} → statement M
 process-ok-spec =

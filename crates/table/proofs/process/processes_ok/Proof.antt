@@ -31,8 +31,14 @@ slots-requires c κs = search needs
 
 loop-holds : tie.Need-loop-holds Inv-loop μ-loop
 loop-holds c =
-    let s = c .before .before .before .before in
-    (search needs, c .slots .ensures ∙ sym (slots-read (s .args .t .now) (s .args .n) (s .pre .0 .0 .framed .header) process), c .slots .ensures, all-first _, s .pre .1 .0, s .pre .1 .1)
+    let s = c .before .before .before .before in (
+      search needs,
+      c .slots .ensures ∙ sym (slots-read (s .args .t .now) (s .args .n) (s .pre .0 .0 .framed .header) process),
+      c .slots .ensures,
+      all-first _,
+      s .pre .1 .0,
+      s .pre .1 .1,
+    )
 
 process-ok-requires : tie.Need-process-ok-requires Inv-loop μ-loop
 process-ok-requires c κs =
@@ -40,8 +46,26 @@ process-ok-requires c κs =
     let l = c .before .before .before .loop in (
       (s .pre .0 .0, s .pre .0 .1, s .pre .0 .2, s .pre .0 .3, s .pre .0 .4, omega (arith, l .inv .2, c .before .before .loop-test .taken)),
       (
-        record { long = l .inv .4 .long; room = λ i m. omega (arith, l .inv .4 .few i m, l .inv .2, c .before .before .loop-test .taken, s .pre .0 .0 .framed .small .few-processes) },
-        record { long = l .inv .5 .long; room = λ i m. omega (arith, l .inv .5 .few i m, l .inv .2, c .before .before .loop-test .taken, s .pre .0 .0 .framed .small .few-processes) },
+        record {
+          long = l .inv .4 .long;
+          room = λ i m. omega (
+            arith,
+            l .inv .4 .few i m,
+            l .inv .2,
+            c .before .before .loop-test .taken,
+            s .pre .0 .0 .framed .small .few-processes,
+          );
+        },
+        record {
+          long = l .inv .5 .long;
+          room = λ i m. omega (
+            arith,
+            l .inv .5 .few i m,
+            l .inv .2,
+            c .before .before .loop-test .taken,
+            s .pre .0 .0 .framed .small .few-processes,
+          );
+        },
       ),
     )
 
@@ -55,7 +79,8 @@ returns : tie.Need-returns Inv-loop μ-loop
 returns c =
     let l = c .before .before .before .before .before .before .before .before .before .loop in
     let bad = failed _ (c .if1 .taken) in (
-      sym (all-not _ _ (l .p) (omega (arith, l .inv .1, c .before .before .before .before .before .before .before .before .loop-test .taken)) (sym (c .before .before .before .before .before .process-ok .ensures .0) ∙ bad)),
+      sym (all-not _ _ (l .p) (omega (arith, l .inv .1, c .before .before .before .before .before .before .before .before .loop-test .taken))
+          (sym (c .before .before .before .before .before .process-ok .ensures .0) ∙ bad)),
       (λ e. absurd (true≢false (sym e)), λ e. absurd (true≢false (sym e))),
     )
 
@@ -73,8 +98,10 @@ loop-again c =
       search needs,
       search needs,
       all-next _ (l .inv .3) (sym good ∙ c .before .before .before .before .before .process-ok .ensures .0),
-      tally-next _ _ _ (l .p) _ _ (l .inv .4) (c .before .before .before .before .before .process-ok .ensures .1 .0 good) (c .before .before .before .before .before .process-ok .kept .1 .1 .1 .1 .1 .1 .1 .0),
-      tally-next _ _ _ (l .p) _ _ (l .inv .5) (c .before .before .before .before .before .process-ok .ensures .1 .1 good) (c .before .before .before .before .before .process-ok .kept .1 .1 .1 .1 .1 .1 .1 .1 .0),
+      tally-next _ _ _ (l .p) _ _ (l .inv .4) (c .before .before .before .before .before .process-ok .ensures .1 .0 good)
+          (c .before .before .before .before .before .process-ok .kept .1 .1 .1 .1 .1 .1 .1 .0),
+      tally-next _ _ _ (l .p) _ _ (l .inv .5) (c .before .before .before .before .before .process-ok .ensures .1 .1 good)
+          (c .before .before .before .before .before .process-ok .kept .1 .1 .1 .1 .1 .1 .1 .1 .0),
     )
 
 same-length-3 : tie.Need-same-length-3 Inv-loop μ-loop
@@ -86,7 +113,8 @@ same-length-4 c = search needs
 returns-2 : tie.Need-returns-2 Inv-loop μ-loop
 returns-2 c =
     let l = c .before .loop in
-    let end : l .p ≡ slots (configuration (c .before .before .before .before .before .before .args .t .now)) process = omega (arith, l .inv .0, l .inv .1, c .loop-test .left) in
+    let end : l .p ≡ slots (configuration (c .before .before .before .before .before .before .args .t .now)) process =
+    omega (arith, l .inv .0, l .inv .1, c .loop-test .left) in
     (all-last _ (l .inv .3) (l .inv .0) (c .loop-test .left) (l .inv .1), (λ e. rw end at (l .inv .4), λ e. rw end at (l .inv .5)))
 
 pub processes-ok-spec : {M : Type 1} → statement M

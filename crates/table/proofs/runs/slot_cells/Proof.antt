@@ -37,29 +37,57 @@ wide-requires c κs = search needs
 
 loop-holds : tie.Need-loop-holds Inv-loop2 μ-loop2 Inv-loop μ-loop
 unfolding firstSlot
-loop-holds c =
-    (search needs, c .wide .ensures ∙ sym (cells-read _ _ (c .before .before .before .before .pre .0 .framed .header)), c .before .before .before .before .pre .1, search needs, λ κ e. (sum-first _, below-none _))
+loop-holds c = (
+  search needs,
+  c .wide .ensures ∙ sym (cells-read _ _ (c .before .before .before .before .pre .0 .framed .header)),
+  c .before .before .before .before .pre .1,
+  search needs,
+  λ κ e. (sum-first _, below-none _),
+)
 
 mul-wide : tie.Need-mul-wide Inv-loop2 μ-loop2 Inv-loop μ-loop
-mul-wide c = omega (arith, c .before .before .wide .ensures, c .loop-test .taken, c .before .before .before .before .before .before .pre .0 .framed .small .few-cells)
+mul-wide c =
+    let s = c .before .before .before .before .before .before in
+    omega (arith, c .before .before .wide .ensures, c .loop-test .taken, s .pre .0 .framed .small .few-cells)
 
 add-wide : tie.Need-add-wide Inv-loop2 μ-loop2 Inv-loop μ-loop
-add-wide c = omega (arith, c .before .before .wide .ensures, c .loop-test .taken, c .before .before .before .before .before .before .pre .0 .framed .small .few-cells)
+add-wide c =
+    let s = c .before .before .before .before .before .before in
+    omega (arith, c .before .before .wide .ensures, c .loop-test .taken, s .pre .0 .framed .small .few-cells)
 
 add-wide-2 : tie.Need-add-wide-2 Inv-loop2 μ-loop2 Inv-loop μ-loop
-add-wide-2 c = omega (arith, c .before .before .wide .ensures, c .loop-test .taken, c .before .before .before .before .before .before .pre .0 .framed .small .few-cells, c .before .before .before .cell-word .ensures .1)
+add-wide-2 c =
+    let s = c .before .before .before .before .before .before in
+    omega (arith, c .before .before .wide .ensures, c .loop-test .taken, s .pre .0 .framed .small .few-cells, c .before .before .before .cell-word .ensures .1)
 
 mul-wide-2 : tie.Need-mul-wide-2 Inv-loop2 μ-loop2 Inv-loop μ-loop
-mul-wide-2 c = omega (arith, c .before .before .wide .ensures, c .loop-test .taken, c .before .before .before .before .before .before .pre .0 .framed .small .few-cells, c .before .before .before .cell-word .ensures .1)
+mul-wide-2 c =
+    let s = c .before .before .before .before .before .before in
+    omega (arith, c .before .before .wide .ensures, c .loop-test .taken, s .pre .0 .framed .small .few-cells, c .before .before .before .cell-word .ensures .1)
 
 shared-slice-read-wide : tie.Need-shared-slice-read-wide Inv-loop2 μ-loop2 Inv-loop μ-loop
-shared-slice-read-wide c = omega (arith, c .before .before .before .wide .ensures, c .before .loop-test .taken, c .before .before .before .before .before .before .before .pre .0 .framed .exact, c .before .before .before .before .cell-word .ensures .1)
+shared-slice-read-wide c =
+    let s = c .before .before .before .before .before .before .before in
+    omega (
+      arith,
+      c .before .before .before .wide .ensures,
+      c .before .loop-test .taken,
+      s .pre .0 .framed .exact,
+      c .before .before .before .before .cell-word .ensures .1,
+    )
 
 wide-requires-2 : tie.Need-wide-requires-2 Inv-loop2 μ-loop2 Inv-loop μ-loop
 wide-requires-2 c κs = search needs
 
 add-end : tie.Need-add-end Inv-loop2 μ-loop2 Inv-loop μ-loop
-add-end c = omega (arith, c .wide2 .ensures, c .before .before .before .loop .inv .3, c .before .shared-slice-known2 .given (headerWords + cellWords * c .before .before .before .loop .c + c .before .before .before .before .before .cell-word .result))
+add-end c =
+    let s = c .before .before .before .before .before in
+    omega (
+      arith,
+      c .wide2 .ensures,
+      c .before .before .before .loop .inv .3,
+      c .before .shared-slice-known2 .given (headerWords + cellWords * c .before .before .before .loop .c + s .cell-word .result),
+    )
 
 loop2-holds : tie.Need-loop2-holds Inv-loop2 μ-loop2 Inv-loop μ-loop
 loop2-holds c =
@@ -70,8 +98,10 @@ loop2-holds c =
     let l = c .before .before .before .loop in
     let in-table : l .c < s .args .n .cells = omega (arith, c .before .before .before .before .wide .ensures, c .before .before .loop-test .taken) in
     let is : s .args .n .cells ≡ cells (configuration t) = sym (cells-read t (s .args .n) (s .pre .0 .framed .header)) in
-    let next : (κ : Kind) → cellSlotsWord κ ≡ c .before .before .before .before .before .cell-word .result → firstSlot (configuration t) κ (l .c) + c .wide2 .result ≡ firstSlot (configuration t) κ (l .c + 1) =
-    λ κ e. run-next t (s .args .n) (s .pre .0) κ (l .c) _ _ (omega (arith, in-table, s .pre .0 .framed .header .cells-is)) (c .before .before .before .before .before .cell-word .ensures .1) e (c .wide2 .ensures) in (
+    let next : (κ : Kind) → cellSlotsWord κ ≡ c .before .before .before .before .before .cell-word .result
+    → firstSlot (configuration t) κ (l .c) + c .wide2 .result ≡ firstSlot (configuration t) κ (l .c + 1) =
+    λ κ e. run-next t (s .args .n) (s .pre .0) κ (l .c) _ _ (omega (arith, in-table, s .pre .0 .framed .header .cells-is))
+    (c .before .before .before .before .before .cell-word .ensures .1) e (c .wide2 .ensures) in (
       search needs,
       omega (arith, l .inv .4 κ₀ e₀ .0, next κ₀ e₀, run-fits t (s .args .n) (s .pre .0) κ₀ (l .c) in-table is),
       search needs,
@@ -79,7 +109,14 @@ loop2-holds c =
     )
 
 cast-of : tie.Need-cast-of Inv-loop2 μ-loop2 Inv-loop μ-loop
-cast-of c = omega (arith, c .before .before .before .before .before .before .wide .ensures, c .before .before .before .before .loop-test .taken, c .before .before .before .before .before .before .before .before .before .before .pre .0 .framed .small .few-cells)
+cast-of c =
+    let s = c .before .before .before .before .before .before .before .before .before .before in
+    omega (
+      arith,
+      c .before .before .before .before .before .before .wide .ensures,
+      c .before .before .before .before .loop-test .taken,
+      s .pre .0 .framed .small .few-cells,
+    )
 
 slice-write-of : tie.Need-slice-write-of Inv-loop2 μ-loop2 Inv-loop μ-loop
 slice-write-of c = omega (arith, c .loop2-test .taken, c .before .loop2 .inv .1, c .before .loop2 .inv .2)
@@ -97,7 +134,16 @@ loop2-again c =
       search needs,
       search needs,
       simp length-set (l .inv .2),
-      λ κ e. (omega (arith, f κ e .0), f κ e .1, filled-more _ κ (l .of) (l .i) (c .before .before .before .before .before .loop .c) (omega (arith, c .loop2-test .taken, l .inv .1, l .inv .2)) (omega (arith, c .before .before .before .before .loop-test .taken, c .before .before .before .before .before .loop .inv .1)) (f κ e .0) (omega (arith, f κ e .1, c .loop2-test .taken)) (f κ e .2)),
+      λ κ e. (
+        omega (arith, f κ e .0),
+        f κ e .1,
+        filled-more _ κ (l .of) (l .i) (c .before .before .before .before .before .loop .c)
+            (omega (arith, c .loop2-test .taken, l .inv .1, l .inv .2)) (omega (
+              arith,
+              c .before .before .before .before .loop-test .taken,
+              c .before .before .before .before .before .loop .inv .1,
+            )) (f κ e .0) (omega (arith, f κ e .1, c .loop2-test .taken)) (f κ e .2),
+      ),
     )
 
 add-c : tie.Need-add-c Inv-loop2 μ-loop2 Inv-loop μ-loop

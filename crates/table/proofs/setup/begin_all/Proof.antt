@@ -41,34 +41,54 @@ wide-requires-2 : tie.Need-wide-requires-2 Inv-loop μ-loop
 wide-requires-2 c κs = search needs
 
 add-owner : tie.Need-add-owner Inv-loop μ-loop
-add-owner c = omega (arith, begun-low _ _ _ _ _ _ (c .before .before .before .loop .inv), cell-in _ _ _ _ _ _ (c .before .before .before .loop .inv) (c .before .before .loop-test .taken))
+add-owner c =
+    let s = c .before .before .before in
+    omega (arith, begun-low _ _ _ _ _ _ (s .loop .inv), cell-in _ _ _ _ _ _ (s .loop .inv) (c .before .before .loop-test .taken))
 
 mul-owner : tie.Need-mul-owner Inv-loop μ-loop
-mul-owner c = omega (arith, begun-low _ _ _ _ _ _ (c .before .before .before .loop .inv), cell-in _ _ _ _ _ _ (c .before .before .before .loop .inv) (c .before .before .loop-test .taken))
+mul-owner c =
+    let s = c .before .before .before in
+    omega (arith, begun-low _ _ _ _ _ _ (s .loop .inv), cell-in _ _ _ _ _ _ (s .loop .inv) (c .before .before .loop-test .taken))
 
 slice-read-owner : tie.Need-slice-read-owner Inv-loop μ-loop
 slice-read-owner c = omega (arith, cell-in _ _ _ _ _ _ (c .before .before .before .before .loop .inv) (c .before .before .before .loop-test .taken))
 
 add-group : tie.Need-add-group Inv-loop μ-loop
-add-group c = omega (arith, begun-low _ _ _ _ _ _ (c .before .before .before .before .loop .inv), cell-in _ _ _ _ _ _ (c .before .before .before .before .loop .inv) (c .before .before .before .loop-test .taken))
+add-group c =
+    let s = c .before .before .before .before in
+    omega (arith, begun-low _ _ _ _ _ _ (s .loop .inv), cell-in _ _ _ _ _ _ (s .loop .inv) (c .before .before .before .loop-test .taken))
 
 mul-group : tie.Need-mul-group Inv-loop μ-loop
-mul-group c = omega (arith, begun-low _ _ _ _ _ _ (c .before .before .before .before .loop .inv), cell-in _ _ _ _ _ _ (c .before .before .before .before .loop .inv) (c .before .before .before .loop-test .taken))
+mul-group c =
+    let s = c .before .before .before .before in
+    omega (arith, begun-low _ _ _ _ _ _ (s .loop .inv), cell-in _ _ _ _ _ _ (s .loop .inv) (c .before .before .before .loop-test .taken))
 
 slice-read-group : tie.Need-slice-read-group Inv-loop μ-loop
 slice-read-group c = omega (arith, cell-in _ _ _ _ _ _ (c .before .before .before .before .before .loop .inv) (c .before .before .before .before .loop-test .taken))
 
 mul-begin : tie.Need-mul-begin Inv-loop μ-loop
-mul-begin c = omega (arith, begun-low _ _ _ _ _ _ (c .before .before .before .before .before .before .loop .inv), record-in _ _ _ _ _ _ (c .before .before .before .before .before .before .loop .inv) (c .before .before .before .before .before .loop-test .taken))
+mul-begin c =
+    let s = c .before .before .before .before .before .before in
+    omega (arith, begun-low _ _ _ _ _ _ (s .loop .inv), record-in _ _ _ _ _ _ (s .loop .inv) (c .before .before .before .before .before .loop-test .taken))
 
 add-begin : tie.Need-add-begin Inv-loop μ-loop
-add-begin c = omega (arith, begun-low _ _ _ _ _ _ (c .before .before .before .before .before .before .loop .inv), record-in _ _ _ _ _ _ (c .before .before .before .before .before .before .loop .inv) (c .before .before .before .before .before .loop-test .taken))
+add-begin c =
+    let s = c .before .before .before .before .before .before in
+    omega (arith, begun-low _ _ _ _ _ _ (s .loop .inv), record-in _ _ _ _ _ _ (s .loop .inv) (c .before .before .before .before .before .loop-test .taken))
 
 begin-requires : tie.Need-begin-requires Inv-loop μ-loop
-begin-requires c κs = omega (arith, record-in _ _ _ _ _ _ (c .before .before .before .before .before .before .loop .inv) (c .before .before .before .before .before .loop-test .taken))
+begin-requires c κs =
+    let s = c .before .before .before .before .before .before in
+    omega (arith, record-in _ _ _ _ _ _ (s .loop .inv) (c .before .before .before .before .before .loop-test .taken))
 
 add-slot : tie.Need-add-slot Inv-loop μ-loop
-add-slot c = omega (arith, slot-in _ _ _ _ _ _ (c .before .before .before .before .before .before .before .before .before .loop .inv) (c .before .before .before .before .before .before .before .before .loop-test .taken) _ (c .before .before .before .before .before .before .wide2 .ensures))
+add-slot c =
+    let s = c .before .before .before .before .before .before .before .before .before in
+    omega (
+      arith,
+      slot-in _ _ _ _ _ _ (s .loop .inv) (c .before .before .before .before .before .before .before .before .loop-test .taken) _
+          (c .before .before .before .before .before .before .wide2 .ensures),
+    )
 
 add-c : tie.Need-add-c Inv-loop μ-loop
 add-c c = omega (arith, c .before .before .before .before .before .before .before .before .loop-test .taken)
@@ -77,7 +97,10 @@ loop-less : tie.Need-loop-less Inv-loop μ-loop
 loop-less c = search needs
 
 loop-again : tie.Need-loop-again Inv-loop μ-loop
-loop-again c = begun-more _ _ _ _ _ _ (c .before .before .before .before .before .before .before .before .before .loop .inv) (c .before .before .before .before .before .before .before .before .loop-test .taken) _ _ _ _ (c .before .before .before .before .before .before .wide2 .ensures) refl refl (c .before .before .begin .ensures)
+loop-again c =
+    let s = c .before .before .before .before .before .before .before .before .before in
+    begun-more _ _ _ _ _ _ (s .loop .inv) (c .before .before .before .before .before .before .before .before .loop-test .taken) _ _ _ _
+    (c .before .before .before .before .before .before .wide2 .ensures) refl refl (c .before .before .begin .ensures)
 
 same-length : tie.Need-same-length Inv-loop μ-loop
 same-length c = begun-long _ _ _ _ _ _ (c .before .loop .inv)

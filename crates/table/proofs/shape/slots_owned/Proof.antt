@@ -30,19 +30,35 @@ add-wide : tie.Need-add-wide Inv-loop μ-loop
 add-wide c = omega (arith, c .before .before .wide .ensures, c .loop-test .taken, c .before .before .before .before .pre .0 .small .few-cells)
 
 add-wide-2 : tie.Need-add-wide-2 Inv-loop μ-loop
-add-wide-2 c = omega (arith, c .before .before .wide .ensures, c .loop-test .taken, c .before .before .before .before .pre .0 .small .few-cells, c .before .before .before .before .pre .1)
+add-wide-2 c =
+    let s = c .before .before .before .before in
+    omega (arith, c .before .before .wide .ensures, c .loop-test .taken, s .pre .0 .small .few-cells, s .pre .1)
 
 mul-wide-2 : tie.Need-mul-wide-2 Inv-loop μ-loop
-mul-wide-2 c = omega (arith, c .before .before .wide .ensures, c .loop-test .taken, c .before .before .before .before .pre .0 .small .few-cells, c .before .before .before .before .pre .1)
+mul-wide-2 c =
+    let s = c .before .before .before .before in
+    omega (arith, c .before .before .wide .ensures, c .loop-test .taken, s .pre .0 .small .few-cells, s .pre .1)
 
 shared-slice-read-wide : tie.Need-shared-slice-read-wide Inv-loop μ-loop
-shared-slice-read-wide c = omega (arith, c .before .before .before .wide .ensures, c .before .loop-test .taken, c .before .before .before .before .before .pre .0 .exact, c .before .before .before .before .before .pre .1)
+shared-slice-read-wide c =
+    let s = c .before .before .before .before .before in
+    omega (arith, c .before .before .before .wide .ensures, c .before .loop-test .taken, s .pre .0 .exact, s .pre .1)
 
 wide-requires-2 : tie.Need-wide-requires-2 Inv-loop μ-loop
 wide-requires-2 c κs = search needs
 
 add-sum : tie.Need-add-sum Inv-loop μ-loop
-add-sum c = omega (arith, c .wide2 .ensures, c .before .before .before .loop .inv .3, c .before .before .before .before .wide .ensures, c .before .before .loop-test .taken, c .before .before .before .before .before .before .pre .0 .small .few-cells, c .before .shared-slice-known2 .given (headerWords + cellWords * c .before .before .before .loop .c + c .before .before .before .before .before .before .args .k))
+add-sum c =
+    let s = c .before .before .before .before .before .before in
+    omega (
+      arith,
+      c .wide2 .ensures,
+      c .before .before .before .loop .inv .3,
+      c .before .before .before .before .wide .ensures,
+      c .before .before .loop-test .taken,
+      s .pre .0 .small .few-cells,
+      c .before .shared-slice-known2 .given (headerWords + cellWords * c .before .before .before .loop .c + s .args .k),
+    )
 
 add-c : tie.Need-add-c Inv-loop μ-loop
 add-c c = search needs
@@ -56,7 +72,8 @@ loop-again c =
     let l = c .before .before .before .loop in (
       search needs,
       search needs,
-      sum-next _ (l .inv .2) (c .wide2 .ensures ∙ sym (cell-word (s .args .t .now) (l .c) (s .args .k) (omega (arith, c .before .before .before .before .wide .ensures, c .before .before .loop-test .taken, s .pre .0 .header .cells-is)) (s .pre .1))),
+      sum-next _ (l .inv .2) (c .wide2 .ensures ∙ sym (cell-word (s .args .t .now) (l .c) (s .args .k)
+          (omega (arith, c .before .before .before .before .wide .ensures, c .before .before .loop-test .taken, s .pre .0 .header .cells-is)) (s .pre .1))),
       omega (arith, c .wide2 .ensures, l .inv .3, c .before .shared-slice-known2 .given (headerWords + cellWords * l .c + s .args .k)),
     )
 
