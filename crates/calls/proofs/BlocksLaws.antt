@@ -70,7 +70,8 @@ pub stretch-written : (s d l₁ l₂ : List ℕ) (x n k size b : ℕ) → k ≡ 
     → putMid x k (putMid x k s l₁) l₂ ≡ sets (sets s (x + size * blockBytes) (replicate ((b - size) * blockBytes) 0)) (x + b * blockBytes) d
 stretch-written s d l₁ l₂ x n k size b e hs hb q₁ q₂ =
     let z : length (replicate {A = ℕ} ((b - size) * blockBytes) 0) ≡ (b - size) * blockBytes = length-replicate ((b - size) * blockBytes) 0 in
-    let e₁ : putMid x k s l₁ ≡ sets s (x + size * blockBytes) (replicate ((b - size) * blockBytes) 0) = ap (putMid x k s) q₁ ∙ mid-sets x k (replicate ((b - size) * blockBytes) 0) s (size * blockBytes) (omega arith) in
+    let e₁ : putMid x k s l₁ ≡ sets s (x + size * blockBytes) (replicate ((b - size) * blockBytes) 0) = ap (putMid x k s) q₁
+    ∙ mid-sets x k (replicate ((b - size) * blockBytes) 0) s (size * blockBytes) (omega arith) in
     ap (putMid x k (putMid x k s l₁)) q₂ ∙ mid-sets x k d (putMid x k s l₁) (b * blockBytes) (omega arith) ∙ ap (λ (y : List ℕ). sets y (x + b * blockBytes) d) e₁
 
 pub part-length : (s : List ℕ) (i n : ℕ) → i + n ≤ length s → length (take n (drop i s)) ≡ n

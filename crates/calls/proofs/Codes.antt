@@ -84,7 +84,8 @@ module _ (t : List ℕ) (p code a b c : ℕ) {r : Answer} {t′ : List ℕ} wher
   plain-4 e l s buffer =
       plain-by t p code a b c s buffer (λ h q. rendezvous h q p a b buffer) (coded t s p a b c buffer e) refl refl (l buffer)
 
-  pub plain-5 : code ≡ 5 → ((buffer : List ℕ) → Left t (λ h q. giveUpRule h q segment p a XnSgDes XbSgDes buffer) r t′) → (s buffer : List ℕ) → Plain t p code a b c r t′ s buffer
+  pub plain-5 : code ≡ 5 → ((buffer : List ℕ) → Left t (λ h q. giveUpRule h q segment p a XnSgDes XbSgDes buffer) r t′) → (s buffer : List ℕ)
+      → Plain t p code a b c r t′ s buffer
   unfolding ruleOf releaseSegment
   plain-5 e l s buffer =
       plain-by t p code a b c s buffer (λ h q. giveUpRule h q segment p a XnSgDes XbSgDes buffer) (coded t s p a b c buffer e) refl refl (l buffer)
@@ -122,7 +123,8 @@ module _ (t : List ℕ) (p code a b c : ℕ) {r : Answer} {t′ : List ℕ} wher
   pub plain-12 : code ≡ 12 → ((buffer : List ℕ) → Left t (λ h q. setBits h q p a b buffer) r t′) → (s buffer : List ℕ) → Plain t p code a b c r t′ s buffer
   unfolding ruleOf setBits
   plain-12 e l s buffer =
-      plain-by t p code a b c s buffer (λ h q. setBits h q p a b buffer) (coded t s p a b c buffer e) (bits-plain (configuration t) (rd (configuration t) t) p a b buffer .0) (bits-plain (configuration t) (rd (configuration t) t) p a b buffer .1) (l buffer)
+      plain-by t p code a b c s buffer (λ h q. setBits h q p a b buffer) (coded t s p a b c buffer e)
+      (bits-plain (configuration t) (rd (configuration t) t) p a b buffer .0) (bits-plain (configuration t) (rd (configuration t) t) p a b buffer .1) (l buffer)
 
   pub plain-18 : code ≡ 18 → ((buffer : List ℕ) → Left t (λ h q. accessOf h q p a buffer) r t′) → (s buffer : List ℕ) → Plain t p code a b c r t′ s buffer
   unfolding ruleOf accessOf
@@ -185,7 +187,8 @@ module _ (t s : List ℕ) (p code a b c : ℕ) (buffer : List ℕ) where
   bad-table e re = rw e (record { answered = ap ruleAnswer re; table = refl; store = refl; buffer = refl })
 
   module _ (good : test (wellFormed t (length s)) ≡ true) where
-    pub bad-caller : {r : Answer} → badCaller (configuration t) (rd (configuration t) t) p ≡ true → r ≡ said 2 0 0 → Did (step (stateOf t s) (callOf p code a b c buffer)) r t s buffer
+    pub bad-caller : {r : Answer} → badCaller (configuration t) (rd (configuration t) t) p ≡ true → r ≡ said 2 0 0
+        → Did (step (stateOf t s) (callOf p code a b c buffer)) r t s buffer
     unfolding step wholeRule carriedOut
     bad-caller e re = rw (good, e) (record { answered = ap ruleAnswer re; table = refl; store = refl; buffer = refl })
 

@@ -54,7 +54,8 @@ pub give-up-number : (h : List ℕ) (r : Addr → ℕ) (k : Kind) (p a beyond em
     → e₂ ≡ firstRefusal (giveUpRule h r k p a beyond empty buffer .refusals)
 give-up-number h r k p a beyond empty buffer lb le xe ze ee₁ ee₂ =
     rw (ee₂, ee₁, ze, xe)
-    (refusing-first ((leb entries a ⇒ beyond) ∷ (eqb (r (at process p (heldAt k a))) 0 ⇒ empty) ∷ []) (rw (ne-eqb beyond 0 (λ q. omega arith), ne-eqb empty 0 (λ q. omega arith))))
+    (refusing-first ((leb entries a ⇒ beyond) ∷ (eqb (r (at process p (heldAt k a))) 0 ⇒ empty) ∷ [])
+    (rw (ne-eqb beyond 0 (λ q. omega arith), ne-eqb empty 0 (λ q. omega arith))))
 
 -- ---- 10 and 11: link and unlink. s is the seid, f what is seen of it, m its links
 
@@ -172,7 +173,8 @@ module _ (h : List ℕ) (r : Addr → ℕ) (p a b : ℕ) (buffer : List ℕ) {s 
 
 module _ {t : List ℕ} {n : Header} {c : Caller} (sound : Sound t n c) (a b : ℕ) (buffer : List ℕ) {d z e₁ e₂ e₃ e₄ : ℕ} {ok : Bool} {f : Slot}
     (slot : f ≡ slotFound (configuration t) (wordsOf t) file (c .cell)) (entry : d ≡ freeEntry (wordsOf t) file (c .slot)) (first : e₁ ≡ orRefuse 0 (ltb maxBits a) XbParam)
-    (modes : ok ≡ validModes b) (second : e₂ ≡ orRefuse e₁ (not ok) XbadModes) (wide : z ≡ d) (third : e₃ ≡ orRefuse e₂ (leb entries z) XodSpace) (last : e₄ ≡ orRefuse e₃ (f .none) XnoSpace) where
+    (modes : ok ≡ validModes b) (second : e₂ ≡ orRefuse e₁ (not ok) XbadModes) (wide : z ≡ d) (third : e₃ ≡ orRefuse e₂ (leb entries z) XodSpace)
+    (last : e₄ ≡ orRefuse e₃ (f .none) XnoSpace) where
   create-found : e₄ ≡ firstRefusal ((ltb maxBits a ⇒ XbParam) ∷ (not (validModes b) ⇒ XbadModes) ∷ (leb entries d ⇒ XodSpace) ∷ (f .none ⇒ XnoSpace) ∷ [])
   create-found =
       rw (last, third, wide, second, modes, first)
@@ -183,10 +185,12 @@ module _ {t : List ℕ} {n : Header} {c : Caller} (sound : Sound t n c) (a b : �
   create-number = create-found ∙ rw (entry, slot, sound .home)
 
   pub create-room : e₄ ≡ 0 → f .none ≡ false
-  create-room q = clear-of ((ltb maxBits a ⇒ XbParam) ∷ (not (validModes b) ⇒ XbadModes) ∷ (leb entries d ⇒ XodSpace) ∷ (f .none ⇒ XnoSpace) ∷ []) refl (sym create-found ∙ q) .1 .1 .1 .0
+  create-room q = clear-of ((ltb maxBits a ⇒ XbParam) ∷ (not (validModes b) ⇒ XbadModes) ∷ (leb entries d ⇒ XodSpace) ∷ (f .none ⇒ XnoSpace) ∷ []) refl
+      (sym create-found ∙ q) .1 .1 .1 .0
 
   -- x is the slot's serial, u and g the caller's owner and group, s the new seid
-  module _ (none : e₄ ≡ 0) {x u g s : ℕ} (xe : x ≡ wordsOf t (at file (f .index) serial)) (ue : u ≡ wordsOf t (at process (c .slot) owner)) (ge : g ≡ wordsOf t (at process (c .slot) group))
+  module _ (none : e₄ ≡ 0) {x u g s : ℕ} (xe : x ≡ wordsOf t (at file (f .index) serial)) (ue : u ≡ wordsOf t (at process (c .slot) owner))
+      (ge : g ≡ wordsOf t (at process (c .slot) group))
       (se : s ≡ seidOf (class file) (f .index) (x + 1)) where
     pub create-seid : s ≡ ruleAt t (λ h q. create h q (c .slot) a b buffer) .effects .first
     unfolding create
@@ -198,10 +202,24 @@ module _ {t : List ℕ} {n : Header} {c : Caller} (sound : Sound t n c) (a b : �
     unfolding create
     create-words oe e₁ pe e₂ =
         e₂
-        ∙ rw (e₁, oe, pe, begins (sound .known) file (f .index), spot (sound .known) (at process (c .slot) (heldAt file d)), new-seid sound file slot (create-room none) xe se, xe, ue, ge)
-        (sym (made-is (configuration t) t file (f .index) (wordsOf t (at file (f .index) serial) + 1) (wordsOf t (at process (c .slot) owner)) (wordsOf t (at process (c .slot) group)) a 0 0 1
+        ∙ rw (
+          e₁,
+          oe,
+          pe,
+          begins (sound .known) file (f .index),
+          spot (sound .known) (at process (c .slot) (heldAt file d)),
+          new-seid sound file slot
+              (create-room none) xe se,
+          xe,
+          ue,
+          ge,
+        )
+        (sym (made-is (configuration t) t file (f .index) (wordsOf t (at file (f .index) serial) + 1) (wordsOf t (at process (c .slot) owner))
+        (wordsOf t (at process (c .slot) group)) a 0 0 1
         (entered file (c .slot) d (seid (class file) (f .index) (wordsOf t (at file (f .index) serial) + 1)) b)
-        ∙ entered-is (configuration t) (madeAt t (offset (configuration t) (at file (f .index) 0)) (wordsOf t (at file (f .index) serial) + 1) (wordsOf t (at process (c .slot) owner)) (wordsOf t (at process (c .slot) group)) a 0 0 1) file (c .slot) d (seid (class file) (f .index) (wordsOf t (at file (f .index) serial) + 1)) b [] refl)
+        ∙ entered-is (configuration t) (madeAt t (offset (configuration t) (at file (f .index) 0)) (wordsOf t (at file (f .index) serial) + 1)
+        (wordsOf t (at process (c .slot) owner)) (wordsOf t (at process (c .slot) group)) a 0 0 1) file (c .slot) d
+        (seid (class file) (f .index) (wordsOf t (at file (f .index) serial) + 1)) b [] refl)
         ∙ rw (slot, entry, sound .home))
 
 -- ---- 8: open. The search for a clash: x is entry d of process p
@@ -225,7 +243,8 @@ module _ {t : List ℕ} {n : Header} {s b : ℕ} (good : Clashable t n s b) (p d
       ∙ sym (ap (λ (y : Bool). y && clash (wordsOf t (at process p (usedAt file d))) b) (eq-eqb _ s held))
 
 -- the processes of the caller's cell: from is the first, m how many there are
-module _ (t : List ℕ) (cell s b : ℕ) {from m : ℕ} (fe : from ≡ firstBy (configuration t) (cellSlotsWord process) cell) (me : m ≡ cellWord (configuration t) cell (cellSlotsWord process)) where
+module _ (t : List ℕ) (cell s b : ℕ) {from m : ℕ} (fe : from ≡ firstBy (configuration t) (cellSlotsWord process) cell)
+    (me : m ≡ cellWord (configuration t) cell (cellSlotsWord process)) where
   pub none-clash : ((k : ℕ) → k < m → someBelow entries (clashesAt (wordsOf t) s b (from + k)) ≡ false) → clashes (configuration t) (wordsOf t) cell s b ≡ false
   unfolding clashes
   none-clash h = rw (← first-by-kind (configuration t) process cell, ← fe, ← me) (some-none m (λ i. someBelow entries (clashesAt (wordsOf t) s b (from + i))) h)
@@ -238,7 +257,8 @@ module _ (t : List ℕ) (cell s b : ℕ) {from m : ℕ} (fe : from ≡ firstBy (
 
 -- the refusals: s is the seid, f what is seen of it, d the descriptor that was found
 module _ {t : List ℕ} {n : Header} {c : Caller} (sound : Sound t n c) (a b : ℕ) (buffer : List ℕ) {s d e₁ : ℕ} {f : Seen} (self : s ≡ orSelf (wordsOf t) (c .slot) a)
-    (seen : f ≡ seenAs (configuration t) (wordsOf t) (c .slot) file (namedOf n file s)) (entry : d ≡ freeEntry (wordsOf t) file (c .slot)) (first : e₁ ≡ refusing 0 (openTests f b)) where
+    (seen : f ≡ seenAs (configuration t) (wordsOf t) (c .slot) file (namedOf n file s)) (entry : d ≡ freeEntry (wordsOf t) file (c .slot))
+    (first : e₁ ≡ refusing 0 (openTests f b)) where
   -- past the first stage the search may be made
   pub may-clash : e₁ ≡ 0 → Clashable t n s b
   may-clash none =
@@ -250,7 +270,8 @@ module _ {t : List ℕ} {n : Header} {c : Caller} (sound : Sound t n c) (a b : �
         modes = passed (validModes b) (clear .0);
       }
 
-  module _ {z e₂ e₃ : ℕ} {clashing : Bool} (searched : clashing ≡ eqb e₁ 0 && (f .own && clashes (configuration t) (wordsOf t) (c .cell) s b)) (second : e₂ ≡ orRefuse e₁ clashing Xbusy) (wide : z ≡ d)
+  module _ {z e₂ e₃ : ℕ} {clashing : Bool} (searched : clashing ≡ eqb e₁ 0 && (f .own && clashes (configuration t) (wordsOf t) (c .cell) s b))
+      (second : e₂ ≡ orRefuse e₁ clashing Xbusy) (wide : z ≡ d)
       (last : e₃ ≡ orRefuse e₂ (leb entries z) XodSpace) where
     pub open-found : e₃ ≡ firstRefusal (openTests f b ++ (f .own && clashes (configuration t) (wordsOf t) (c .cell) s b ⇒ Xbusy) ∷ (leb entries d ⇒ XodSpace) ∷ [])
     open-found =
@@ -282,7 +303,8 @@ module _ {t : List ℕ} {n : Header} {c : Caller} (sound : Sound t n c) (a b : �
     -- past the refusals the seid is formed
     pub open-form : e₃ ≡ 0 → formed (configuration t) file s ≡ true
     open-form none =
-        let clear = clear-of (openTests f b ++ (f .own && clashes (configuration t) (wordsOf t) (c .cell) s b ⇒ Xbusy) ∷ (leb entries d ⇒ XodSpace) ∷ []) refl (sym open-found ∙ none) in
+        let clear = clear-of (openTests f b ++ (f .own && clashes (configuration t) (wordsOf t) (c .cell) s b ⇒ Xbusy) ∷ (leb entries d ⇒ XodSpace) ∷ []) refl
+        (sym open-found ∙ none) in
         form-past (sound .known) (c .slot) file s seen (clear .1 .0)
 
     pub open-fits : e₃ ≡ 0 → {object : ℕ} → object ≡ recordOf n file (f .slot) → getD t (object + opens) 0 ≤ maxSlots * entries
@@ -293,7 +315,8 @@ module _ {t : List ℕ} {n : Header} {c : Caller} (sound : Sound t n c) (a b : �
     unfolding openFile
     open-words none pe oe =
         let form = open-form none in
-        taken-told (sound .known) file (c .slot) d s b refl (slot-is (sound .known) (c .slot) file s seen form) (own-is (sound .known) (c .slot) file s seen form) pe oe ∙ rw (entry, self)
+        taken-told (sound .known) file (c .slot) d s b refl (slot-is (sound .known) (c .slot) file s seen form)
+        (own-is (sound .known) (c .slot) file s seen form) pe oe ∙ rw (entry, self)
 
 pub and-none : (x : Bool) → x && false ≡ false
 and-none true = refl

@@ -33,11 +33,22 @@ own-few h r k i l =
 module _ {t : List ℕ} {n : Header} {c : Caller} (sound : Sound t n c) where
   few-holders : (k : Kind) (i : ℕ) → holdable k ≡ true → i < slots (configuration t) k → wordsOf t (at k i (holders k)) ≤ maxSlots * entries
   few-holders process i th l = both-ways false th refl
-  few-holders segment i th l = omega (arith, references-counted (configuration t) (wordsOf t) (sound .records) i l, own-few (configuration t) (wordsOf t) segment i (shape (sound .known) .few process))
-  few-holders file i th l = omega (arith, opens-counted (configuration t) (wordsOf t) (sound .records) i l, own-few (configuration t) (wordsOf t) file i (shape (sound .known) .few process))
+  few-holders segment i th l = omega (
+    arith,
+    references-counted (configuration t) (wordsOf t) (sound .records) i l,
+    own-few (configuration t) (wordsOf t) segment i
+        (shape (sound .known) .few process),
+  )
+  few-holders file i th l = omega (
+    arith,
+    opens-counted (configuration t) (wordsOf t) (sound .records) i l,
+    own-few (configuration t) (wordsOf t) file i
+        (shape (sound .known) .few process),
+  )
 
   -- the count as the code reads it, where the object's record begins at a place
-  pub one-fits : (k : Kind) (i : ℕ) {object : ℕ} → holdable k ≡ true → i < slots (configuration t) k → object ≡ recordOf n k i → getD t (object + holders k) 0 ≤ maxSlots * entries
+  pub one-fits : (k : Kind) (i : ℕ) {object : ℕ} → holdable k ≡ true → i < slots (configuration t) k → object ≡ recordOf n k i
+      → getD t (object + holders k) 0 ≤ maxSlots * entries
   unfolding rd
   one-fits k i {object} th l oe =
       let e : offset (configuration t) (at k i (holders k)) ≡ object + holders k = omega (arith, begins (sound .known) k i) in

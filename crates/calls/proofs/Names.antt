@@ -51,12 +51,25 @@ bits-small file e = omega arith
 
 -- ---- what is seen, field by field
 
-module _ {t : List ℕ} {n : Header} {c : Caller} (sound : Sound t n c) {m : List (List Bool)} (matrix : m ≡ flowMatrix (configuration t)) (k : Kind) (s : ℕ) {name : Named} {cell live-word serial-word owner-word group-word bits-at bits-word mine my-group x : ℕ} {f : Bool} (name-is : name ≡ namedOf n k s)
-    (cell-is : cell ≡ cellOf (configuration t) k (name .slot)) (live-is : live-word ≡ wordsOf t (at k (name .slot) live)) (serial-is : serial-word ≡ wordsOf t (at k (name .slot) serial))
+module _ {t : List ℕ} {n : Header} {c : Caller} (sound : Sound t n c) {m : List (List Bool)} (matrix : m ≡ flowMatrix (configuration t)) (k : Kind)
+    (s : ℕ) {name : Named} {cell live-word serial-word owner-word group-word bits-at bits-word mine my-group x : ℕ} {f : Bool} (name-is : name ≡ namedOf n k s)
+    (cell-is : cell ≡ cellOf (configuration t) k (name .slot)) (live-is : live-word ≡ wordsOf t (at k (name .slot) live))
+    (serial-is : serial-word ≡ wordsOf t (at k (name .slot) serial))
     (owner-is : owner-word ≡ wordsOf t (at k (name .slot) owner)) (group-is : group-word ≡ wordsOf t (at k (name .slot) group)) (bits-at-is : bits-at ≡ bits k)
-    (bits-is : bits-word ≡ wordsOf t (at k (name .slot) bits-at)) (mine-is : mine ≡ wordsOf t (at process (c .slot) owner)) (my-group-is : my-group ≡ wordsOf t (at process (c .slot) group))
+    (bits-is : bits-word ≡ wordsOf t (at k (name .slot) bits-at)) (mine-is : mine ≡ wordsOf t (at process (c .slot) owner))
+    (my-group-is : my-group ≡ wordsOf t (at process (c .slot) group))
     (flow-is : f ≡ getD (getD m cell []) (c .cell) false) (rights-is : x ≡ rights mine my-group owner-word group-word bits-word) where
-  pub seen : _≡_ {A = Seen} (record { formed = name .formed; slot = name .slot; cell = cell; own = eqb cell (c .cell); flows = f; present = eqb live-word 1 && eqb serial-word (name .serial); mine = eqb owner-word mine; rights = x })
+  pub seen : _≡_ {A = Seen} (record {
+    formed = name .formed;
+    slot = name .slot;
+    cell = cell;
+    own = eqb cell
+        (c .cell);
+    flows = f;
+    present = eqb live-word 1 && eqb serial-word (name .serial);
+    mine = eqb owner-word mine;
+    rights = x;
+  })
       (seenAs (configuration t) (wordsOf t) (c .slot) k (namedOf n k s))
   unfolding rightsAt
   seen =

@@ -82,7 +82,8 @@ pub record Posted (t : List ℕ) (n : Header) (c : Caller) (a : ℕ) (b : List �
 pub posted : {t : List ℕ} {n : Header} {c : Caller} → Sound t n c → {m : List (List Bool)} → m ≡ flowMatrix (configuration t) → (a : ℕ) (b : List ℕ)
     {s waiting y e e2 e3 e4 e5 e6 : ℕ} {to : Seen} {flow allowed : Bool} → s ≡ orSelf (wordsOf t) (c .slot) a
     → to ≡ seenAs (configuration t) (wordsOf t) (c .slot) process (namedOf n process s) → waiting ≡ wordsOf t (at process (to .slot) queue) → y ≡ waiting
-    → allowed ≡ mayWrite (to .rights) → flow ≡ getD (getD m (c .cell) []) (to .cell) false → e ≡ orRefuse 0 (not (eqb (length b) textBytes)) XbSz → e2 ≡ orRefuse e (not (to .formed)) XbPrSd
+    → allowed ≡ mayWrite (to .rights) → flow ≡ getD (getD m (c .cell) []) (to .cell) false → e ≡ orRefuse 0 (not (eqb (length b) textBytes)) XbSz
+    → e2 ≡ orRefuse e (not (to .formed)) XbPrSd
     → e3 ≡ orRefuse e2 (not flow) XnoAcc → e4 ≡ orRefuse e3 (to .own && not (to .present)) XbPrSd → e5 ≡ orRefuse e4 (to .own && not allowed) XdapViol
     → e6 ≡ orRefuse e5 (to .own && leb messages y) XpostEh → Posted t n c a b to waiting y e6
 posted {t} {n} {c} sound {m} matrix a b {y = y} {to = to} {flow} named seen waits wide may flow-is long form level here bits full =

@@ -30,7 +30,8 @@ use Rattle.calls.proofs.Worlds.{spot, shape, cells-is, first-by-kind, f
 -- ---- cells
 
 -- so many slots as the table has at most are in the runs up to a cell
-pub first-fits : {t : List ℕ} {n : Header} → Known t n → (k c : ℕ) → c ≤ n .cells → firstBy (configuration t) k (cells (configuration t)) ≤ maxSlots → firstBy (configuration t) k c ≤ maxSlots
+pub first-fits : {t : List ℕ} {n : Header} → Known t n → (k c : ℕ) → c ≤ n .cells → firstBy (configuration t) k (cells (configuration t)) ≤ maxSlots
+    → firstBy (configuration t) k c ≤ maxSlots
 first-fits {t} {n} known k c l m = omega (arith, first-bound (configuration t) k c (cells (configuration t)) (omega (arith, cells-is known)))
 
 -- the caller's cell is one of the table's
@@ -56,7 +57,12 @@ chosen-low : {t : List ℕ} {base size from i end best least : ℕ} → Chosen t
 unfolding freeTest serialAt
 chosen-low {t} {base} {size} {from} {i} {end} {best} {least} c = elim (ℕ-discrete best end) [
   | yes e ↦ omega (arith, c .none e)
-  | no n ↦ omega (arith, c .one n, ltb-true (getD t (base + size * best + serial) 0) maxSerial (and-right (eqb (getD t (base + size * best + live) 0) 0) (ltb (getD t (base + size * best + serial) 0) maxSerial) (c .choice .one n .passes)))
+  | no n ↦ omega (
+    arith,
+    c .one n,
+    ltb-true (getD t (base + size * best + serial) 0) maxSerial
+        (and-right (eqb (getD t (base + size * best + live) 0) 0) (ltb (getD t (base + size * best + serial) 0) maxSerial) (c .choice .one n .passes)),
+  )
 ]
 
 or-other : (a b : Bool) → a ≡ true → a && b ≡ false → b ≡ false
@@ -75,7 +81,8 @@ module _ {t : List ℕ} {base size from i end best least : ℕ} (lo : from ≤ i
   taken-next e =
       let less = ltb-true z least (and-right (eqb x 0) (ltb z least) e) in
       let small : z < maxSerial = omega (arith, chosen-low c) in
-      let free : freeTest t base size i ≡ true = rw (← ye, ← xe, ← ze) (and-both (eqb x 0) (ltb z maxSerial) (and-left (eqb x 0) (ltb z least) e) (lt-ltb z maxSerial small)) in
+      let free : freeTest t base size i ≡ true = rw (← ye, ← xe, ← ze) (and-both (eqb x 0) (ltb z maxSerial) (and-left (eqb x 0) (ltb z least) e)
+      (lt-ltb z maxSerial small)) in
       record {
         choice = choice-taken (freeTest t base size) (serialAt t base size) from i end best lo hi (c .choice) free (λ n. omega (arith, c .one n, serial-is));
         none = λ q. absurd (omega arith);
@@ -95,11 +102,13 @@ module _ {t : List ℕ} {base size from i end best least : ℕ} (lo : from ≤ i
     one = c .one;
   }
 
-  pub chosen-next : (b : Bool) {best′ least′ : ℕ} → eqb x 0 && ltb z least ≡ b → best′ ≡ cond b i best → least′ ≡ cond b z least → Chosen t base size from (i + 1) end best′ least′
+  pub chosen-next : (b : Bool) {best′ least′ : ℕ} → eqb x 0 && ltb z least ≡ b → best′ ≡ cond b i best → least′ ≡ cond b z least
+      → Chosen t base size from (i + 1) end best′ least′
   chosen-next true e be le = rw (be, le) (taken-next e)
   chosen-next false e be le = rw (be, le) (past-next e)
 
-pub chosen-end : {t : List ℕ} {base size from : ℕ} (n : ℕ) {i end best least : ℕ} → end ≡ from + n → i ≡ end → Chosen t base size from i end best least → best ≡ freeAt t base size n from
+pub chosen-end : {t : List ℕ} {base size from : ℕ} (n : ℕ) {i end best least : ℕ} → end ≡ from + n → i ≡ end → Chosen t base size from i end best least
+    → best ≡ freeAt t base size n from
 unfolding freeAt
 chosen-end {t} {base} {size} {from} n {best = best} ee ie c = choice-end (freeTest t base size) (serialAt t base size) n from best (rw (ie, ee) at (c .choice))
 
@@ -165,7 +174,8 @@ pub seid-made : (k : Kind) {i z s : ℕ} → i < maxSlots → z < maxSerial → 
 seid-made k {i} {z} l m se = se ∙ seid-fits (class k) i (z + 1) (class-small k) l (omega arith)
 
 -- in the caller's
-module _ {t : List ℕ} {n : Header} {c : Caller} (sound : Sound t n c) (k : Kind) {x : Slot} (found : x ≡ slotFound (configuration t) (wordsOf t) k (c .cell)) (room : x .none ≡ false) where
+module _ {t : List ℕ} {n : Header} {c : Caller} (sound : Sound t n c) (k : Kind) {x : Slot} (found : x ≡ slotFound (configuration t) (wordsOf t) k (c .cell))
+    (room : x .none ≡ false) where
   pub taken : FreeSlot (configuration t) (wordsOf t) k (c .cell) (x .index)
   taken = taken-in (sound .known) k (c .cell) (omega (arith, home-in sound, cells-is (sound .known))) found room
 

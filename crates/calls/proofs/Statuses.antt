@@ -119,16 +119,19 @@ module _ (t : List ℕ) (p a : ℕ) (b : List ℕ) {s n : ℕ} (own : s ≡ orSe
   unfolding status
   of-process e x = rw (← own, eq-eqb (classOf s) 4 (sym class-is ∙ e)) x
 
-  pub of-segment : {r : Answer} {z : List ℕ} → (n ≡ 4 → ⊥) → n ≡ 5 → Shown (ruleAt t (λ h q. statusOf h q p s b segment)) b r z → Shown (ruleAt t (λ h q. status h q p a b)) b r z
+  pub of-segment : {r : Answer} {z : List ℕ} → (n ≡ 4 → ⊥) → n ≡ 5 → Shown (ruleAt t (λ h q. statusOf h q p s b segment)) b r z
+      → Shown (ruleAt t (λ h q. status h q p a b)) b r z
   unfolding status
   of-segment f e x = rw (← own, ne-eqb (classOf s) 4 (λ q. f (class-is ∙ q)), eq-eqb (classOf s) 5 (sym class-is ∙ e)) x
 
-  pub of-file : {r : Answer} {z : List ℕ} → (n ≡ 4 → ⊥) → (n ≡ 5 → ⊥) → Shown (ruleAt t (λ h q. statusOf h q p s b file)) b r z → Shown (ruleAt t (λ h q. status h q p a b)) b r z
+  pub of-file : {r : Answer} {z : List ℕ} → (n ≡ 4 → ⊥) → (n ≡ 5 → ⊥) → Shown (ruleAt t (λ h q. statusOf h q p s b file)) b r z
+      → Shown (ruleAt t (λ h q. status h q p a b)) b r z
   unfolding status
   of-file f g x = rw (← own, ne-eqb (classOf s) 4 (λ q. f (class-is ∙ q)), ne-eqb (classOf s) 5 (λ q. g (class-is ∙ q))) x
 
 -- the level's two categories are bytes
-pub level-small : (t : List ℕ) (cell : ℕ) {l : Code.Level} → Holds (configured (configuration t)) → cell < cells (configuration t) → ruleLevel l ≡ levelOf (configuration t) cell
+pub level-small : (t : List ℕ) (cell : ℕ) {l : Code.Level} → Holds (configured (configuration t)) → cell < cells (configuration t)
+    → ruleLevel l ≡ levelOf (configuration t) cell
     → (l .security < 256) × (l .integrity < 256)
 unfolding levelOf
 level-small t cell {l} c m e =

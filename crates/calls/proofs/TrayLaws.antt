@@ -181,6 +181,7 @@ ready-kept t s bytes m r y t′ s′ bytes′ j ran =
     let x = record-kept (stateOf t s) bytes (recordOf r) w in
     let c = record-conf-kept (stateOf t s) bytes (recordOf r) w in
     record {
-      good = rw (ran .table, ran .store) (tested (wellFormed (recordStep (stateOf t s) bytes (recordOf r) .state .table) (length (recordStep (stateOf t s) bytes (recordOf r) .state .store))) x);
+      good = rw (ran .table, ran .store) (tested (wellFormed (recordStep (stateOf t s) bytes (recordOf r) .state .table)
+          (length (recordStep (stateOf t s) bytes (recordOf r) .state .store))) x);
       matrix = j .matrix ∙ ap flowMatrix (sym (ap configuration (ran .table) ∙ c));
     }

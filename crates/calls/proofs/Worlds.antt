@@ -62,7 +62,8 @@ unfolding firstBy firstSlot
 first-by-kind h k c = refl
 
 -- word k of cell c, read at the number y of the cell
-pub cell-word : (t : List ℕ) {c k x y : ℕ} → c < cells (configuration t) → k < cellWords → y ≡ c → x ≡ getD t (headerWords + cellWords * y + k) 0 → x ≡ cellWord (configuration t) c k
+pub cell-word : (t : List ℕ) {c k x y : ℕ} → c < cells (configuration t) → k < cellWords → y ≡ c → x ≡ getD t (headerWords + cellWords * y + k) 0
+    → x ≡ cellWord (configuration t) c k
 unfolding cellWord
 cell-word t {c} {k} l m ye xe =
     let n : c < cells t = omega (arith, conf-cells t) in

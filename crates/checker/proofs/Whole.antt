@@ -103,7 +103,8 @@ fed-same x t st l o s i ys p room k e short = split _ (waits x)
     a = turn (x .session) t st l (drop i s) i
 
     turned : waits x ≡ false → length (a .text) ≤ lineBytes
-        → Same x t st l o (drop i s ++ ys) (filled x (a .session) (min (length (a .text)) (length o))) (a .table) (a .store) (a .buffer) (sets o 0 (a .text)) (drop (a .next) s ++ ys)
+        → Same x t st l o (drop i s ++ ys) (filled x (a .session) (min (length (a .text)) (length o))) (a .table) (a .store) (a .buffer) (sets o 0 (a .text))
+        (drop (a .next) s ++ ys)
     turned w h =
         let hands : Hands (x .session) t st l (drop i s) ys a = turn-hands (x .session) t st l (drop i s) ys i (p .fine) in
         let rest : a .rest ++ ys ≡ drop (a .next) s ++ ys = ap (λ (z : List ℕ). z ++ ys) (turn-rest (x .session) t st l s i) in
@@ -144,7 +145,8 @@ last-same x t st l o p room = split _ (waits x)
 abbrev expected : Check → List ℕ → List ℕ → List ℕ → List ℕ → List ℕ → List ℕ → code.Finding
 expected x t st l o s r = coded (scanned (x .lines) (x .within) (ahead x t st l o s) r)
 
-goes-same : (x : Check) (t st l o s : List ℕ) (x′ : Check) (t′ st′ l′ o′ s′ r : List ℕ) → Same x t st l o s x′ t′ st′ l′ o′ s′ → expected x′ t′ st′ l′ o′ s′ r ≡ expected x t st l o s r
+goes-same : (x : Check) (t st l o s : List ℕ) (x′ : Check) (t′ st′ l′ o′ s′ r : List ℕ) → Same x t st l o s x′ t′ st′ l′ o′ s′
+    → expected x′ t′ st′ l′ o′ s′ r ≡ expected x t st l o s r
 goes-same x t st l o s x′ t′ st′ l′ o′ s′ r p =
     ap₂ (λ (n : ℕ) (w : Bool). coded (scanned n w (ahead x′ t′ st′ l′ o′ s′) r)) (p .lines) (p .within)
     ∙ ap (λ (z : List ℕ). coded (scanned (x .lines) (x .within) z r)) (sym (p .text))

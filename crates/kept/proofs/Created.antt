@@ -79,8 +79,14 @@ module _ (h : List ℕ) (r : Addr → ℕ) (p : ℕ) (c : Caller h r p) (k : Kin
   own-new : Own h (over r words) k i
   own-new =
       let me = c .fine .own process p (c .in-range) in
-      live-record (over r words) k i _ (word 0) (rw (word 1) (omega arith)) (rw (word 1) (omega (arith, f .not-worn))) (rw (word 2) (me .owner-fits)) (rw (word 3) (me .group-fits))
-      (object-alive h (over r words) k i o (record { bits-fit = rw (object-words k o .bits-at, word 4) bits-fit; particular = rw (word 5, word 6) particular; needed = λ z. rw count-is (omega arith) }))
+      live-record (over r words) k i _ (word 0) (rw (word 1) (omega arith)) (rw (word 1) (omega (arith, f .not-worn))) (rw (word 2) (me .owner-fits))
+      (rw (word 3) (me .group-fits))
+      (object-alive h (over r words) k i o (record {
+        bits-fit = rw (object-words k o .bits-at, word 4) bits-fit;
+        particular = rw
+            (word 5, word 6) particular;
+        needed = λ z. rw count-is (omega arith);
+      }))
 
   -- no entry holds a serial that has not been given
   unheld : (a : ℕ) → a < entries → r (at process p (heldAt k a)) ≡ new → ⊥

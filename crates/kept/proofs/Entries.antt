@@ -69,7 +69,8 @@ module _ (h : List ℕ) (r : Addr → ℕ) (p : ℕ) (c : Caller h r p) (k : Kin
     (writes-own : writeUse k u ≡ true → cellOf h k (indexOf s) ≡ cellOf h process p) (fresh : Fresh r k p d s) where
   filled-by : (B : List Word) → AllOf (InRecord k (indexOf s)) B → Own h (over r B) k (indexOf s)
       → over r B (at k (indexOf s) live) ≡ r (at k (indexOf s) live) → over r B (at k (indexOf s) serial) ≡ r (at k (indexOf s) serial)
-      → ((q : Addr → ℕ) → q (at process p (heldAt k d)) ≡ s → over r B (at k (indexOf s) (holders k)) ≡ r (at k (indexOf s) (holders k)) + one (ownEntry h q k (indexOf s) p d))
+      → ((q : Addr → ℕ) → q (at process p (heldAt k d)) ≡ s → over r B (at k (indexOf s) (holders k)) ≡ r (at k (indexOf s) (holders k)) + one
+      (ownEntry h q k (indexOf s) p d))
       → Keeps h r (entered k p d s u ++ B)
   filled-by B a own e0 e1 counts = entry-first h r (c .fine) k o p d (indexOf s) s u (c .in-range) (c .alive) dl (record {
     in-range = f .parts .index-in;

@@ -96,7 +96,12 @@ module _ (h : List ℕ) (r : Addr → ℕ) (w : Fine h r) (k : Kind) (o : Object
           let e = x .entry-after in
           record {
             empty = e .empty;
-            held = λ n. let y = e .held n in record { form = y .form; serial-known = rw (x .new-index n, b .in-object serial) (rw (x .new-index n) at (y .serial-known)); flow = y .flow };
+            held = λ n. let y = e .held n in record {
+              form = y .form;
+              serial-known = rw (x .new-index n, b .in-object serial)
+                  (rw (x .new-index n) at (y .serial-known));
+              flow = y .flow;
+            };
             current-live = λ n c. rw (x .new-index n) (b .in-object live ∙ (rw (x .new-index n) at (e .current-live n c)));
             current-serial = λ n c. rw (x .new-index n) (b .in-object serial) ∙ e .current-serial n c;
             valid = e .valid;

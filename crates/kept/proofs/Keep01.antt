@@ -31,7 +31,8 @@ pub spawned-word : (r : Addr → ℕ) (p a b c q s j : ℕ) → over r (spawned 
 unfolding over
 spawned-word r p a b c q s j = simp same-record
 
-module _ (h : List ℕ) (r : Addr → ℕ) (p : ℕ) (me : Caller h r p) (a b c q : ℕ) (f : FreeSlot h r process (cellOf h process p) q) (a-fits : a ≤ maxOwner) (b-fits : b ≤ maxOwner) (c-fits : c ≤ maxBits) where
+module _ (h : List ℕ) (r : Addr → ℕ) (p : ℕ) (me : Caller h r p) (a b c q : ℕ) (f : FreeSlot h r process (cellOf h process p) q) (a-fits : a ≤ maxOwner)
+    (b-fits : b ≤ maxOwner) (c-fits : c ≤ maxBits) where
   abbrev next : ℕ
   next = r (at process q serial) + 1
 
@@ -51,7 +52,15 @@ module _ (h : List ℕ) (r : Addr → ℕ) (p : ℕ) (me : Caller h r p) (a b c 
         parent-ok = rw (word 4) (λ n. (own-found h r p me .form, rw (own-index h r p me) (sym (f .in-cell))));
         bits-fit = rw (word 6) c-fits;
         beyond = λ j l n. word j
-            ∙ rw (ne-eqb j 6 n, ne-eqb j 4 (λ e. omega arith), ne-eqb j 3 (λ e. omega arith), ne-eqb j 2 (λ e. omega arith), ne-eqb j 1 (λ e. omega arith), ne-eqb j 0 (λ e. omega arith));
+            ∙ rw (
+              ne-eqb j 6 n,
+              ne-eqb j 4 (λ e. omega arith),
+              ne-eqb j 3 (λ e. omega arith),
+              ne-eqb j 2 (λ e. omega arith),
+              ne-eqb j 1 (λ e. omega arith),
+              ne-eqb j 0
+                  (λ e. omega arith),
+            );
       })
 
 pub keeps : (h : List ℕ) (r : Addr → ℕ) (p : ℕ) → Caller h r p → (a b c : ℕ) (buffer : List ℕ) → KeptBy h r (spawn h r p a b c buffer)

@@ -29,7 +29,8 @@ record Dropped (h : List ℕ) (r : Addr → ℕ) (k : Kind) (q : ℕ) (D : ℕ �
   beside : (j : ℕ) → j < pagesAt → ((d : ℕ) → D d → (j ≡ heldAt k d → ⊥) × (j ≡ usedAt k d → ⊥)) → over r ws (at process q j) ≡ r (at process q j)
 
 -- one entry
-module _ (h : List ℕ) (r : Addr → ℕ) (w : Fine h r) (k : Kind) (o : Object k) (q : ℕ) (ql : q < slots h process) (lives : r (at process q live) ≡ 1) (d : ℕ) (dl : d < entries) where
+module _ (h : List ℕ) (r : Addr → ℕ) (w : Fine h r) (k : Kind) (o : Object k) (q : ℕ) (ql : q < slots h process) (lives : r (at process q live) ≡ 1) (d : ℕ)
+    (dl : d < entries) where
   drop-if : (b : Bool) → eqb (r (at process q (heldAt k d))) 0 ≡ b
       → Dropped h r k q (λ e. e ≡ d) (cond b [] (givenUp h r k q d (r (at process q (heldAt k d)))))
   unfolding over
@@ -53,7 +54,8 @@ module _ (h : List ℕ) (r : Addr → ℕ) (w : Fine h r) (k : Kind) (o : Object
   drop-more n ws vs l a b = record {
     keeps = keeps-then h r ws vs (a .keeps) (b .keeps);
     gone = λ d dl. rw (over-append r ws vs) (by-slot (λ d. d < suc n → over (over r ws) vs (at process q (heldAt k d)) ≡ 0) n (λ x. b .gone n refl)
-        (λ d ne x. b .beside (heldAt k d) (let y = placed k o d (omega arith) in omega arith) (λ e en. let y = placed k o d (omega arith) in let z = placed k o e (omega arith) in (
+        (λ d ne x. b .beside (heldAt k d) (let y = placed k o d (omega arith) in omega arith)
+        (λ e en. let y = placed k o d (omega arith) in let z = placed k o e (omega arith) in (
           λ f. place-apart k k o o d e (omega arith) (omega arith) (λ h g. ne (g ∙ en)) (omega arith),
           λ f. omega arith,
         )) ∙ a .gone d (omega arith)) d dl);
@@ -89,7 +91,8 @@ module _ (h : List ℕ) (r : Addr → ℕ) (w : Fine h r) (q : ℕ) (ql : q < sl
 
 -- both kinds given up
 none : (h : List ℕ) (r : Addr → ℕ) (q : ℕ) {files : List Word} (segments : List Word) → Dropped h r file q (λ d. d < entries) files
-    → Dropped h (over r files) segment q (λ d. d < entries) segments → (k : Kind) → Object k → (d : ℕ) → d < entries → over (over r files) segments (at process q (heldAt k d)) ≡ 0
+    → Dropped h (over r files) segment q (λ d. d < entries) segments → (k : Kind) → Object k → (d : ℕ) → d < entries
+    → over (over r files) segments (at process q (heldAt k d)) ≡ 0
 none h r q segments a b process o d l = absurd o
 none h r q segments a b segment o d l = b .gone d l
 none h r q segments a b file o d l = b .beside (heldAt file d) (omega arith) (λ e el. (λ f. omega arith, λ f. omega arith)) ∙ a .gone d l

@@ -55,7 +55,8 @@ module _ (h : List ℕ) (r : Addr → ℕ) (p : ℕ) (me : Caller h r p) (a b : 
       let e5 = past queue (λ e. omega arith) in
       keeps-process h r (me .fine) p (me .in-range) in-it (record {
         others = elsewhere process p in-it r;
-        own-process = live-process h r _ p (me .alive) mine (λ j l n m. past j (λ e. omega arith)) (rw e5 (x .queue-fits)) (rw (past (bits process) (λ e. omega arith)) (x .bits-fit))
+        own-process = live-process h r _ p (me .alive) mine (λ j l n m. past j (λ e. omega arith)) (rw e5 (x .queue-fits))
+            (rw (past (bits process) (λ e. omega arith)) (x .bits-fit))
             (λ d e dl el. rw (held segment tt d dl, held segment tt e el) (x .once d e dl el))
             (λ m j ml jl full. past (messageAt m j) (λ e. omega arith) ∙ x .unused m j ml jl (rw e5 at full))
             (λ g l. rw (past (pageAt g) (λ e. omega arith)) (paged-same h r (over r ((at process p (usedAt segment a) ≔ b) ∷ [])) p _ (held segment tt) (x .paged g l)));

@@ -43,7 +43,8 @@ module _ (me q n : ℕ) (buffer : List ℕ) where
     word j = simp same-record
 
     -- a word of neither the queue's length nor message n
-    pub queued-past : (j : ℕ) → (j ≡ queue → ⊥) → (messageAt n 0 ≤ j → j < messageAt n 0 + messageWords → ⊥) → over r (queued me q buffer n) (at process q j) ≡ r (at process q j)
+    pub queued-past : (j : ℕ) → (j ≡ queue → ⊥) → (messageAt n 0 ≤ j → j < messageAt n 0 + messageWords → ⊥)
+        → over r (queued me q buffer n) (at process q j) ≡ r (at process q j)
     queued-past j x y = word j
         ∙ rw (
           ne-eqb j (messageAt n 3) (λ e. y (omega arith) (omega arith)),

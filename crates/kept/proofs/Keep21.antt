@@ -46,8 +46,14 @@ module _ (h : List ℕ) (r : Addr → ℕ) (w : Fine h r) (x : Copy) (c f : ℕ)
       let held = w .own file f (free .in-range) .free (free .is-free) 7 (omega arith) (omega arith) in
       keeps-object h r w file tt f (free .in-range) (regraded-in x f next) (record {
         others = elsewhere file f (regraded-in x f next) r;
-        own-object = live-record _ file f _ (word 0) (rw (word 1) (omega arith)) (rw (word 1) (omega (arith, free .not-worn))) (rw (word 2) owner-fits) (rw (word 3) group-fits)
-            (object-alive h _ file f tt (record { bits-fit = rw (word 4) bits-fit; particular = rw (word 5, word 6) (omega arith, size-fits); needed = rw (word 5) (λ z. absurd (true≢false z)) }));
+        own-object = live-record _ file f _ (word 0) (rw (word 1) (omega arith)) (rw (word 1) (omega (arith, free .not-worn))) (rw (word 2) owner-fits)
+            (rw (word 3) group-fits)
+            (object-alive h _ file f tt (record {
+              bits-fit = rw (word 4) bits-fit;
+              particular = rw (word 5, word 6) (omega arith, size-fits);
+              needed = rw (word 5)
+                  (λ z. absurd (true≢false z));
+            }));
         serial-grown = omega (arith, word 1);
         same-holders = word 7 ∙ sym held;
         steady = λ a. absurd (omega (arith, held));

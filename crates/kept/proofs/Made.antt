@@ -77,4 +77,5 @@ free-record q k i A e s z = record {
 pub freed-record : (r : Addr → ℕ) (k : Kind) (i : ℕ) (A : Type 0) → r (at k i serial) ≤ maxSerial → Record (over r (freed k i)) k i A
 freed-record r k i A s =
     let w = words-some k in
-    free-record (over r (freed k i)) k i A (freed-word k i r live (omega arith) (λ e. omega arith)) (rw (freed-serial k i r) s) (λ j a b. freed-word k i r j b (λ e. omega arith))
+    free-record (over r (freed k i)) k i A (freed-word k i r live (omega arith) (λ e. omega arith)) (rw (freed-serial k i r) s)
+    (λ j a b. freed-word k i r j b (λ e. omega arith))

@@ -25,7 +25,8 @@ keeps-mail h r {ws} w p l lives in-it beside queue-fits unused senders =
     λ k o d dl. let y = placed k o d dl in beside (heldAt k d) (λ a b. omega arith) (λ e. omega arith) in
     keeps-process h r w p l in-it (record {
       others = elsewhere process p in-it r;
-      own-process = live-process h r _ p lives mine (λ j jl n m. beside j (λ a b. omega arith) n) queue-fits (rw (beside (bits process) (λ a b. omega arith) (λ e. omega arith)) (x .bits-fit))
+      own-process = live-process h r _ p lives mine (λ j jl n m. beside j (λ a b. omega arith) n) queue-fits
+          (rw (beside (bits process) (λ a b. omega arith) (λ e. omega arith)) (x .bits-fit))
           (λ d e dl el. rw (held segment tt d dl, held segment tt e el) (x .once d e dl el)) unused
           (λ g gl. rw (beside (pageAt g) (λ a b. omega arith) (λ e. omega arith)) (paged-same h r (over r ws) p _ (held segment tt) (x .paged g gl)));
       serial-grown = rw (beside serial (λ a b. omega arith) (λ e. omega arith)) (omega arith);

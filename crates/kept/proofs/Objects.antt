@@ -32,7 +32,8 @@ module _ (h : List ℕ) (r : Addr → ℕ) (k : Kind) (o : Object k) (i : ℕ) (
       let e2 = word-past r k i n v owner (λ e. omega arith) in
       let e3 = word-past r k i n v group (λ e. omega arith) in
       let w = word-if r k i n v in
-      live-record _ k i _ (e0 ∙ lives) (omega (arith, old .serial-some lives)) (omega (arith, old .serial-fits)) (omega (arith, old .owner-fits)) (omega (arith, old .group-fits))
+      live-record _ k i _ (e0 ∙ lives) (omega (arith, old .serial-some lives)) (omega (arith, old .serial-fits)) (omega (arith, old .owner-fits))
+      (omega (arith, old .group-fits))
       (object-alive h _ k i o
       (record { bits-fit = rw (w (bits k)) (a .bits-fit); particular = rw (w links, w size) (a .particular); needed = rw (w links, w (holders k)) (a .needed) }))
 
@@ -40,7 +41,12 @@ module _ (h : List ℕ) (r : Addr → ℕ) (k : Kind) (o : Object k) (i : ℕ) (
   own-holders v needed =
       let s = object-words k o in
       own-word (holders k) v (omega arith)
-      (record { bits-fit = rw (s .holders-at, s .bits-at) (rw (s .bits-at) at (alive-now .bits-fit)); particular = rw (s .holders-at) (alive-now .particular); needed = rw (s .holders-at) needed })
+      (record {
+        bits-fit = rw (s .holders-at, s .bits-at) (rw (s .bits-at) at (alive-now .bits-fit));
+        particular = rw (s .holders-at)
+            (alive-now .particular);
+        needed = rw (s .holders-at) needed;
+      })
 
 pub keeps-word : (h : List ℕ) (r : Addr → ℕ) (w : Fine h r) (k : Kind) → Object k → (i : ℕ) → i < slots h k → r (at k i live) ≡ 1
     → (n v : ℕ) → 4 ≤ n → n < 7 → AliveWith h r k i n v → Keeps h r ((at k i n ≔ v) ∷ [])

@@ -48,7 +48,8 @@ module _ (h : List ℕ) (r q : Addr → ℕ) where
     pub new-names : (m : ℕ) → (m ≡ i → ⊥) → ownEntry h q k m p d ≡ false
     pub holders-follow : q (at k i (holders k)) + one (ownEntry h r k i p d) ≡ r (at k i (holders k)) + one (ownEntry h q k i p d)
 
-  module _ (w : Fine h r) (k : Kind) (o : Object k) (p d i : ℕ) (pl : p < slots h process) (alive : r (at process p live) ≡ 1) (dl : d < entries) (x : EntryChanged k p d i) where
+  module _ (w : Fine h r) (k : Kind) (o : Object k) (p d i : ℕ) (pl : p < slots h process) (alive : r (at process p live) ≡ 1) (dl : d < entries)
+      (x : EntryChanged k p d i) where
     -- a process's word that is no part of the entry
     process-word : (g j : ℕ) → (g ≡ p → (j ≡ heldAt k d → ⊥) × (j ≡ usedAt k d → ⊥)) → q (at process g j) ≡ r (at process g j)
     process-word = by-slot (λ g. (j : ℕ) → (g ≡ p → (j ≡ heldAt k d → ⊥) × (j ≡ usedAt k d → ⊥)) → q (at process g j) ≡ r (at process g j)) p
@@ -109,7 +110,8 @@ module _ (h : List ℕ) (r q : Addr → ℕ) where
         (λ l n s g e gl el. other-entry l s g e gl el (λ a b c. n a))
 
     -- the process itself
-    once-now : (k : Kind) → Object k → Fresh r k p d (q (at process p (heldAt k d))) → ((l : Kind) → Object l → (e : ℕ) → e < entries → (l ≡ k → e ≡ d → ⊥) → q (at process p (heldAt l e)) ≡ r (at process p (heldAt l e)))
+    once-now : (k : Kind) → Object k → Fresh r k p d (q (at process p (heldAt k d)))
+        → ((l : Kind) → Object l → (e : ℕ) → e < entries → (l ≡ k → e ≡ d → ⊥) → q (at process p (heldAt l e)) ≡ r (at process p (heldAt l e)))
         → AliveProcess h r p → (e f : ℕ) → e < entries → f < entries → (e ≡ f → ⊥) → (q (at process p (heldAt segment f)) ≡ 0 → ⊥)
         → q (at process p (heldAt segment e)) ≡ q (at process p (heldAt segment f)) → ⊥
     once-now process s fresh same a e f el fl n some eq = absurd s
@@ -154,7 +156,8 @@ module _ (h : List ℕ) (r q : Addr → ℕ) where
         live-process h r q p alive own (λ j l n m. outside p j (λ a b. omega arith)) (rw e5 (a .queue-fits)) (rw (outside p (bits process) (λ a b. omega arith)) (a .bits-fit))
         (once-now k o (x .fresh) (λ l s e el n. entry-words l s p e el (λ lk gp ed. n lk ed) .0) a)
         (λ m j ml jl full. outside p (messageAt m j) (λ a b. omega arith) ∙ a .unused m j ml jl (rw e5 at full))
-        (λ g gl. rw (outside p (pageAt g) (λ a b. omega arith)) (paged-now k o (x .unmapped) (λ l s e el n. entry-words l s p e el (λ lk gp ed. n lk ed) .0) g gl (a .paged g gl)))
+        (λ g gl. rw (outside p (pageAt g) (λ a b. omega arith)) (paged-now k o (x .unmapped) (λ l s e el n. entry-words l s p e el (λ lk gp ed. n lk ed) .0) g gl
+        (a .paged g gl)))
 
     pub entry-changed : Fine h q
     entry-changed = record {

@@ -72,7 +72,8 @@ keeps-pages h r w p l lives f ok =
     λ k o d dl. let y = placed k o d dl in past (heldAt k d) (omega arith) in
     keeps-process h r w p l (pages-in p f) (record {
       others = elsewhere process p (pages-in p f) r;
-      own-process = live-process h r q p lives mine (λ j jl n m. past j (omega arith)) (rw (past queue (omega arith)) (x .queue-fits)) (rw (past (bits process) (omega arith)) (x .bits-fit))
+      own-process = live-process h r q p lives mine (λ j jl n m. past j (omega arith)) (rw (past queue (omega arith)) (x .queue-fits))
+          (rw (past (bits process) (omega arith)) (x .bits-fit))
           (λ d e dl el. rw (held segment tt d dl, held segment tt e el) (x .once d e dl el))
           (λ m j ml jl full. past (messageAt m j) (omega arith) ∙ x .unused m j ml jl (rw (past queue (omega arith)) at full))
           (λ g gl. rw (pages-at p f r g gl) (paged-same h r q p (f g) (held segment tt) (ok g gl)));

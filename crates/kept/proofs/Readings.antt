@@ -27,7 +27,8 @@ module _ (h : List ℕ) (r q : Addr → ℕ) where
       record { bits-fit = rw e4 (x .bits-fit); particular = rw (e5, e6) (x .particular); needed = rw (e5, e7) (x .needed) }
 
   -- what a page holds, while the entries that are filled stay so
-  pub paged-kept : (p v : ℕ) → ((d : ℕ) → d < entries → (r (at process p (heldAt segment d)) ≡ 0 → ⊥) → q (at process p (heldAt segment d)) ≡ 0 → ⊥) → Paged r p v → Paged q p v
+  pub paged-kept : (p v : ℕ) → ((d : ℕ) → d < entries → (r (at process p (heldAt segment d)) ≡ 0 → ⊥) → q (at process p (heldAt segment d)) ≡ 0 → ⊥) → Paged r p v
+      → Paged q p v
   paged-kept p v filled x n = let y = x n in (y .0, filled (v - 1) (omega (arith, y .0)) (y .1))
 
   pub paged-same : (p v : ℕ) → ((d : ℕ) → d < entries → q (at process p (heldAt segment d)) ≡ r (at process p (heldAt segment d))) → Paged r p v → Paged q p v
@@ -76,7 +77,8 @@ module _ (h : List ℕ) (r q : Addr → ℕ) where
       let a = own .alive lives in
       let e1 = head serial (omega arith) (λ e. omega arith) (λ e. omega arith) in
       live-record q process p _ (head live (omega arith) (λ e. omega arith) (λ e. omega arith) ∙ lives) (rw e1 (own .serial-some lives)) (rw e1 (own .serial-fits))
-      (rw (head owner (omega arith) (λ e. omega arith) (λ e. omega arith)) (own .owner-fits)) (rw (head group (omega arith) (λ e. omega arith) (λ e. omega arith)) (own .group-fits))
+      (rw (head owner (omega arith) (λ e. omega arith) (λ e. omega arith)) (own .owner-fits))
+      (rw (head group (omega arith) (λ e. omega arith) (λ e. omega arith)) (own .group-fits))
       (record {
         parent-ok = rw (head parent (omega arith) (λ e. omega arith) (λ e. omega arith)) (a .parent-ok);
         queue-fits = queue-fits;

@@ -46,7 +46,8 @@ module _ (s : State) (w : Holds (wellFormed (s .table) (length (s .store)))) whe
   all-fine : Fine conf reading
   all-fine = fine-of conf reading (good .records)
 
-  assembled : (t : List ℕ) (m : ℕ) → configuration t ≡ conf → length t ≡ length (s .table) → m ≡ length (s .store) → Holds (recordsOk conf (rd conf t)) → Holds (wellFormed t m)
+  assembled : (t : List ℕ) (m : ℕ) → configuration t ≡ conf → length t ≡ length (s .table) → m ≡ length (s .store) → Holds (recordsOk conf (rd conf t))
+      → Holds (wellFormed t m)
   unfolding wellFormed lengthsExact
   assembled t m c l n x = rw (c, l, n) (w .0, (w .1 .0, x))
 
@@ -56,7 +57,8 @@ module _ (s : State) (w : Holds (wellFormed (s .table) (length (s .store)))) whe
       let reads : (a : Addr) → Valid conf a → rd conf (write conf (s .table) ws) a ≡ over reading ws a = rd-write conf (s .table) (k .valid) (good .words) in
       record {
         well = assembled (write conf (s .table) ws) (length (store conf (s .store) bs)) (conf-write conf (s .table) ws refl) (length-write conf (s .table) ws)
-            (length-store conf (s .store) bs) (fine-holds conf (rd conf (write conf (s .table) ws)) (same-fine conf (over reading ws) (rd conf (write conf (s .table) ws)) reads (k .fine)));
+            (length-store conf (s .store) bs) (fine-holds conf (rd conf (write conf (s .table) ws))
+            (same-fine conf (over reading ws) (rd conf (write conf (s .table) ws)) reads (k .fine)));
         same-configuration = conf-write conf (s .table) ws refl;
         serials = λ g i l. rw (reads (at g i serial) (l, omega (arith, words-some g))) (k .grown g i l);
       }

@@ -33,7 +33,8 @@ pub same-part : (l m : List ℕ) (at n : ℕ) → at + n ≤ length l → at + n
 same-part l m at n h k same =
     let e = part-long l at n h in
     let f = part-long m at n k in
-    ext-getD 0 (part l at n) (part m at n) (e ∙ sym f) (λ i b. part-at l at n i (omega arith) ∙ same (at + i) (omega arith) (omega arith) ∙ sym (part-at m at n i (omega arith)))
+    ext-getD 0 (part l at n) (part m at n) (e ∙ sym f) (λ i b. part-at l at n i (omega arith) ∙ same (at + i) (omega arith) (omega arith)
+    ∙ sym (part-at m at n i (omega arith)))
 
 -- an element, or a part, written back as it stands
 set-self : (l : List ℕ) (i : ℕ) → i < length l → set l i (getD l i 0) ≡ l

@@ -57,7 +57,8 @@ has-and zero a b l h = ap (λ (x : ℕ). bitAnd x b) z ∙ sym z
     z = omega arith
 has-and (suc n) a b l h =
     join a b
-    (low-le (a % 2) (b % 2) (omega arith) (λ o. let e : b / 2 ^ 0 % 2 ≡ 1 = eqb-true (b / 2 ^ 0 % 2) 1 (h 0 (omega arith) (eq-eqb (a / 2 ^ 0 % 2) 1 (omega (arith, o)))) in omega arith))
+    (low-le (a % 2) (b % 2) (omega arith) (λ o. let e : b / 2 ^ 0 % 2 ≡ 1 = eqb-true (b / 2 ^ 0 % 2) 1
+    (h 0 (omega arith) (eq-eqb (a / 2 ^ 0 % 2) 1 (omega (arith, o)))) in omega arith))
     (has-and n (a / 2) (b / 2) (omega (arith, pow-suc 2 n))
     (λ k m p. rw half (h (suc k) (omega arith) (rw half at p))))
 

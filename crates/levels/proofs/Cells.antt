@@ -33,7 +33,8 @@ module _ (t : List ℕ) (n c : ℕ) (count : n ≡ getD t 0 0) where
   unfolding cellWord cells
   cell-in k x h l e = e ∙ sym (conf-cell t c k (omega arith) l)
 
-  pub level-in : c < n → (s i m : ℕ) → s ≡ getD t (headerWords + cellWords * c) 0 → i ≡ getD t (headerWords + cellWords * c + 1) 0 → m ≡ getD t (headerWords + cellWords * c + 2) 0
+  pub level-in : c < n → (s i m : ℕ) → s ≡ getD t (headerWords + cellWords * c) 0 → i ≡ getD t (headerWords + cellWords * c + 1) 0
+      → m ≡ getD t (headerWords + cellWords * c + 2) 0
       → level s i m ≡ levelOf (configuration t) c
   unfolding levelOf
   level-in h s i m p q r =
@@ -57,7 +58,8 @@ levelIn t c = codeLevel (levelOf (configuration t) c)
 abbrev pub nil : Level
 nil = codeLevel (level 0 0 0)
 
-pub levels-all : (t : List ℕ) (n c : ℕ) (all : List Level) → n ≡ min (getD t 0 0) maxCells → n ≤ c → all ≡ tabFrom 0 maxCells (upTo nil (levelIn t) c) → all ≡ tabFrom 0 maxCells (levelIn t)
+pub levels-all : (t : List ℕ) (n c : ℕ) (all : List Level) → n ≡ min (getD t 0 0) maxCells → n ≤ c → all ≡ tabFrom 0 maxCells (upTo nil (levelIn t) c)
+    → all ≡ tabFrom 0 maxCells (levelIn t)
 levels-all t n c all e h p =
     p ∙ upTo-all nil (levelIn t) maxCells c (λ k l m. ap codeLevel (level-past t (getD t 0 0) k refl (omega arith)))
 

@@ -95,7 +95,8 @@ module _ (C : ℕ → Bool) (d e : Done) (wd : Well (found d)) (we : Well (found
   two-trays told unasked = carried (secrecy.two-trays C (found d) (found e) wd we cl a (tray d) (tray e) (bytes d) (bytes e) p told unasked)
 
   -- as CR 9 and CR 14 say it
-  pub as-asked : eventsIn h C (found d) (bytes d) (tray d) ≡ eventsIn h C (found e) (bytes e) (tray e) → (guardWithin h C ≡ true → NamesNone h C (callsIn (tray d))) → Same C d e
+  pub as-asked : eventsIn h C (found d) (bytes d) (tray d) ≡ eventsIn h C (found e) (bytes e) (tray e) → (guardWithin h C ≡ true → NamesNone h C (callsIn (tray d)))
+      → Same C d e
   as-asked told unasked = carried (secrecy.as-asked C (found d) (found e) wd we cl a (tray d) (tray e) (bytes d) (bytes e) p told unasked)
 
   -- demand 3 of trays as it was, where no record is a regrade, or where there is no guard cell

@@ -143,7 +143,8 @@ stood [] k n v y rest c h e = no-number y rest e
 stood (b ∷ s) k n v y rest c h e =
     elim (decLt b 128) [
       | yes l ↦ stood-last k n v b s y rest l e
-      | no m ↦ stood-other s k n v b y rest c (h 0 (omega arith)) (omega arith) (λ k d f. stood s k (n + 1) (v + b % 128 * 128 ^ n) y rest d (λ i j. h (suc i) (omega arith)) f) e
+      | no m ↦ stood-other s k n v b y rest c (h 0 (omega arith)) (omega arith)
+          (λ k d f. stood s k (n + 1) (v + b % 128 * 128 ^ n) y rest d (λ i j. h (suc i) (omega arith)) f) e
     ]
 
 -- what is accepted is the encoding of its value

@@ -131,7 +131,8 @@ by-entry P me i here there = by-slot (λ p. (d : ℕ) → P p d) me (by-slot (P 
 
 -- descriptor i of process me gets s with modes b, and no other descriptor of s in its cell clashes with b
 record Filled (h : List ℕ) (r v : Addr → ℕ) (me i s b : ℕ) : Type 0 where
-  others : (p d : ℕ) → d < entries → (p ≡ me → d ≡ i → ⊥) → (v (at process p (heldAt file d)) ≡ r (at process p (heldAt file d))) × (v (at process p (usedAt file d)) ≡ r (at process p (usedAt file d)))
+  others : (p d : ℕ) → d < entries → (p ≡ me → d ≡ i → ⊥) → (v (at process p (heldAt file d)) ≡ r (at process p (heldAt file d))) ×
+      (v (at process p (usedAt file d)) ≡ r (at process p (usedAt file d)))
   held : v (at process me (heldAt file i)) ≡ s
   used : v (at process me (usedAt file i)) ≡ b
   alone : (q e : ℕ) → q < slots h process → e < entries → r (at process q (heldAt file e)) ≡ s → cellOf h file (indexOf s) ≡ cellOf h process me
@@ -157,7 +158,8 @@ by-filling h r v me i s b f free = by-entry (λ p d. (q e : ℕ) → Compatible 
 -- the two words of a descriptor, beside an object's
 module _ (r : Addr → ℕ) (me i s b : ℕ) (il : i < entries) where
   beside : (p d : ℕ) → d < entries → (p ≡ me → d ≡ i → ⊥)
-      → (over r (entered file me i s b) (at process p (heldAt file d)) ≡ r (at process p (heldAt file d))) × (over r (entered file me i s b) (at process p (usedAt file d)) ≡ r (at process p (usedAt file d)))
+      → (over r (entered file me i s b) (at process p (heldAt file d)) ≡ r (at process p (heldAt file d))) ×
+      (over r (entered file me i s b) (at process p (usedAt file d)) ≡ r (at process p (usedAt file d)))
   beside p d dl n = elim (ℕ-discrete p me) [
     | yes e ↦ rw e (
       entered-beside r file tt me i s b il (heldAt file d) (λ x. n e (omega arith)) (λ x. omega arith),
@@ -189,7 +191,8 @@ module _ (r : Addr → ℕ) (me i s b : ℕ) (il : i < entries) where
     entry-first p j = rw (over-append r (entered file me i s b) B) (elsewhere file f a (over r (entered file me i s b)) process p j (λ e x. no-process file tt (sym e)))
 
     object-first : (p j : ℕ) → over r (B ++ entered file me i s b) (at process p j) ≡ over r (entered file me i s b) (at process p j)
-    object-first p j = rw (over-append r B (entered file me i s b)) (over-at (entered file me i s b) (over r B) r (at process p j) (elsewhere file f a r process p j (λ e x. no-process file tt (sym e))))
+    object-first p j = rw (over-append r B (entered file me i s b)) (over-at (entered file me i s b) (over r B) r (at process p j)
+        (elsewhere file f a r process p j (λ e x. no-process file tt (sym e))))
 
 module _ (h : List ℕ) (r : Addr → ℕ) (p : ℕ) (me : Caller h r p) (free : ClashFree h r) where
   -- create: nobody holds a serial that has not been given
@@ -233,7 +236,8 @@ module _ (h : List ℕ) (r : Addr → ℕ) (p : ℕ) (me : Caller h r p) (free :
       let at-q : firstSlot h process c + j ≡ q = omega arith in
       let none : clashes h r c s b ≡ false = rw (eq-eqb _ _ cp) at (ok .1 .1 .1 .1 .1 .0) in
       let here : eqb (r (at process q (heldAt file e))) s && clash (r (at process q (usedAt file e))) b ≡ false =
-      rw at-q at (none-at entries (clashesAt r s b (firstSlot h process c + j)) (none-at (cellSlots h process c) (λ i. someBelow entries (clashesAt r s b (firstSlot h process c + i))) none j (omega arith)) e el) in
+      rw at-q at (none-at entries (clashesAt r s b (firstSlot h process c + j))
+      (none-at (cellSlots h process c) (λ i. someBelow entries (clashesAt r s b (firstSlot h process c + i))) none j (omega arith)) e el) in
       clash-swap b _ ∙ rw (eq-eqb _ _ same) at here))
       free
 

@@ -61,7 +61,8 @@ begun-in q a b =
     word-in process q live 1 (omega arith) (word-in process q serial 1 (omega arith) (word-in process q owner a (omega arith) (word-in process q group b (omega arith)
     (word-in process q (bits process) firstBits (omega arith) nil))))
 
-module _ (h : List ℕ) (r : Addr → ℕ) (w : Fine h r) (q a b : ℕ) (l : q < slots h process) (zeros : (j : ℕ) → r (at process q j) ≡ 0) (a-fits : a ≤ maxOwner) (b-fits : b ≤ maxOwner) where
+module _ (h : List ℕ) (r : Addr → ℕ) (w : Fine h r) (q a b : ℕ) (l : q < slots h process) (zeros : (j : ℕ) → r (at process q j) ≡ 0) (a-fits : a ≤ maxOwner)
+    (b-fits : b ≤ maxOwner) where
   word : (j : ℕ) → over r (begun q a b) (at process q j)
       ≡ cond (eqb j 6) firstBits (cond (eqb j 3) b (cond (eqb j 2) a (cond (eqb j 1) 1 (cond (eqb j 0) 1 (r (at process q j))))))
   unfolding over

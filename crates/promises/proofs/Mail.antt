@@ -93,7 +93,8 @@ module _ (s : State) (k : Call) (p m : ℕ) (x : Waiting s p m) where
         let l = later (configuration (s .table)) _ (s .store) k p (its-caller s k (x .well) ok) (x .alive)
         (λ c i. unreleased (c, ok, i)) (not-received ok) (own-clear s k ok) in (
           still m (after live (omega arith) ∙ l .same-live) (omega (arith, after queue (omega arith), l .no-fewer, x .behind)),
-          same-bytes (next s k) s p m m (λ j jl. after (messageAt m j) (omega (arith, few s p m x, x .behind)) ∙ l .same-message m j (omega (arith, few s p m x, x .behind)) (x .behind) jl),
+          same-bytes (next s k) s p m m (λ j jl. after (messageAt m j) (omega (arith, few s p m x, x .behind))
+              ∙ l .same-message m j (omega (arith, few s p m x, x .behind)) (x .behind) jl),
         )
     | no n ↦ rw (refused s k n .state) (x, refl)
   ]
@@ -136,8 +137,10 @@ module _ (s : State) (k : Call) (p m : ℕ) (x : Waiting s p m) where
         let r = rd (configuration (s .table)) (s .table) in
         let after : (j : ℕ) → j < recordWords process → wordOf (next s k) p j ≡ over r (taken r p) (at process p j) =
         λ j jl. word-after s k p (x .well) (x .in-range) received j jl ∙ ap (λ (y : Rule). over r (y .effects .words) (at process p j)) its-rule in (
-          still n (after live (omega arith) ∙ taken-past r p live (λ x y. omega arith) (λ e. omega arith)) (omega (arith, after queue (omega arith), taken-length r p, x .behind)),
-          same-bytes (next s k) s p n m (λ j jl. after (messageAt n j) (omega (arith, few s p m x, x .behind)) ∙ rw e (taken-later r p n j (omega (arith, few s p m x, x .behind)) jl)),
+          still n (after live (omega arith) ∙ taken-past r p live (λ x y. omega arith) (λ e. omega arith))
+              (omega (arith, after queue (omega arith), taken-length r p, x .behind)),
+          same-bytes (next s k) s p n m (λ j jl. after (messageAt n j) (omega (arith, few s p m x, x .behind))
+              ∙ rw e (taken-later r p n j (omega (arith, few s p m x, x .behind)) jl)),
         )
 
 -- ---- the statement

@@ -108,7 +108,8 @@ module _ (s : State) (k : Call) (w : Well s) (code : k .code ≡ 19) (ok : step 
     -- and met none in use but by the outgoing one
     pub met-none : (i : ℕ) → i < covers → f (k .b + i) ≡ 0
     unfolding conflict
-    met-none i l = eqb-true (f (k .b + i)) 0 (passed-over (eqb (f (k .b + i)) 0) (none-at covers (λ i. not (eqb (f (k .b + i)) 0)) (or-right (ltb pages (k .b + covers)) _ no-conflict) i l))
+    met-none i l = eqb-true (f (k .b + i)) 0 (passed-over (eqb (f (k .b + i)) 0)
+        (none-at covers (λ i. not (eqb (f (k .b + i)) 0)) (or-right (ltb pages (k .b + covers)) _ no-conflict) i l))
       where
         passed-over : (a : Bool) → not a ≡ false → a ≡ true
         passed-over true e = refl
@@ -165,7 +166,13 @@ stale-goes-out s k w in-range alive code none c some g gl mapped =
     let there : someBelow pages (λ g. eqb (r (at process (k .caller) (pageAt g))) (k .c + 1)) ≡ true =
     some-of pages (λ g. eqb (r (at process (k .caller) (pageAt g))) (k .c + 1)) g gl (eq-eqb _ _ mapped) in
     goes-on s k w in-range alive code-good
-    (rw (code, none) (rw (le-ltb entries (k .c) (omega arith)), (rw (lt-ltb (k .c) entries c, ne-eqb _ 0 some), (refl, (rw (lt-ltb (k .c) entries c, there), (refl, (refl, tt)))))))
+    (rw (code, none) (
+      rw (le-ltb entries (k .c) (omega arith)),
+      (
+        rw (lt-ltb (k .c) entries c, ne-eqb _ 0 some),
+        (refl, (rw (lt-ltb (k .c) entries c, there), (refl, (refl, tt)))),
+      ),
+    ))
 
 -- "Both none succeeds and changes nothing": every page is as it was (and so is all else: `pages-alone`)
 pub both-none : (s : State) (k : Call) → Well s → k .caller < slots (configuration (s .table)) process
@@ -279,8 +286,10 @@ pub map-own : (s : State) (k : Call) → Well s → (p : ℕ) → p < slots (con
 map-own s k w p pl alive other unreleased g gl = elim (ℕ-discrete (step s k .answered .error) XOK) [
   | no n ↦ refused-map s k n p g
   | yes ok ↦ rw (conf-kept s k w) (read-after s k w ok (at process p (pageAt g)) (pl, omega arith)
-      ∙ over-miss (at process p (pageAt g)) (all-map (λ x y e. past x y (sym (ap (λ (b : Addr). b .kind) e)) (sym (ap (λ (b : Addr). b .slot) e)) (ap (λ (b : Addr). b .word) e))
-      (writes (configuration (s .table)) (rd (configuration (s .table)) (s .table)) (s .store) k (its-caller s k w ok) (own-clear s k ok))) (rd (configuration (s .table)) (s .table)))
+      ∙ over-miss (at process p (pageAt g)) (all-map (λ x y e. past x y (sym (ap (λ (b : Addr). b .kind) e)) (sym (ap (λ (b : Addr). b .slot) e))
+      (ap (λ (b : Addr). b .word) e))
+      (writes (configuration (s .table)) (rd (configuration (s .table)) (s .table)) (s .store) k (its-caller s k w ok) (own-clear s k ok)))
+      (rd (configuration (s .table)) (s .table)))
 ]
   where
     acted : (q : ℕ) → Acting (rd (configuration (s .table)) (s .table)) k q → q ≡ p → ⊥
@@ -298,7 +307,12 @@ map-own s k w p pl alive other unreleased g gl = elim (ℕ-discrete (step s k .a
     bits-low file e = omega arith
 
     past : (x : Word) → Wrote (configuration (s .table)) (rd (configuration (s .table)) (s .table)) k x → x .at .kind ≡ process → x .at .slot ≡ p → pageAt g ≡ x .at .word → ⊥
-    past x (made {j = j} {c = c} m l room low y) e f z = omega (arith, slot-untaken (configuration (s .table)) (rd (configuration (s .table)) (s .table)) j c room .is-free, lived j _ e f)
+    past x (made {j = j} {c = c} m l room low y) e f z = omega (
+      arith,
+      slot-untaken (configuration (s .table))
+          (rd (configuration (s .table)) (s .table)) j c room .is-free,
+      lived j _ e f,
+    )
       where
         lived : (j : Kind) (i : ℕ) → j ≡ process → i ≡ p → rd (configuration (s .table)) (s .table) (at j i live) ≡ 1
         lived j i e f = rw (e, f) alive

@@ -53,7 +53,8 @@ plain-hex : (s : List ℕ) → plain (hex s) ≡ true
 unfolding plain hex
 plain-hex [] = refl
 plain-hex (b ∷ s) =
-    and-both (not (endsLine (hexDigit (b / 16)))) _ (not-of _ (digit-ends (b / 16))) (and-both (not (endsLine (hexDigit (b % 16)))) _ (not-of _ (digit-ends (b % 16))) (plain-hex s))
+    and-both (not (endsLine (hexDigit (b / 16)))) _ (not-of _ (digit-ends (b / 16)))
+    (and-both (not (endsLine (hexDigit (b % 16)))) _ (not-of _ (digit-ends (b % 16))) (plain-hex s))
 
 plainNames : List String → Bool
 plainNames [] = true
@@ -84,7 +85,8 @@ plain-shown false s = unfold plain in refl
 -- a line without its newline
 abbrev lineText : ℕ → ℕ → Answer → List ℕ → List ℕ
 lineText n code w buffer =
-    decimal n ++ (space ++ (errorName (w .error) ++ (space ++ (decimal (w .first) ++ (space ++ (decimal (w .second) ++ cond (showsBuffer code (w .error)) (space ++ hex buffer) []))))))
+    decimal n ++ (space ++ (errorName (w .error) ++ (space ++ (decimal (w .first) ++
+    (space ++ (decimal (w .second) ++ cond (showsBuffer code (w .error)) (space ++ hex buffer) []))))))
 
 plain-line : (n code : ℕ) (w : Answer) (buffer : List ℕ) → plain (lineText n code w buffer) ≡ true
 plain-line n code w buffer =

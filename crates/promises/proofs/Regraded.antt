@@ -105,7 +105,8 @@ module _ (s : State) (k : Call) (w : Well s) (code : k .code ≡ regradeCode) (o
   pub words-copied : Copied
   unfolding carried
   words-copied =
-      let word : (n : ℕ) → n < recordWords file → wordOf (next s k) copied n ≡ _ = λ n l. after copied n (room .in-range) l ∙ regraded-word r brought copied (r (at file copied serial) + 1) n in
+      let word : (n : ℕ) → n < recordWords file → wordOf (next s k) copied n ≡ _ = λ n l. after copied n (room .in-range) l
+      ∙ regraded-word r brought copied (r (at file copied serial) + 1) n in
       record {
         lives = word live (omega arith);
         used = word serial (omega arith);
@@ -139,7 +140,8 @@ module _ (s : State) (k : Call) (w : Well s) (code : k .code ≡ regradeCode) (o
   unfolding regrade
   source-in =
       let me = its-caller s k w ok in
-      is-formed _ _ _ (me .fine .entry file tt (k .caller) (k .a) (me .in-range) (leb-false entries (k .a) (clear .1 .1 .1 .0)) .held (eqb-false _ 0 (clear .1 .1 .1 .1 .0)) .form) .index-in
+      is-formed _ _ _ (me .fine .entry file tt (k .caller) (k .a) (me .in-range) (leb-false entries (k .a) (clear .1 .1 .1 .0)) .held
+      (eqb-false _ 0 (clear .1 .1 .1 .1 .0)) .form) .index-in
 
   size-fits : wordOf s source size ≤ blocks h
   size-fits = file-record h r (good-of (s .table) (length (s .store)) w .records) source source-in .alive source-lives .size-fits
@@ -168,7 +170,8 @@ module _ (s : State) (k : Call) (w : Well s) (code : k .code ≡ regradeCode) (o
       let fits : r (at file source size) * blockBytes ≤ stretch h = omega (arith, size-fits) in
       let zero : copied * stretch h + 0 ≡ copied * stretch h = omega arith in
       rw (conf-kept s k w, stored, zero)
-      (sets-in (contents h (s .store) source (r (at file source size))) (s .store) (copied * stretch h) i (omega (arith, contents-long)) (omega (arith, contents-long, stretch-in copied (room .in-range)))
+      (sets-in (contents h (s .store) source (r (at file source size))) (s .store) (copied * stretch h) i (omega (arith, contents-long))
+      (omega (arith, contents-long, stretch-in copied (room .in-range)))
       ∙ contents-at i l)
 
   -- "blocks past the size in the new place stay": nothing past the source's size comes across

@@ -69,7 +69,8 @@ module _ (s : State) (k : Call) (x : SetsBits s k (configuration (s .table)) (rd
       let good : test (wellFormed (s .table) (length (s .store))) ≡ true = tested (wellFormed (s .table) (length (s .store))) (x .well) in
       rw (its-rule, good, lt-leb _ _ (x .caller-in), eq-eqb _ 1 (x .caller-live), x .is-set-bits, le-ltb maxBits (k .b) (x .fits), x .form, x .own-cell, x .here)
 
-  pub owner-first : (rd (configuration (s .table)) (s .table) (at segment (indexOf (k .a)) owner) ≡ rd (configuration (s .table)) (s .table) (at process (k .caller) owner) → ⊥)
+  pub owner-first : (rd (configuration (s .table)) (s .table) (at segment (indexOf (k .a)) owner) ≡ rd (configuration (s .table)) (s .table)
+      (at process (k .caller) owner) → ⊥)
       → step s k .answered .error ≡ XnoOwner
   owner-first n = answered s k ∙ asked ∙ rw (ne-eqb _ _ n)
 
@@ -117,7 +118,8 @@ module _ (i : ℕ) where
 
   same-less : (r q : Addr → ℕ) (k : Kind) → Object k → (m : ℕ) → Same r (over r (oneLess q k m))
   unfolding oneLess
-  same-less r q k o m = cond-both (λ ws. Same r (over r ws)) (eqb (q (at k m (holders k))) 1 && not (staysLinked q k m)) (freed k m) ((at k m (holders k) ≔ q (at k m (holders k)) - 1) ∷ [])
+  same-less r q k o m = cond-both (λ ws. Same r (over r ws)) (eqb (q (at k m (holders k))) 1 && not (staysLinked q k m)) (freed k m)
+      ((at k m (holders k) ≔ q (at k m (holders k)) - 1) ∷ [])
       (λ e. same-freed r k o m) (λ e. same-miss r (also (holders-spare k o m (q (at k m (holders k)) - 1)) nil))
 
   -- (what is written may go by another reading than the one that it is written over)

@@ -105,7 +105,8 @@ module _ (s : State) (k : Call) where
 
   -- ---- seids
 
-  by-class : (x : Bool) (f g : Rule) → (Clear (f .refusals) → Names h r (k .code) given) → (Clear (g .refusals) → Names h r (k .code) given) → Clear (cond x f g .refusals) → Names h r (k .code) given
+  by-class : (x : Bool) (f g : Rule) → (Clear (f .refusals) → Names h r (k .code) given) → (Clear (g .refusals) → Names h r (k .code) given)
+      → Clear (cond x f g .refusals) → Names h r (k .code) given
   by-class x f g a b = cond-both (λ (y : Rule). Clear (y .refusals) → Names h r (k .code) given) x f g (λ e. a) (λ e. b)
 
   named : takesSeid (k .code) ≡ true → Clear (own s k .refusals) → Names h r (k .code) given
@@ -121,7 +122,8 @@ module _ (s : State) (k : Call) where
       (λ e. by-class (eqb (classOf given) (class process)) _ _ (for-bits process (rw (eqb-true n 12 e)))
       (by-class (eqb (classOf given) (class segment)) _ _ (for-bits segment (rw (eqb-true n 12 e))) (for-bits file (rw (eqb-true n 12 e)))) (rw (eqb-true n 12 e) at c))
       (λ e. by-class (eqb (classOf given) (class process)) _ _ (for-status process (rw (eqb-true n 17 e)))
-      (by-class (eqb (classOf given) (class segment)) _ _ (for-status segment (rw (eqb-true n 17 e))) (for-status file (rw (eqb-true n 17 e)))) (rw (eqb-true n 17 e) at c)))))))
+      (by-class (eqb (classOf given) (class segment)) _ _ (for-status segment (rw (eqb-true n 17 e))) (for-status file (rw (eqb-true n 17 e))))
+      (rw (eqb-true n 17 e) at c)))))))
     where
       for-bits : (j : Kind) → takes j (k .code) ≡ true → Clear (setBitsOf h r (k .caller) given (k .b) (k .buffer) j .refusals) → Names h r (k .code) given
       for-bits j t q = (j, t, passed _ (q .1 .0), passed _ (q .1 .1 .1 .0))
@@ -153,7 +155,8 @@ module _ (s : State) (k : Call) where
   unfolding ruleOf wholeRule post
   stale-post c gone = (
     λ mine e. let q = rw c at (own-clear s k e) in
-        both-ways (inOwnCell h (k .caller) process given && not (present r process given)) (and-both (inOwnCell h (k .caller) process given) (not (present r process given)) mine (not-of (present r process given) gone)) (q .1 .1 .1 .0),
+        both-ways (inOwnCell h (k .caller) process given && not (present r process given))
+        (and-both (inOwnCell h (k .caller) process given) (not (present r process given)) mine (not-of (present r process given) gone)) (q .1 .1 .1 .0),
     elim (ℕ-discrete (step s k .answered .error) XOK) [
       | yes e ↦ nothing-done s k e (rw (c, gone))
       | no n ↦ refused s k n
@@ -269,7 +272,8 @@ module _ (s : State) (k : Call) where
           held = reads _ (in-range, omega arith) ∙ entered-held without j o (k .caller) (k .a) 0 0 known;
           used = reads _ (in-range, omega arith) ∙ entered-used without j o (k .caller) (k .a) 0 0 known;
           others = λ b v x y low. reads b v ∙ over-miss b (also x (also y nil)) without ∙ untouched b low;
-          page = λ g gl. reads _ (in-range, omega arith) ∙ entered-beside without j o (k .caller) (k .a) 0 0 known (pageAt g) (λ z. omega arith) (λ z. omega arith) ∙ cleared .page g gl;
+          page = λ g gl. reads _ (in-range, omega arith) ∙ entered-beside without j o (k .caller) (k .a) 0 0 known (pageAt g) (λ z. omega arith) (λ z. omega arith)
+              ∙ cleared .page g gl;
           same-configuration = ap configuration t ∙ conf-write h (s .table) words refl;
           store = d .store ∙ ap (λ (x : Effect). store h (s .store) (x .bytes)) e;
           buffer = d .buffer ∙ ap (λ (x : Effect). x .buffer) e;

@@ -90,7 +90,10 @@ module _ (h : List ℕ) (r : Addr → ℕ) (k : Call) (j : Kind) (i : ℕ) where
   counts x (made {j = l} {c = c} m in-cells room low one-more) e =
       let kind : j ≡ l = ap (λ (b : Addr). b .kind) e in
       let slot : i ≡ freeSlot h r l c = ap (λ (b : Addr). b .slot) e in
-      inr (one-more (sym (word-of x e)) ∙ ap (λ (b : Addr). r b + 1) (at-same kind slot), record { cell = c; in-cells = in-cells; room = rw kind room; found = rw kind (sym slot) })
+      inr (
+        one-more (sym (word-of x e)) ∙ ap (λ (b : Addr). r b + 1) (at-same kind slot),
+        record { cell = c; in-cells = in-cells; room = rw kind room; found = rw kind (sym slot) },
+      )
     where
       at-same : {l : Kind} {m : ℕ} → j ≡ l → i ≡ m → at l m serial ≡ at j i serial
       at-same a b = rw (a, b) refl
@@ -157,7 +160,8 @@ module _ (s : State) (k : Call) (w : Well s) (j : Kind) where
           let at-a = free-slot h r sh (p .cell) (p .in-cells) j (p .room) in
           let b-cell : cellOf h j b ≡ p .cell = sym (n .one-cell) ∙ (rw (p .found) at (at-a .in-cell)) in
           elim (decLt (uses s j b) maxSerial) [
-            | yes l ↦ rw (p .found) at (slot-smallest h r j (p .cell) (p .room) b (in-cell h sh j (p .cell) b (n .second-in) b-cell) (record { is-free = unused; not-worn = l }) .0)
+            | yes l ↦ rw (p .found) at (slot-smallest h r j (p .cell) (p .room) b (in-cell h sh j (p .cell) b (n .second-in) b-cell)
+                (record { is-free = unused; not-worn = l }) .0)
             | no m ↦ let worn = rw (p .found) at (at-a .not-worn) in omega arith
           ]
 

@@ -126,7 +126,9 @@ module _ (h : List ℕ) (r : Addr → ℕ) (k : Call) where
 
   of-less : (q : Addr → ℕ) (j : Kind) → Object j → Frees j (k .code) → (i : ℕ) → Writes (oneLess q j i)
   unfolding oneLess
-  of-less q j o f i = all-if (Wrote h r k) (eqb (q (at j i (holders j))) 1 && not (kept q j i)) (freed j i) ((at j i (holders j) ≔ q (at j i (holders j)) - 1) ∷ []) (λ e. of-freed j o f i) (λ e. also (counted o) nil)
+  of-less q j o f i =
+      all-if (Wrote h r k) (eqb (q (at j i (holders j))) 1 && not (kept q j i)) (freed j i) ((at j i (holders j) ≔ q (at j i (holders j)) - 1) ∷ [])
+      (λ e. of-freed j o f i) (λ e. also (counted o) nil)
 
   of-more : (q : Addr → ℕ) (p : ℕ) (j : Kind) → Object j → (s : ℕ) → Writes (oneMore h q p j s)
   of-more q p j o s = all-if (Wrote h r k) (inOwnCell h p j s) _ [] (λ e. also (counted o) nil) (λ e. nil)
@@ -240,12 +242,20 @@ writes h r st k me =
     by-code h k (λ f. P (f r st)) (record {
       call-1 = λ e. of-spawned h r k me e;
       call-2 = λ e ok. of-released h r k e;
-      call-3 = λ e ok. all-append _ (of-object h r k (cellOf h process p) (mine h r k me) segment e (ok .1 .1 .1 .0) _ _ _ _ _ 1) (of-filled h r k segment tt tt (freeEntry r segment p) _ _ (free-entry r segment p (ok .1 .1 .0) .in-record));
-      call-4 = λ e ok. all-append _ (of-filled h r k segment tt tt (freeEntry r segment p) _ _ (free-entry r segment p (ok .1 .1 .1 .1 .1 .1 .1 .0) .in-record)) (of-more h r k r p segment tt _);
+      call-3 = λ e ok.
+          all-append _ (of-object h r k (cellOf h process p) (mine h r k me) segment e (ok .1 .1 .1 .0) _ _ _ _ _ 1)
+          (of-filled h r k segment tt tt (freeEntry r segment p) _ _ (free-entry r segment p (ok .1 .1 .0) .in-record));
+      call-4 = λ e ok.
+          all-append _ (of-filled h r k segment tt tt (freeEntry r segment p) _ _ (free-entry r segment p (ok .1 .1 .1 .1 .1 .1 .1 .0) .in-record))
+          (of-more h r k r p segment tt _);
       call-5 = λ e ok. of-given-up h r k r segment tt (λ n. e) p itself (k .a) _ (leb-false entries (k .a) (ok .0));
       call-6 = λ e ok. let l = leb-false entries (k .a) (ok .1 .0) in also (filled segment tt (omega arith, omega arith)) nil;
-      call-7 = λ e ok. all-append _ (of-object h r k (cellOf h process p) (mine h r k me) file (λ n. absurd (n e)) (ok .1 .1 .1 .0) _ _ _ _ _ 1) (of-filled h r k file tt (λ n. absurd (n e)) (freeEntry r file p) _ _ (free-entry r file p (ok .1 .1 .0) .in-record));
-      call-8 = λ e ok. all-append _ (of-filled h r k file tt (λ n. e) (freeEntry r file p) _ _ (free-entry r file p (ok .1 .1 .1 .1 .1 .1 .0) .in-record)) (of-more h r k r p file tt _);
+      call-7 = λ e ok.
+          all-append _ (of-object h r k (cellOf h process p) (mine h r k me) file (λ n. absurd (n e)) (ok .1 .1 .1 .0) _ _ _ _ _ 1)
+          (of-filled h r k file tt (λ n. absurd (n e)) (freeEntry r file p) _ _ (free-entry r file p (ok .1 .1 .0) .in-record));
+      call-8 = λ e ok.
+          all-append _ (of-filled h r k file tt (λ n. e) (freeEntry r file p) _ _ (free-entry r file p (ok .1 .1 .1 .1 .1 .1 .0) .in-record))
+          (of-more h r k r p file tt _);
       call-9 = λ e ok. of-given-up h r k r file tt (λ n m. absurd (m e)) p itself (k .a) _ (leb-false entries (k .a) (ok .0));
       call-10 = λ e ok. also linked nil;
       call-11 = λ e ok. of-unlinked h r k e (indexOf (orSelf r p (k .a)));

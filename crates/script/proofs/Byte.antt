@@ -45,7 +45,8 @@ onward-begun r nums Numbers = rw (ne-eqb (r .field + 1) 0 (λ z. omega arith))
 onward-begun r nums Bytes = refl
 
 -- ---- a byte of a number, at a stage of numbers
-module _ (g : Stage) (r : Reader) (t l : List ℕ) (b : ℕ) (e : r .stage ≡ g) (h : Good r t l) (n : (r : Reader) (t l s : List ℕ) → meaningAt g r t l s ≡ ofNumbers g r t s) where
+module _ (g : Stage) (r : Reader) (t l : List ℕ) (b : ℕ) (e : r .stage ≡ g) (h : Good r t l)
+    (n : (r : Reader) (t l s : List ℕ) → meaningAt g r t l s ≡ ofNumbers g r t s) where
   abbrev vs : List ℕ
   vs = soFar g (r .field) (r .nums) t
 
@@ -150,7 +151,8 @@ refused vs (took ws after) h n = rw (not-taken (vs ++ (0 ∷ 0 ∷ []) ++ ws) (f
     not-taken : (c : List ℕ) → getD c 0 0 ≡ getD vs 0 0 → test (replayable c) ≡ false
     not-taken c f = refuted (test (replayable c)) (λ t. let w = cells-range c t in n (rw f at (w .0)) (rw f at (w .1)))
 
-module _ (r : Reader) (t l : List ℕ) (b v : ℕ) (e : r .stage ≡ Header) (h : Good r t l) (w : (r .last ≡ 5) × Roomy t) (f : fedBy (r .part) b ≡ fed.Done v) (ge : r .last ≤ r .field) where
+module _ (r : Reader) (t l : List ℕ) (b v : ℕ) (e : r .stage ≡ Header) (h : Good r t l) (w : (r .last ≡ 5) × Roomy t) (f : fedBy (r .part) b ≡ fed.Done v)
+    (ge : r .last ≤ r .field) where
   abbrev t′ : List ℕ
   t′ = set t (r .field) v
 
@@ -175,7 +177,8 @@ module _ (r : Reader) (t l : List ℕ) (b v : ℕ) (e : r .stage ≡ Header) (h 
       record {
         same = λ ys.
             header-whole ys
-            ∙ ap configured (refused (take headerNumbers t′) (numbers (cellWords * getD t′ 0 0) ys) (some t′ (omega (arith, length-set t (r .field) v, w .1 .room))) (λ x y. n (rw cells-of at x) (rw cells-of at y)))
+            ∙ ap configured (refused (take headerNumbers t′) (numbers (cellWords * getD t′ 0 0) ys) (some t′ (omega (arith, length-set t (r .field) v, w .1 .room)))
+            (λ x y. n (rw cells-of at x) (rw cells-of at y)))
             ∙ ap faultAt (sym e);
       }
     where
@@ -186,7 +189,14 @@ module _ (r : Reader) (t l : List ℕ) (b v : ℕ) (e : r .stage ≡ Header) (h 
   header-next : (c : ℕ) → suc c ≡ cellWords * getD t′ 0 0 → getD t′ 0 0 ≤ maxCells → Onward r t l (b ∷ []) (awaiting Cells c (r .nums)) t′ l
   header-next c q few =
       record {
-        good = record { small = small-start; within = omega arith; six = h .six; buffer = h .buffer; here = (q, few, roomy-header t (r .field) v (omega (arith, at-last)) (w .1)) };
+        good = record {
+          small = small-start;
+          within = omega arith;
+          six = h .six;
+          buffer = h .buffer;
+          here =
+              (q, few, roomy-header t (r .field) v (omega (arith, at-last)) (w .1));
+        };
         stage = ap callingAt (sym e);
         table = λ z. absurd (true≢false (sym z ∙ ap callingAt e));
         size = length-set t (r .field) v;
@@ -194,7 +204,8 @@ module _ (r : Reader) (t l : List ℕ) (b v : ℕ) (e : r .stage ≡ Header) (h 
         same = λ ys.
             header-whole ys
             ∙ ap (λ (j : ℕ). configured (accepted (cellsThen (take headerNumbers t′) (numbers j ys)))) (sym q)
-            ∙ ap (λ (x : Taken (List ℕ)). configured (accepted (cellsThen (take headerNumbers t′) x))) (going-start [] c ys ∙ ap (λ (j : ℕ). going start [] j ys) (let z : c ≡ c - 0 = omega arith in z))
+            ∙ ap (λ (x : Taken (List ℕ)). configured (accepted (cellsThen (take headerNumbers t′) x)))
+            (going-start [] c ys ∙ ap (λ (j : ℕ). going start [] j ys) (let z : c ≡ c - 0 = omega arith in z))
             ∙ sym (at-stage Cells (awaiting Cells c (r .nums)) t′ l ys refl);
       }
 
@@ -240,7 +251,8 @@ module _ (r : Reader) (t l : List ℕ) (b v : ℕ) (e : r .stage ≡ Cells) (h :
         same = λ ys.
             number-last Cells r t l b e h (λ r t l s. refl) v ys f ge
             ∙ ap (λ (ws : List ℕ). configured (accepted (took (take headerNumbers t ++ (0 ∷ 0 ∷ []) ++ ws) ys))) all-cells
-            ∙ ap (λ (vs : List ℕ). configured (accepted (took (vs ++ (0 ∷ 0 ∷ []) ++ take (cellWords * getD t″ 0 0) (drop headerWords t″)) ys))) (sym (header-kept t (r .field) v))
+            ∙ ap (λ (vs : List ℕ). configured (accepted (took (vs ++ (0 ∷ 0 ∷ []) ++ take (cellWords * getD t″ 0 0) (drop headerWords t″)) ys)))
+            (sym (header-kept t (r .field) v))
             ∙ ap (λ (c : List ℕ). configured (accepted (took c ys))) (whole t″ (roomy-cell t (r .field) v (w .2)));
       }
 

@@ -42,7 +42,16 @@ join what.More r t l b r₁ t₁ l₁ s r′ t′ l′ rest o (e, p) = (
     not-fresh [] z = z
     not-fresh (x ∷ s) z = refl
 join what.Configuration r t l b r₁ t₁ l₁ s r′ t′ l′ rest o p =
-    record { stage = sym (o .stage) ∙ p .stage; reader = p .reader; good = p .good; size = p .size ∙ o .size; roomy = p .roomy; cells = p .cells; same = λ ys. o .same (s ++ ys) ∙ p .same ys }
+    record {
+      stage = sym (o .stage) ∙ p .stage;
+      reader = p .reader;
+      good = p .good;
+      size = p .size
+          ∙ o .size;
+      roomy = p .roomy;
+      cells = p .cells;
+      same = λ ys. o .same (s ++ ys) ∙ p .same ys;
+    }
 join what.Call r t l b r₁ t₁ l₁ s r′ t′ l′ rest o p =
     record {
       stage = sym (o .stage) ∙ p .stage;

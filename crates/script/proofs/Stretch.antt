@@ -146,7 +146,8 @@ all-bytes r t l b (b′ ∷ s) i n h =
     ∙ ap (λ (a : ℕ). callAt r t (i + suc k) (sets m a (b′ ∷ s))) (add-one (r .field))
 
 -- as the code has it
-module _ (r : Reader) (t l s : List ℕ) (i left : ℕ) (b : isBytes (r .stage) ≡ true) (h : i < length s) (o : left ≡ bytesLeft r) (at : ℕ) (f : at ≡ r .field) (l′ : List ℕ) where
+module _ (r : Reader) (t l s : List ℕ) (i left : ℕ) (b : isBytes (r .stage) ≡ true) (h : i < length s) (o : left ≡ bytesLeft r) (at : ℕ) (f : at ≡ r .field)
+    (l′ : List ℕ) where
   -- the piece ends before the buffer
   pub code-more-bytes : length s - i < left → l′ ≡ sets l at (firsts (length s - i) (drop i s))
       → Goes r t l s i (record { what = More; reader = further r (length s - i); next = length s }) t l′
@@ -155,7 +156,8 @@ module _ (r : Reader) (t l s : List ℕ) (i left : ℕ) (b : isBytes (r .stage) 
         past = h;
         same =
             go (drop i s) (length-drop i s)
-            ∙ ap (moreAt r t (r .field + (length s - i)) (length s)) (sym (p ∙ ap (λ (a : ℕ). sets l a (firsts (length s - i) (drop i s))) f ∙ ap (sets l (r .field)) (take-all (length s - i) (drop i s) (let z = length-drop i s in omega arith))))
+            ∙ ap (moreAt r t (r .field + (length s - i)) (length s)) (sym (p ∙ ap (λ (a : ℕ). sets l a (firsts (length s - i) (drop i s))) f
+            ∙ ap (sets l (r .field)) (take-all (length s - i) (drop i s) (let z = length-drop i s in omega arith))))
             ∙ sym
             (going-resumed (moreAt r t (r .field + (length s - i)) (length s) l′) (drop (length s) s) refl
             ∙ code-ends (further r (length s - i)) t l′ s (length s) (omega arith));

@@ -83,7 +83,8 @@ unfolding withoutRefused
 same-told = rw (told, other-told)
 
 -- Demand 3 at work: whatever stands and happens in the high cell, the copy is all that comes down
-pub at-work : (replies desk (observer desk 0) (fresh 2) one-run ≡ replies desk (observer desk 0) (other 2) other-run) × Agree (observer desk 0) (run (fresh 2) one-run) (run (other 2) other-run)
+pub at-work : (replies desk (observer desk 0) (fresh 2) one-run ≡ replies desk (observer desk 0) (other 2) other-run) × Agree (observer desk 0) (run (fresh 2) one-run)
+    (run (other 2) other-run)
 at-work = (rw (fresh-configuration 2) at (below-guard (observer desk 0) (fresh 2) (other 2) (fresh-formed 2 refl) (other-formed 2 refl)))
     (low-closed 2) (agreed 2) guard-above one-run other-run same-told
 

@@ -15,4 +15,14 @@ pub alike01 : {h : List ℕ} {p : ℕ} {C : ℕ → Bool} {r q : Addr → ℕ} �
     → Alike h C (spawn h r p a b c buffer) (spawn h q p a b c buffer)
 unfolding spawn
 alike01 v a b c buffer =
-    search (alike-rules, View.same-me v, View.same-seid v, View.same-below v, View.same-free-slot v, View.free-in (v .here), View.own-flows (v .here), View.free-own (v .here)) depth 12
+    search (
+      alike-rules,
+      View.same-me v,
+      View.same-seid v,
+      View.same-below v,
+      View.same-free-slot v,
+      View.free-in (v .here),
+      View.own-flows (v .here),
+      View.free-own
+          (v .here),
+    ) depth 12

@@ -56,7 +56,8 @@ over-some a e l (also {x = x} {xs = xs} c cs) r n =
     let r′ : Addr → ℕ = λ b. cond (sameAddr b (x .at)) (x .value) (r b) in
     let here : over r′ xs a ≡ r′ a = over-some a e l cs r′ n in
     split (over r′ xs a ≡ r a) (sameAddr a (x .at))
-    (λ s. absurd (eqb-false (over r′ xs a) 0 n (here ∙ cond-true (sameAddr a (x .at)) (x .value) (r a) s ∙ c (sym (ap (λ (b : Addr). b .kind) (same-addr a (x .at) s)) ∙ e) (rw (same-addr a (x .at) s) at l))))
+    (λ s. absurd (eqb-false (over r′ xs a) 0 n (here ∙ cond-true (sameAddr a (x .at)) (x .value) (r a) s
+    ∙ c (sym (ap (λ (b : Addr). b .kind) (same-addr a (x .at) s)) ∙ e) (rw (same-addr a (x .at) s) at l))))
     (λ s. here ∙ cond-false (sameAddr a (x .at)) (x .value) (r a) s)
 
 held-low : (k : Kind) (d : ℕ) → Object k → leb entries d ≡ false → heldAt k d < pagesAt
@@ -137,4 +138,14 @@ pub alike02 : {h : List ℕ} {p : ℕ} {C : ℕ → Bool} {r q : Addr → ℕ} �
     → Alike h C (releaseProcess h r p a buffer) (releaseProcess h q p a buffer)
 unfolding releaseProcess
 alike02 v a buffer =
-    search (alike-rules, View.same-self v, View.same-me v, View.same-below v, View.same-present v, same-other v, View.formed-in, View.own-flows (v .here), View.same-cell) depth 12
+    search (
+      alike-rules,
+      View.same-self v,
+      View.same-me v,
+      View.same-below v,
+      View.same-present v,
+      same-other v,
+      View.formed-in,
+      View.own-flows (v .here),
+      View.same-cell,
+    ) depth 12

@@ -16,4 +16,13 @@ pub alike03 : {h : List ℕ} {p : ℕ} {C : ℕ → Bool} {r q : Addr → ℕ} �
     → Alike h C (buildSegment h r p a b c buffer) (buildSegment h q p a b c buffer)
 unfolding buildSegment
 alike03 v a b c buffer =
-    search (alike-rules, View.same-me v, View.same-below v, View.same-free-slot v, View.same-free-entry v, View.free-in (v .here), View.own-flows (v .here), View.free-own (v .here)) depth 12
+    search (
+      alike-rules,
+      View.same-me v,
+      View.same-below v,
+      View.same-free-slot v,
+      View.same-free-entry v,
+      View.free-in (v .here),
+      View.own-flows (v .here),
+      View.free-own (v .here),
+    ) depth 12

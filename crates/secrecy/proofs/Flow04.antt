@@ -23,4 +23,14 @@ pub alike04 : {h : List ℕ} {p : ℕ} {C : ℕ → Bool} {r q : Addr → ℕ} �
     → Alike h C (rendezvous h r p a b buffer) (rendezvous h q p a b buffer)
 unfolding rendezvous
 alike04 v a b buffer =
-    search (alike-rules, View.same-self v, View.same-below v, View.same-present v, View.same-rights v, View.same-free-entry v, same-already v, View.formed-in, View.allowed) depth 16
+    search (
+      alike-rules,
+      View.same-self v,
+      View.same-below v,
+      View.same-present v,
+      View.same-rights v,
+      View.same-free-entry v,
+      same-already v,
+      View.formed-in,
+      View.allowed,
+    ) depth 16

@@ -15,4 +15,13 @@ pub alike07 : {h : List ℕ} {p : ℕ} {C : ℕ → Bool} {r q : Addr → ℕ} �
     → Alike h C (create h r p a b buffer) (create h q p a b buffer)
 unfolding create
 alike07 v a b buffer =
-    search (alike-rules, View.same-me v, View.same-below v, View.same-free-slot v, View.same-free-entry v, View.free-in (v .here), View.own-flows (v .here), View.free-own (v .here)) depth 12
+    search (
+      alike-rules,
+      View.same-me v,
+      View.same-below v,
+      View.same-free-slot v,
+      View.same-free-entry v,
+      View.free-in (v .here),
+      View.own-flows (v .here),
+      View.free-own (v .here),
+    ) depth 12

@@ -36,4 +36,14 @@ pub alike08 : {h : List ℕ} {p : ℕ} {C : ℕ → Bool} {r q : Addr → ℕ} �
     → Alike h C (openFile h r p a b buffer) (openFile h q p a b buffer)
 unfolding openFile
 alike08 v a b buffer =
-    search (alike-rules, View.same-self v, View.same-below v, View.same-present v, View.same-rights v, View.same-free-entry v, same-clashes v, View.formed-in, View.allowed) depth 16
+    search (
+      alike-rules,
+      View.same-self v,
+      View.same-below v,
+      View.same-present v,
+      View.same-rights v,
+      View.same-free-entry v,
+      same-clashes v,
+      View.formed-in,
+      View.allowed,
+    ) depth 16

@@ -31,4 +31,14 @@ pub alike13 : {h : List ℕ} {p : ℕ} {C : ℕ → Bool} {r q : Addr → ℕ} �
     → (a b : ℕ) (buffer : List ℕ) → Alike h C (readBlock h r s p a b buffer) (readBlock h q t p a b buffer)
 unfolding readBlock
 alike13 v s t e g a b buffer =
-    search (alike-rules, View.same-held v, View.same-used v, View.same-below v, View.same-present v, View.same-rights v, same-block v s t e g, View.held-in (v .here), View.held-flows (v .here)) depth 16
+    search (
+      alike-rules,
+      View.same-held v,
+      View.same-used v,
+      View.same-below v,
+      View.same-present v,
+      View.same-rights v,
+      same-block v s t e g,
+      View.held-in (v .here),
+      View.held-flows (v .here),
+    ) depth 16

@@ -40,7 +40,8 @@ up-block {h} {p} v f n b buffer l e m i k =
     let full : length buffer ≡ blockBytes = View.same-cell (length buffer) blockBytes k in
     let long : length {A = ℕ} (replicate ((b - n) * blockBytes) 0) ≡ (b - n) * blockBytes = length-replicate ((b - n) * blockBytes) 0 in
     let own : flows h (cellOf h process p) (cellOf h file f) ≡ true = rw e (View.own-flow v) in
-    let zeros : UpBytes h (cellOf h process p) (bytesAt f (n * blockBytes) (replicate ((b - n) * blockBytes) 0)) = record { there = l; inside = omega (arith, tests); up = own } in
+    let zeros : UpBytes h (cellOf h process p) (bytesAt f (n * blockBytes) (replicate ((b - n) * blockBytes) 0)) =
+    record { there = l; inside = omega (arith, tests); up = own } in
     let bytes : UpBytes h (cellOf h process p) (bytesAt f (b * blockBytes) buffer) = record { there = l; inside = omega (arith, tests); up = own } in
     also zeros (also bytes nil)
 
@@ -53,4 +54,14 @@ pub alike14 : {h : List ℕ} {p : ℕ} {C : ℕ → Bool} {r q : Addr → ℕ} �
     → Alike h C (writeBlock h r p a b buffer) (writeBlock h q p a b buffer)
 unfolding writeBlock
 alike14 v a b buffer =
-    search (alike-rules, View.same-held v, View.same-used v, View.same-below v, View.same-present v, View.same-rights v, View.held-in (v .here), View.held-flows (v .here)) depth 16
+    search (
+      alike-rules,
+      View.same-held v,
+      View.same-used v,
+      View.same-below v,
+      View.same-present v,
+      View.same-rights v,
+      View.held-in (v .here),
+      View.held-flows
+          (v .here),
+    ) depth 16

@@ -26,7 +26,8 @@ up16 v buffer = search (up-rules, View.up-me v, up-moved v) depth 12
 same-moved : {h : List ℕ} {p : ℕ} {C : ℕ → Bool} {r q : Addr → ℕ} → View.View h p C r q → movedUp q p ≡ movedUp r p
 unfolding movedUp
 same-moved {p = p} v = ap (λ (ws : List Word). ws ++ zeros process p (messageAt (messages - 1) 0) messageWords)
-    (tab-same messagesAt (messageWords * (messages - 1)) _ _ (λ j lo hi. rw (View.same-me v (j + messageWords) (lt-ltb (j + messageWords) (recordWords process) (omega arith)))))
+    (tab-same messagesAt (messageWords * (messages - 1)) _ _ (λ j lo hi. rw (View.same-me v (j + messageWords)
+    (lt-ltb (j + messageWords) (recordWords process) (omega arith)))))
 
 pub alike16 : {h : List ℕ} {p : ℕ} {C : ℕ → Bool} {r q : Addr → ℕ} → View.View h p C r q → (buffer : List ℕ)
     → Alike h C (receive h r p buffer) (receive h q p buffer)

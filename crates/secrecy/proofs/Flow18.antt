@@ -14,4 +14,13 @@ up18 v a buffer = search up-rules depth 12
 pub alike18 : {h : List ℕ} {p : ℕ} {C : ℕ → Bool} {r q : Addr → ℕ} → View.View h p C r q → (a : ℕ) (buffer : List ℕ)
     → Alike h C (accessOf h r p a buffer) (accessOf h q p a buffer)
 unfolding accessOf
-alike18 v a buffer = search (alike-rules, View.same-held v, View.same-used v, View.same-present v, View.same-rights v, View.held-in (v .here), View.held-flows (v .here)) depth 12
+alike18 v a buffer = search (
+  alike-rules,
+  View.same-held v,
+  View.same-used v,
+  View.same-present v,
+  View.same-rights v,
+  View.held-in (v .here),
+  View.held-flows
+      (v .here),
+) depth 12

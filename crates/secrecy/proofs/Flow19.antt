@@ -39,7 +39,11 @@ module _ {h : List ℕ} {p : ℕ} {C : ℕ → Bool} {r q : Addr → ℕ} (v : V
   unfolding conflict
   same-conflict f f′ b n e = split _ (ltb pages (b + n))
       (λ t. rw t)
-      (λ t. rw (t, some-same n (λ i. not (eqb (f (b + i)) 0)) (λ i. not (eqb (f′ (b + i)) 0)) (λ i l. let in-map : b + i < pages = omega (arith, ltb-false pages (b + n) t) in rw (e (b + i) in-map))))
+      (λ t. rw (
+        t,
+        some-same n (λ i. not (eqb (f (b + i)) 0)) (λ i. not (eqb (f′ (b + i)) 0))
+            (λ i l. let in-map : b + i < pages = omega (arith, ltb-false pages (b + n) t) in rw (e (b + i) in-map)),
+      ))
 
   module _ (a b c : ℕ) (named-a : named a ≡ true) (filled : vacant r p a ≡ false) where
     held : q (at process p (heldAt segment a)) ≡ r (at process p (heldAt segment a))
@@ -84,8 +88,10 @@ alike19 {h} {p} {C} {r} {q} v a b c buffer =
     let out : named c && not (isMapped (λ g. r (at process p (pageAt g))) c) ≡ named c && not (isMapped (λ g. q (at process p (pageAt g))) c) =
     rw (same-mapped v (λ g. q (at process p (pageAt g))) (λ g. r (at process p (pageAt g))) c (same-page v)) in
     let still : named a && isMapped (pageLeft r p c) a ≡ named a && isMapped (pageLeft q p c) a = rw (same-mapped v (pageLeft q p c) (pageLeft r p c) a (same-left v c)) in
-    let meets : named a && conflict (pageLeft r p c) b (pagesOf r (r (at process p (heldAt segment a)))) ≡ named a && conflict (pageLeft q p c) b (pagesOf q (q (at process p (heldAt segment a)))) =
+    let meets : named a && conflict (pageLeft r p c) b (pagesOf r (r (at process p (heldAt segment a)))) ≡ named a && conflict (pageLeft q p c) b
+    (pagesOf q (q (at process p (heldAt segment a)))) =
     split _ (named a) (λ t. rw (t, same-run v a b c t (filled t), same-conflict v (pageLeft q p c) (pageLeft r p c) b _ (same-left v c))) (λ t. rw t) in
-    let pages-same : pagesSet p (remapped r p a b c) ≡ pagesSet p (remapped q p a b c) = sym (same-pages v (remapped q p a b c) (remapped r p a b c) (same-remapped v a b c filled)) in
+    let pages-same : pagesSet p (remapped r p a b c) ≡ pagesSet p (remapped q p a b c) =
+    sym (same-pages v (remapped q p a b c) (remapped r p a b c) (same-remapped v a b c filled)) in
     alike-test refl old (λ x3. alike-test refl out (λ x4. alike-test refl still (λ x5. alike-test refl meets (λ x6.
     alike-effect (same-effect (ap (λ (ws : List Word). effect 0 0 buffer ws []) pages-same))))))))

@@ -45,7 +45,8 @@ contents-fit : (h st : List ℕ) (f n : ℕ) → n ≤ blocks h → 0 + length (
 unfolding contents part
 contents-fit h st f n l = rw (length-take (n * blockBytes)) (omega arith)
 
-up-copied : {h : List ℕ} {p : ℕ} {r : Addr → ℕ} → View.Here h p r → Holds (recordsOk h r) → (st : List ℕ) (a b c : ℕ) (buffer : List ℕ) → leb (cells h) b || ltb maxBits c ≡ false
+up-copied : {h : List ℕ} {p : ℕ} {r : Addr → ℕ} → View.Here h p r → Holds (recordsOk h r) → (st : List ℕ) (a b c : ℕ) (buffer : List ℕ)
+    → leb (cells h) b || ltb maxBits c ≡ false
     → leb entries a ≡ false → eqb (r (at process p (heldAt file a))) 0 ≡ false → not (present r file (r (at process p (heldAt file a)))) ≡ false → noSlot h r file b ≡ false
     → UpBytes h b (bytesAt (freeSlot h r file b) 0 (carried h r st p a b c buffer .bytes))
 unfolding carried
@@ -77,15 +78,18 @@ same-number {h} {p} {C} {r} {q} v b c m e n =
     sym (v .seen (at file (freeSlot h r file b) serial) (free-slot h r (v .here .shape) b cell file n .in-range, omega arith)
     (rw (free-slot h r (v .here .shape) b cell file n .in-cell) (m cell)))
 
-same-contents : (h : List ℕ) (C : ℕ → Bool) (s t : List ℕ) → length s ≡ length t → View.Stretches h C s t → (f n : ℕ) → f < slots h file → C (cellOf h file f) ≡ true → n ≤ blocks h
+same-contents : (h : List ℕ) (C : ℕ → Bool) (s t : List ℕ) → length s ≡ length t → View.Stretches h C s t → (f n : ℕ) → f < slots h file → C (cellOf h file f) ≡ true
+    → n ≤ blocks h
     → contents h t f n ≡ contents h s f n
 unfolding contents
 same-contents h C s t e g f n l m fits =
     part-same t s (f * stretch h) (n * blockBytes) (sym e) (λ j o. let i : j < stretch h = omega arith in sym (g f j l i m))
 
 -- what is carried across
-same-carried : {h : List ℕ} {p : ℕ} {C : ℕ → Bool} {r q : Addr → ℕ} → View.View h p C r q → Holds (recordsOk h r) → (s t : List ℕ) → length s ≡ length t → View.Stretches h C s t
-    → (a b c : ℕ) (buffer : List ℕ) → leb entries a ≡ false → eqb (r (at process p (heldAt file a))) 0 ≡ false → not (present r file (r (at process p (heldAt file a)))) ≡ false
+same-carried : {h : List ℕ} {p : ℕ} {C : ℕ → Bool} {r q : Addr → ℕ} → View.View h p C r q → Holds (recordsOk h r) → (s t : List ℕ) → length s ≡ length t
+    → View.Stretches h C s t
+    → (a b c : ℕ) (buffer : List ℕ) → leb entries a ≡ false → eqb (r (at process p (heldAt file a))) 0 ≡ false
+    → not (present r file (r (at process p (heldAt file a)))) ≡ false
     → carried h q t p a b c buffer ≡ carried h r s p a b c buffer
 unfolding carried
 same-carried {h} {p} {C} {r} {q} v w s t e g a b c buffer l m o =
@@ -113,7 +117,8 @@ unfolding regrade
 refusals21 h r st p a b c buffer = refl
 
 same-brought : (x y : Copy) (f g m n : ℕ) (buffer : List ℕ) → x ≡ y → f ≡ g → m ≡ n
-    → _≡_ {A = Effect} (effect (seid (class file) f m) 0 buffer (regraded x f m) (blocksCopied x f)) (effect (seid (class file) g n) 0 buffer (regraded y g n) (blocksCopied y g))
+    → _≡_ {A = Effect} (effect (seid (class file) f m) 0 buffer (regraded x f m) (blocksCopied x f))
+    (effect (seid (class file) g n) 0 buffer (regraded y g n) (blocksCopied y g))
 same-brought x y f g m n buffer i j k = rw (i, j, k)
 
 -- they are alike, whatever stands behind them
@@ -131,10 +136,12 @@ alike-barred {h} {p} {C} {r} {q} v a b c buffer rs qs e f rest =
     let there = View.held-in (v .here) file a tt x4 x5 in
     let flow = View.held-flows (v .here) file a tt x4 x5 in
     let here : not (present r file held) ≡ not (present q file held′) = rw (← same, View.same-present v file held there flow) in
-    let rights : lacks (rightsAt r p file (indexOf held)) true false ≡ lacks (rightsAt q p file (indexOf held′)) true false = rw (← same, View.same-rights v file (indexOf held) there flow) in
+    let rights : lacks (rightsAt r p file (indexOf held)) true false ≡ lacks (rightsAt q p file (indexOf held′)) true false =
+    rw (← same, View.same-rights v file (indexOf held) there flow) in
     alike-test refl here (λ x7. alike-test refl rights (λ x8. rest x3 x4 x5 x7))))))))
 
-pub alike21 : {h : List ℕ} {p : ℕ} {C : ℕ → Bool} {r q : Addr → ℕ} → View.View h p C r q → Holds (recordsOk h r) → (s t : List ℕ) → length s ≡ length t → View.Stretches h C s t
+pub alike21 : {h : List ℕ} {p : ℕ} {C : ℕ → Bool} {r q : Addr → ℕ} → View.View h p C r q → Holds (recordsOk h r) → (s t : List ℕ) → length s ≡ length t
+    → View.Stretches h C s t
     → (a b c : ℕ) (buffer : List ℕ) → (b < cells h → C b ≡ true) → Alike h C (regrade h r s p a b c buffer) (regrade h q t p a b c buffer)
 unfolding regrade
 alike21 {h} {p} {C} {r} {q} v w s t e g a b c buffer m = alike-barred v a b c buffer _ _ _ _ (λ x3 x4 x5 x7.

@@ -53,11 +53,13 @@ calls-if false true false k x ks es n e = e
 calls-if false false c k x ks es n e = e
 
 -- P says what is known of each call
-module _ (h : List ℕ) (C : ℕ → Bool) (P : Call → Type 0) (quiet : (s : State) (k : Call) → steps.WellUnder h s → P k → stays h C k ≡ false → into h C k && accepted s k ≡ false) where
+module _ (h : List ℕ) (C : ℕ → Bool) (P : Call → Type 0) (quiet : (s : State) (k : Call) → steps.WellUnder h s → P k → stays h C k ≡ false
+    → into h C k && accepted s k ≡ false) where
   pub only-calls : (ks : List Call) (s : State) → steps.WellUnder h s → AllOf P ks → withoutRefused (events h C s ks) ≡ calls (remaining h C ks)
   unfolding events event remaining withoutRefused
   only-calls [] s f nil = refl
-  only-calls (k ∷ ks) s f (also p ps) = calls-if (stays h C k) (into h C k) (accepted s k) k _ (remaining h C ks) _ (quiet s k f p) (only-calls ks (next s k) (well-next kept h s k f) ps)
+  only-calls (k ∷ ks) s f (also p ps) = calls-if (stays h C k) (into h C k) (accepted s k) k _ (remaining h C ks) _ (quiet s k f p)
+      (only-calls ks (next s k) (well-next kept h s k f) ps)
 
 -- no call is a regrade
 abbrev pub NoRegrade : Call → Type 0
@@ -76,7 +78,8 @@ other-asks-none h C (k ∷ ks) s (also n ns) = (λ m e. absurd (n (eqb-true _ _ 
 abbrev pub Guarded : List ℕ → (ℕ → Bool) → Type 0
 Guarded h C = (p : ℕ) → p < slots h process → inGuard h p ≡ true → C (cellOf h process p) ≡ true
 
-pub quiet-guarded : (h : List ℕ) (C : ℕ → Bool) → Guarded h C → (s : State) (k : Call) → steps.WellUnder h s → Unit {0} → stays h C k ≡ false → into h C k && accepted s k ≡ false
+pub quiet-guarded : (h : List ℕ) (C : ℕ → Bool) → Guarded h C → (s : State) (k : Call) → steps.WellUnder h s → Unit {0} → stays h C k ≡ false
+    → into h C k && accepted s k ≡ false
 unfolding into
 quiet-guarded h C g s k f u o = refuted _ (λ e.
     let i = and-left (into h C k) (accepted s k) e in

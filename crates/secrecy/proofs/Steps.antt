@@ -83,7 +83,8 @@ up-code {h} {r} k v w st = by-code h k (λ f. WritesUp h (writer h k) (f r st)) 
 })
 
 -- a regrade must name a cell of the set, or none
-alike-code : {h : List ℕ} {C : ℕ → Bool} {r q : Addr → ℕ} (k : Call) → View h (k .caller) C r q → Holds (recordsOk h r) → (s t : List ℕ) → length s ≡ length t → Stretches h C s t
+alike-code : {h : List ℕ} {C : ℕ → Bool} {r q : Addr → ℕ} (k : Call) → View h (k .caller) C r q → Holds (recordsOk h r) → (s t : List ℕ) → length s ≡ length t
+    → Stretches h C s t
     → (k .code ≡ regradeCode → k .b < cells h → C (k .b) ≡ true) → Alike h C (ruleOf h r s k) (ruleOf h q t k)
 alike-code {h} {C} {r} {q} k v w s t same seen named = by-code h k (λ f. Alike h C (f r s) (f q t)) (record {
   call-1 = λ e. alike01 v (k .a) (k .b) (k .c) (k .buffer);
@@ -330,10 +331,13 @@ module _ (h : List ℕ) (C : ℕ → Bool) (cl : Closed h C) (s t : State) (f : 
   -- what comes before a call's own list is alike
   alike-first : (x y : Rule) → (badCaller h (rd h (s .table)) (k .caller) ≡ false → Alike h C x y)
       → Alike h C
-      (rule ((not (test (wellFormed (s .table) (length (s .store)))) ⇒ XbTab) ∷ (badCaller h (rd h (s .table)) (k .caller) ⇒ XbPrSd) ∷ (badCode (k .code) ⇒ XbdKcl) ∷ x .refusals) (x .effects))
-      (rule ((not (test (wellFormed (t .table) (length (t .store)))) ⇒ XbTab) ∷ (badCaller h (rd h (t .table)) (k .caller) ⇒ XbPrSd) ∷ (badCode (k .code) ⇒ XbdKcl) ∷ y .refusals) (y .effects))
+      (rule ((not (test (wellFormed (s .table) (length (s .store)))) ⇒ XbTab) ∷ (badCaller h (rd h (s .table)) (k .caller) ⇒ XbPrSd) ∷
+      (badCode (k .code) ⇒ XbdKcl) ∷ x .refusals) (x .effects))
+      (rule ((not (test (wellFormed (t .table) (length (t .store)))) ⇒ XbTab) ∷ (badCaller h (rd h (t .table)) (k .caller) ⇒ XbPrSd) ∷
+      (badCode (k .code) ⇒ XbdKcl) ∷ y .refusals) (y .effects))
   alike-first x y own =
-      let one : not (test (wellFormed (s .table) (length (s .store)))) ≡ not (test (wellFormed (t .table) (length (t .store)))) = rw (tested (wellFormed (s .table) (length (s .store))) (f .formed), tested (wellFormed (t .table) (length (t .store))) (g .formed)) in
+      let one : not (test (wellFormed (s .table) (length (s .store)))) ≡ not (test (wellFormed (t .table) (length (t .store)))) =
+      rw (tested (wellFormed (s .table) (length (s .store))) (f .formed), tested (wellFormed (t .table) (length (t .store))) (g .formed)) in
       alike-test refl one (λ e. alike-test refl same-caller (λ b. alike-test refl refl (λ c. own b)))
 
   -- a call that is no regrade, or names a cell of the set, or none

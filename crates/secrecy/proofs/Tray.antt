@@ -197,7 +197,8 @@ module _ (h : List ℕ) (C : ℕ → Bool) (P : ℕ → Bool) where
         let y : out n r ≡ step (n .state) c =
         inside-is-step (n .state) (n .bytes) r (g .formed) (sym same-inside ∙ t) ∙ ap (step (n .state)) (sym (same-call t)) in
         let z = steps.remains h C cl (m .state) (n .state) f g (a .states) c stay (λ e. ok (asks-inside h (m .state) f (m .bytes) r t ∙ e)) in
-        let buffers : out m r .buffer ≡ out n r .buffer = ap (λ (y : Outcome). y .buffer) x ∙ ap (λ (y : Reply). y .buffer) (z .0) ∙ sym (ap (λ (y : Outcome). y .buffer) y) in (
+        let buffers : out m r .buffer ≡ out n r .buffer = ap (λ (y : Outcome). y .buffer) x ∙ ap (λ (y : Reply). y .buffer) (z .0)
+        ∙ sym (ap (λ (y : Outcome). y .buffer) y) in (
           ap (λ (y : Outcome). y .answered) x ∙ ap (λ (y : Reply). y .answered) (z .0) ∙ sym (ap (λ (y : Outcome). y .answered) y),
           record {
             states = rw (x, y) (z .1);

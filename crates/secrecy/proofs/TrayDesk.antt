@@ -68,15 +68,16 @@ same-told = refl
 
 -- Demand 3 at work: the copy is all that comes down
 pub at-work : SameTrays desk low one-tray (afterTray (fresh 2) bytes one-tray) (afterTray (other 2) bytes other-tray)
-at-work = (rw (fresh-configuration 2) at (below-guard low (fresh 2) (other 2) (fresh-formed 2 refl) (other-formed 2 refl))) (low-closed 2) (agreed 2) one-tray other-tray bytes bytes (record {
-  short = one-short;
-  short′ = other-short;
-  asked-same = same-asked;
-  long = refl;
-  equal = λ i s. refl;
-  apart = one-apart;
-  apart′ = other-apart;
-}) guard-above same-told
+at-work = (rw (fresh-configuration 2) at (below-guard low (fresh 2) (other 2) (fresh-formed 2 refl) (other-formed 2 refl)))
+    (low-closed 2) (agreed 2) one-tray other-tray bytes bytes (record {
+      short = one-short;
+      short′ = other-short;
+      asked-same = same-asked;
+      long = refl;
+      equal = λ i s. refl;
+      apart = one-apart;
+      apart′ = other-apart;
+    }) guard-above same-told
 
 -- ---- why the premise is needed
 

@@ -113,15 +113,16 @@ night-short′ = leb-true 4 mostRecords refl
 
 -- Demand 3 at work: the low process gets the same answers, and its parts the same bytes, whatever stands and happens in the high cell.
 pub at-work : SameTrays hall low night (afterTray (fresh 0) bytes night) (afterTray (other 0) bytes′ night′)
-at-work = (rw (fresh-configuration 0) at (no-guard low (fresh 0) (other 0) (fresh-formed 0 refl) (other-formed 0 refl))) (low-closed 0) (agreed 0) night night′ bytes bytes′ (record {
-  short = night-short;
-  short′ = night-short′;
-  asked-same = same-asked;
-  long = same-long;
-  equal = same-bytes;
-  apart = night-apart;
-  apart′ = night-apart′;
-}) unguarded
+at-work = (rw (fresh-configuration 0) at (no-guard low (fresh 0) (other 0) (fresh-formed 0 refl) (other-formed 0 refl)))
+    (low-closed 0) (agreed 0) night night′ bytes bytes′ (record {
+      short = night-short;
+      short′ = night-short′;
+      asked-same = same-asked;
+      long = same-long;
+      equal = same-bytes;
+      apart = night-apart;
+      apart′ = night-apart′;
+    }) unguarded
 
 -- and what it gets: a file and its descriptor; and in its part the status of a process (class 4) of cell 0 at security 1, where the high one finds cell 1 and
 -- security 3 in its own

@@ -61,7 +61,8 @@ calls-none n st = refl
 with-text : (n m : ℕ) (st : State) (x : Taken Call) → Leaves m x → scriptText n st (withCall (scriptIn m) x) ≡ callText n st x
 unfolding scriptText withCall callText linesFrom
 with-text n m st (took k rest) h =
-    append-assoc (line (n + 1) (k .code) (step st k .answered) (step st k .buffer)) (linesFrom (n + 1) (next st k) (scriptIn m rest .calls)) (cond (scriptIn m rest .faulty) badScript [])
+    append-assoc (line (n + 1) (k .code) (step st k .answered) (step st k .buffer)) (linesFrom (n + 1) (next st k) (scriptIn m rest .calls))
+    (cond (scriptIn m rest .faulty) badScript [])
     ∙ ap (λ (x : Script). line (n + 1) (k .code) (step st k .answered) (step st k .buffer) ++ scriptText (n + 1) (next st k) x) (enough m (length rest) rest h (omega arith))
 with-text n m st bad h = refl
 

@@ -133,7 +133,8 @@ good-buffer : (r : Reader) (t t′ l l′ : List ℕ) → Good r t l → r .stag
 good-buffer r t t′ l l′ g e n = let f = good-table r t t′ l g e in record { small = f .small; within = f .within; six = f .six; buffer = rw n (f .buffer); here = f .here }
 
 -- ---- a call keeps the sizes of the table and of the store
-sizes : (c : List ℕ) (s : State) (buffer : List ℕ) (k : Rule) → (length (carriedOut c s buffer k .state .table) ≡ length (s .table)) × (length (carriedOut c s buffer k .state .store) ≡ length (s .store))
+sizes : (c : List ℕ) (s : State) (buffer : List ℕ) (k : Rule) → (length (carriedOut c s buffer k .state .table) ≡ length (s .table)) ×
+    (length (carriedOut c s buffer k .state .store) ≡ length (s .store))
 unfolding carriedOut
 sizes c s buffer k =
     split _ (eqb (firstRefusal (k .refusals)) 0)
@@ -146,7 +147,11 @@ step-sizes s k = sizes (configuration (s .table)) s (k .buffer) (wholeRule (conf
 
 -- what it leaves, stored over the front of the slices, is the state after it
 after-call : (x : Session) (t st : List ℕ) (k : Call) → x .words ≤ length t → x .bytes ≤ length st
-    → _≡_ {A = State} (record { table = take (x .words) (sets t 0 (next (stateOf x t st) k .table)); store = take (x .bytes) (sets st 0 (next (stateOf x t st) k .store)) }) (next (stateOf x t st) k)
+    → _≡_ {A = State} (record {
+      table = take (x .words) (sets t 0 (next (stateOf x t st) k .table));
+      store = take (x .bytes)
+          (sets st 0 (next (stateOf x t st) k .store));
+    }) (next (stateOf x t st) k)
 after-call x t st k w v =
     let z = step-sizes (stateOf x t st) k in
     let a = take-sets t (next (stateOf x t st) k .table) (x .words) (z .0 ∙ length-take-le (x .words) t w) w in
@@ -154,7 +159,8 @@ after-call x t st k w v =
     λ i. record { table = a i; store = b i }
 
 -- ---- by what was read of b ∷ s, with ys after it
-module _ (x : Session) (t st l : List ℕ) (b : ℕ) (s ys : List ℕ) (going : x .over ≡ false) (h : Fine x t st l ((b ∷ s) ++ ys)) (p : Advanced) (shorter : length (p .rest) ≤ length s) where
+module _ (x : Session) (t st l : List ℕ) (b : ℕ) (s ys : List ℕ) (going : x .over ≡ false) (h : Fine x t st l ((b ∷ s) ++ ys)) (p : Advanced)
+    (shorter : length (p .rest) ≤ length s) where
   abbrev r : Reader
   r = x .reader
 
@@ -215,9 +221,11 @@ module _ (x : Session) (t st l : List ℕ) (b : ℕ) (s ys : List ℕ) (going : 
             ∙ split _ (accepts (p .table) st)
             (λ e. taken-due (x .lines) (stateOf x t st) (configuration (p .table)) (p .rest ++ ys) (sym same ∙ e)
             ∙ ap (λ (z : State). heading ++ callsText 0 z (p .rest ++ ys)) (sym (begins (p .table) st (o .cells) long′ (h .wide) e))
-            ∙ sym (ap₂ _++_ (cond-true (accepts (p .table) st) heading badConfiguration e) (between-toCome _ (tableReady (p .table) st) (storeReady st) (p .buffer) (ap not e) (p .rest ++ ys) (ap isBetween (o .reader)))))
+            ∙ sym (ap₂ _++_ (cond-true (accepts (p .table) st) heading badConfiguration e)
+            (between-toCome _ (tableReady (p .table) st) (storeReady st) (p .buffer) (ap not e) (p .rest ++ ys) (ap isBetween (o .reader)))))
             (λ e. refused-due (x .lines) (stateOf x t st) (configuration (p .table)) (p .rest ++ ys) (sym same ∙ e)
-            ∙ sym (ap₂ _++_ (cond-false (accepts (p .table) st) heading badConfiguration e) (over-nothing _ (tableReady (p .table) st) (storeReady st) (p .buffer) (p .rest ++ ys) (ap not e)) ∙ append-nil badConfiguration));
+            ∙ sym (ap₂ _++_ (cond-false (accepts (p .table) st) heading badConfiguration e)
+            (over-nothing _ (tableReady (p .table) st) (storeReady st) (p .buffer) (p .rest ++ ys) (ap not e)) ∙ append-nil badConfiguration));
         fine = λ z. record {
           good = good-table r′ (p .table) (tableReady (p .table) st) (p .buffer) (o .good) (ap (λ (z : Reader). z .stage) (o .reader));
           long = rw (length-sets (p .table) 0 (setUpTable (take (wordsOf (p .table)) (p .table)) (bytesOf (p .table) st))) long′;
@@ -240,13 +248,16 @@ module _ (x : Session) (t st l : List ℕ) (b : ℕ) (s ys : List ℕ) (going : 
         text =
             due-now
             ∙ ap (due (x .lines) (stateOf x t st)) (o .same ys)
-            ∙ ap (λ (z : List ℕ). line (x .lines + 1) (k .code) (step (stateOf x z st) k .answered) (step (stateOf x z st) k .buffer) ++ callsText (x .lines + 1) (next (stateOf x z st) k) (p .rest ++ ys)) (sym (o .table))
-            ∙ ap (λ (n : ℕ). line n (k .code) (step (stateOf x (p .table) st) k .answered) (step (stateOf x (p .table) st) k .buffer) ++ callsText n (next (stateOf x (p .table) st) k) (p .rest ++ ys)) one
+            ∙ ap (λ (z : List ℕ). line (x .lines + 1) (k .code) (step (stateOf x z st) k .answered) (step (stateOf x z st) k .buffer) ++ callsText (x .lines + 1)
+            (next (stateOf x z st) k) (p .rest ++ ys)) (sym (o .table))
+            ∙ ap (λ (n : ℕ). line n (k .code) (step (stateOf x (p .table) st) k .answered) (step (stateOf x (p .table) st) k .buffer) ++ callsText n
+            (next (stateOf x (p .table) st) k) (p .rest ++ ys)) one
             ∙ ap (λ (z : List ℕ). line (oneMore (x .lines)) (k .code) (step (stateOf x (p .table) st) k .answered) (step (stateOf x (p .table) st) k .buffer) ++ z)
             (ap (λ (z : State). callsText (oneMore (x .lines)) z (p .rest ++ ys)) (sym (after-call x (p .table) st k w (h .bytes (o .stage))))
             ∙ sym (between-toCome _ _ _ _ refl (p .rest ++ ys) (ap isBetween (o .reader))));
         fine = λ z. record {
-          good = good-buffer r′ (p .table) _ (p .buffer) _ (o .good) (ap (λ (z : Reader). z .stage) (o .reader)) (length-sets (p .buffer) 0 (step (stateOf x (p .table) st) k .buffer));
+          good = good-buffer r′ (p .table) _ (p .buffer) _ (o .good) (ap (λ (z : Reader). z .stage) (o .reader))
+              (length-sets (p .buffer) 0 (step (stateOf x (p .table) st) k .buffer));
           long = rw (length-sets (p .table) 0 (next (stateOf x (p .table) st) k .table), o .table) (h .long);
           wide = rw (length-sets st 0 (next (stateOf x (p .table) st) k .store)) (h .wide);
           count = let c = h .count in let n = left in omega arith;
@@ -268,7 +279,8 @@ over-hands x t st l s ys i e =
     record { text = over-nothing x t st l (s ++ ys) e ∙ sym (over-nothing x t st l ys e); fine = λ z. absurd (true≢false (sym e ∙ z)) }
 
 -- no byte
-none-hands : (x : Session) (t st l ys : List ℕ) (i : ℕ) → x .over ≡ false → Fine x t st l ys → Hands x t st l [] ys (acted what.More x st (advanced what.More (x .reader) i [] t l))
+none-hands : (x : Session) (t st l ys : List ℕ) (i : ℕ) → x .over ≡ false → Fine x t st l ys
+    → Hands x t st l [] ys (acted what.More x st (advanced what.More (x .reader) i [] t l))
 unfolding acted
 none-hands x t st l ys i e f =
     record {

@@ -66,7 +66,8 @@ enough (suc m) (suc n) x t st l (b ∷ s) i room p q = elim (decLt room lineByte
 pub play-on : (x : Session) (t st l s : List ℕ) (i room : ℕ) → 0 < length s → lineBytes ≤ room
     → play x t st l s i room
     ≡ after (turn x t st l s i .text)
-    (play (turn x t st l s i .session) (turn x t st l s i .table) (turn x t st l s i .store) (turn x t st l s i .buffer) (turn x t st l s i .rest) (turn x t st l s i .next) (room - length (turn x t st l s i .text)))
+    (play (turn x t st l s i .session) (turn x t st l s i .table) (turn x t st l s i .store) (turn x t st l s i .buffer) (turn x t st l s i .rest)
+    (turn x t st l s i .next) (room - length (turn x t st l s i .text)))
 play-on x t st l [] i room p h = absurd (omega arith)
 play-on x t st l (b ∷ s) i room p h =
     let z = turn-taken x t st l b s i in
@@ -140,7 +141,8 @@ play-nearer x t st l s i room n h m e =
 pub play-starts : (x : Session) (t st l s o : List ℕ) (i : ℕ) → after (take 0 o) (play x t st l s i (length o - 0)) ≡ play x t st l s i (length o)
 play-starts x t st l s o i = ap (play x t st l s i) (let e : length o - 0 ≡ length o = omega arith in e)
 
-module _ (x : Session) (t st l o : List ℕ) (at : ℕ) (s : List ℕ) (i : ℕ) (r : Stepped) (t′ st′ l′ o′ : List ℕ) (p : Turned (turn x t st l (drop i s) i) o at r t′ st′ l′ o′) (h : i < length s)
+module _ (x : Session) (t st l o : List ℕ) (at : ℕ) (s : List ℕ) (i : ℕ) (r : Stepped) (t′ st′ l′ o′ : List ℕ)
+    (p : Turned (turn x t st l (drop i s) i) o at r t′ st′ l′ o′) (h : i < length s)
     (m : lineBytes ≤ length o - at) where
   abbrev c : Turn
   c = turn x t st l (drop i s) i

@@ -29,7 +29,8 @@ unfolding numberFrom
 number-leaves [] n v m h = tt
 number-leaves (b ∷ s) n v m h =
     elim (decLt b 128) [
-      | yes l ↦ rw (last-group n v b s l) (leaves-if (ltb (v + b % 128 * 128 ^ n) (2 ^ 32) && (eqb n 0 || not (eqb b 0))) m (took (v + b % 128 * 128 ^ n) s) bad (omega arith) tt)
+      | yes l ↦ rw (last-group n v b s l) (leaves-if (ltb (v + b % 128 * 128 ^ n) (2 ^ 32) && (eqb n 0 || not (eqb b 0))) m (took (v + b % 128 * 128 ^ n) s) bad
+          (omega arith) tt)
       | no g ↦
           rw (other-group n v b s (omega arith))
           (leaves-if (ltb (n + 1) maxGroups) m (numberFrom (n + 1) (v + b % 128 * 128 ^ n) s) bad (number-leaves s (n + 1) (v + b % 128 * 128 ^ n) m (omega arith)) tt)

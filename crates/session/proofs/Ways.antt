@@ -40,7 +40,8 @@ stands o at s r o′ m w =
     let h = w .short in
     let e : r ≡ at + length s = omega (arith, w .text .next) in
     let n : length (take at o) ≡ at = length-take-le at o (omega arith) in
-    ap (drop at) (ap₂ take e (w .text .left ∙ sets-eq s o at (omega arith)) ∙ take-at (take at o ++ s) (drop (at + length s) o) (at + length s) (let f = length-append (take at o) s in omega arith))
+    ap (drop at) (ap₂ take e (w .text .left ∙ sets-eq s o at (omega arith)) ∙ take-at (take at o ++ s) (drop (at + length s) o) (at + length s)
+    (let f = length-append (take at o) s in omega arith))
     ∙ drop-at (take at o) s at n
 
 -- the fixed lines
@@ -147,14 +148,17 @@ pub ran : (x : Session) (n : ℕ) (nums t st l out : List ℕ) (at w v q k : ℕ
 unfolding outcomeOf
 ran x n nums t st l out at w v q k o a tn sn bn r out′ ew ev eq ek eo ea et es eb nt ns nb wr =
     let same : o ≡ step (record { table = take (x .words) t; store = take (x .bytes) st }) (callOf nums (take (min (getD nums 5 0) maxBuffer) l)) = eo
-    ∙ ap₂ (λ (y z : List ℕ). step (record { table = y; store = z }) (callOf nums (take k l))) (ap (λ (j : ℕ). take j t) ew ∙ take-min (x .words) t) (ap (λ (j : ℕ). take j st) ev ∙ take-min (x .bytes) st)
-    ∙ ap (λ (y : List ℕ). step (record { table = take (x .words) t; store = take (x .bytes) st }) (callOf nums y)) (ap (λ (j : ℕ). take j l) ek ∙ take-min q l ∙ ap (λ (j : ℕ). take j l) eq) in
+    ∙ ap₂ (λ (y z : List ℕ). step (record { table = y; store = z }) (callOf nums (take k l))) (ap (λ (j : ℕ). take j t) ew ∙ take-min (x .words) t)
+    (ap (λ (j : ℕ). take j st) ev ∙ take-min (x .bytes) st)
+    ∙ ap (λ (y : List ℕ). step (record { table = take (x .words) t; store = take (x .bytes) st }) (callOf nums y))
+    (ap (λ (j : ℕ). take j l) ek ∙ take-min q l ∙ ap (λ (j : ℕ). take j l) eq) in
     let long : length bn ≡ k = nb ∙ length-take-le k l (omega arith) in
     record {
       table = over-front t tn w nt (omega arith) ∙ ap (sets t 0) (et ∙ ap (λ (z : Outcome). z .state .table) same);
       store = over-front st sn v ns (omega arith) ∙ ap (sets st 0) (es ∙ ap (λ (z : Outcome). z .state .store) same);
       buffer = over-front l bn k nb (omega arith) ∙ ap (sets l 0) (eb ∙ ap (λ (z : Outcome). z .buffer) same);
-      written = named out at (line n (getD nums 1 0) a bn) _ r out′ (ap₂ (line n (getD nums 1 0)) (ea ∙ ap (λ (z : Outcome). z .answered) same) (eb ∙ ap (λ (z : Outcome). z .buffer) same))
+      written = named out at (line n (getD nums 1 0) a bn) _ r out′ (ap₂ (line n (getD nums 1 0)) (ea ∙ ap (λ (z : Outcome). z .answered) same)
+          (eb ∙ ap (λ (z : Outcome). z .buffer) same))
           (record {
             text = as-text out at _ (line n (getD nums 1 0) a bn) r out′ (ap (line n (getD nums 1 0) a) (take-at bn (drop k l) k long)) wr;
             short = line-short n (getD nums 1 0) a bn (omega arith);
@@ -174,7 +178,18 @@ module _ (b : Bool) (o : List ℕ) (at r : ℕ) (o′ : List ℕ) where
 -- the configuration is whole; what set-up answers decides
 pub begun : (reader : Reader) (i : ℕ) (t st : List ℕ) (y : Setup) (t′ st′ o : List ℕ) (at r : ℕ) (o′ : List ℕ) → Prepared t st y t′ st′
     → Written o at (cond (eqb (y .answer) XOK) heading badConfiguration) r o′
-    → Begun reader i t st o at (record { session = record { reader = reader; lines = 0; words = y .words; bytes = y .bytes; over = not (eqb (y .answer) XOK) }; next = i; end = r }) t′ st′ o′
+    → Begun reader i t st o at (record {
+      session = record {
+        reader = reader;
+        lines = 0;
+        words = y .words;
+        bytes = y .bytes;
+        over = not
+            (eqb (y .answer) XOK);
+      };
+      next = i;
+      end = r;
+    }) t′ st′ o′
 unfolding accepts
 begun reader i t st y t′ st′ o at r o′ p w =
     record {
@@ -194,11 +209,14 @@ at-what : (w : What) (x : Session) (m : Moved) (t st l o : List ℕ) (at : ℕ) 
 at-what w x m t st l o at r t′ st′ l′ o′ e f rest = subst (λ (z : What). Turned (acted z x st (readTo m rest t l)) o at r t′ st′ l′ o′) (sym e) (f rest)
 
 module _ (x : Session) (m : Moved) (t st l o : List ℕ) (at : ℕ) where
-  pub act-more : (y : Session) → m .what ≡ what.More → y ≡ onward x (m .reader) (x .lines) false → Acts x m t st l o at (record { session = y; next = m .next; end = at }) t st l o
+  pub act-more : (y : Session) → m .what ≡ what.More → y ≡ onward x (m .reader) (x .lines) false
+      → Acts x m t st l o at (record { session = y; next = m .next; end = at }) t st l o
   unfolding acted
-  act-more y e f = at-what what.More x m t st l o at _ t st l o e (λ rest. record { session = f; next = refl; table = refl; store = refl; buffer = refl; written = nothing o at })
+  act-more y e f = at-what what.More x m t st l o at _ t st l o e
+      (λ rest. record { session = f; next = refl; table = refl; store = refl; buffer = refl; written = nothing o at })
 
-  pub act-configuration : (r : Stepped) (t′ st′ o′ : List ℕ) → m .what ≡ what.Configuration → Begun (m .reader) (m .next) t st o at r t′ st′ o′ → Acts x m t st l o at r t′ st′ l o′
+  pub act-configuration : (r : Stepped) (t′ st′ o′ : List ℕ) → m .what ≡ what.Configuration → Begun (m .reader) (m .next) t st o at r t′ st′ o′
+      → Acts x m t st l o at r t′ st′ l o′
   unfolding acted
   act-configuration r t′ st′ o′ e k =
       at-what what.Configuration x m t st l o at r t′ st′ l o′ e

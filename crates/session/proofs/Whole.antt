@@ -111,7 +111,8 @@ pub data Handed : Session → List ℕ → List ℕ → List ℕ → List ℕ �
       → Handed x t st l s i [] (take r o′)
 
 -- so the session is driven
-goes-as : (s ys text : List ℕ) (k : Turn) (r : Stepped) (t′ st′ l′ : List ℕ) → r .session ≡ k .session → t′ ≡ k .table → st′ ≡ k .store → l′ ≡ k .buffer → k .rest ≡ drop (r .next) s
+goes-as : (s ys text : List ℕ) (k : Turn) (r : Stepped) (t′ st′ l′ : List ℕ) → r .session ≡ k .session → t′ ≡ k .table → st′ ≡ k .store → l′ ≡ k .buffer
+    → k .rest ≡ drop (r .next) s
     → Driven (r .session) t′ st′ l′ (drop (r .next) s ++ ys) text → Driven (k .session) (k .table) (k .store) (k .buffer) (k .rest ++ ys) text
 goes-as s ys text k r t′ st′ l′ e₁ e₂ e₃ e₄ e₅ d = rw (← e₁, ← e₂, ← e₃, ← e₄, e₅) d
 
@@ -125,7 +126,8 @@ handed (played x t st l s i ys o r t′ st′ l′ o′ text p h) =
     let k : Turn = play x t st l (drop i s) i (length o) in
     subst (λ (z : List ℕ). Driven x t st l (drop i s ++ ys) (z ++ text)) (sym (p .handed))
     (play-leads (length (drop i s)) x t st l (drop i s) ys i (length o) text
-    (goes-as s ys text k r t′ st′ l′ (p .session) (p .table) (p .store) (p .buffer) (play-rest (length (drop i s)) x t st l s i (length o) ∙ ap (λ (n : ℕ). drop n s) (sym (p .next))) (handed h)))
+    (goes-as s ys text k r t′ st′ l′ (p .session) (p .table) (p .store) (p .buffer)
+    (play-rest (length (drop i s)) x t st l s i (length o) ∙ ap (λ (n : ℕ). drop n s) (sym (p .next))) (handed h)))
 handed (read x t st l s i s′ ys text m h) = rw (drop-of-length-le s m) (handed h)
 handed (stopped x t st l s i ys e) = over x t st l (drop i s ++ ys) e
 handed (finished x t st l s i o r o′ m n w) =

@@ -38,4 +38,12 @@ pub line-short : (n code : ℕ) (w : Answer) (s : List ℕ) → length s ≤ max
 unfolding line
 line-short n code w s h =
     simp length-append
-    (omega (arith, digits-short maxDigits n, name-at-most (w .error), digits-short maxDigits (w .first), digits-short maxDigits (w .second), shown-short (showsBuffer code (w .error)) s h))
+    (omega (
+      arith,
+      digits-short maxDigits n,
+      name-at-most (w .error),
+      digits-short maxDigits (w .first),
+      digits-short maxDigits (w .second),
+      shown-short
+          (showsBuffer code (w .error)) s h,
+    ))

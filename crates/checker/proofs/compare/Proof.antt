@@ -42,13 +42,15 @@ same : (c : tie.Then1 Inv-loop μ-loop)
     → alike (drop (c .before .before .loop .at) (text (c .before .before))) (drop (c .before .before .loop .next) (recorded (c .before .before))) ≡ true
 same c = sym (c .before .alike .ensures) ∙ c .if1 .taken
 
-inside : (c : tie.Then1 Inv-loop μ-loop) → (c .before .before .loop .at < length (text (c .before .before))) × (c .before .before .loop .next < length (recorded (c .before .before)))
+inside : (c : tie.Then1 Inv-loop μ-loop) → (c .before .before .loop .at < length (text (c .before .before))) ×
+    (c .before .before .loop .next < length (recorded (c .before .before)))
 inside c = alike-inside (text (c .before .before)) (recorded (c .before .before)) (c .before .before .loop .at) (c .before .before .loop .next) (same c)
 
 add-at : tie.Need-add-at Inv-loop μ-loop
 add-at c =
     let h = inside (c .before .before) in
-    let n = length-take (c .before .before .before .before .before .before .before .before .args .x .end) (c .before .before .before .before .before .before .before .before .args .out .now) in
+    let n = length-take (c .before .before .before .before .before .before .before .before .args .x .end)
+    (c .before .before .before .before .before .before .before .before .args .out .now) in
     search needs
 
 add-next : tie.Need-add-next Inv-loop μ-loop

@@ -27,7 +27,8 @@ returns-3 : tie.Need-returns-3
 returns-3 c =
     let at-words = c .before .before .before .before .before .before in
     let fits = at-words .before .before in
-    is-put _ _ _ _ (fits .before .before .image-length .ensures) (fits .before .if1 .left) (fits .if2 .left) _ _ _ (at-words .put-words .ensures) (c .before .before .put-bytes .ensures)
+    is-put _ _ _ _ (fits .before .before .image-length .ensures) (fits .before .if1 .left) (fits .if2 .left) _ _ _ (at-words .put-words .ensures)
+    (c .before .before .put-bytes .ensures)
 
 pub image-spec : {M : Type 1} → statement M
 image-spec =

@@ -41,7 +41,11 @@ array-copy-out-from : tie.Need-array-copy-out-from Inv-loop2 μ-loop2 Inv-loop �
 array-copy-out-from c = search needs
 
 loop2-holds : tie.Need-loop2-holds Inv-loop2 μ-loop2 Inv-loop μ-loop
-loop2-holds c = (omega arith, row-begun _ _ (c .before .before .before .levels .result) _ _ (omega (arith, c .before .loop-test .taken, c .before .before .before .before .count .ensures)) (c .before .before .loop .inv .1))
+loop2-holds c = (
+  omega arith,
+  row-begun _ _ (c .before .before .before .levels .result) _ _
+      (omega (arith, c .before .loop-test .taken, c .before .before .before .before .count .ensures)) (c .before .before .loop .inv .1),
+)
 
 mul-level : tie.Need-mul-level Inv-loop2 μ-loop2 Inv-loop μ-loop
 mul-level c = search needs
@@ -68,7 +72,9 @@ loop2-less : tie.Need-loop2-less Inv-loop2 μ-loop2 Inv-loop μ-loop
 loop2-less c = search needs
 
 loop2-again : tie.Need-loop2-again Inv-loop2 μ-loop2 Inv-loop μ-loop
-loop2-again c = (omega arith, row-more _ _ (c .before .before .before .before .before .before .before .levels .result) _ _ _ _ (omega arith) (omega arith) (c .before .before .before .loop2 .inv .1) (c .flows-from .ensures))
+loop2-again c =
+    let at-levels = c .before .before .before .before .before .before .before in
+    (omega arith, row-more _ _ (at-levels .levels .result) _ _ _ _ (omega arith) (omega arith) (c .before .before .before .loop2 .inv .1) (c .flows-from .ensures))
 
 add-c : tie.Need-add-c Inv-loop2 μ-loop2 Inv-loop μ-loop
 add-c c = search needs
@@ -77,7 +83,13 @@ loop-less : tie.Need-loop-less Inv-loop2 μ-loop2 Inv-loop μ-loop
 loop-less c = search needs
 
 loop-again : tie.Need-loop-again Inv-loop2 μ-loop2 Inv-loop μ-loop
-loop-again c = (omega arith, row-done _ _ (c .before .before .before .before .before .before .count .ensures) _ (c .before .before .before .before .before .levels .ensures) _ _ _ (c .before .before .before .loop-test .taken) (c .before .loop2 .inv .0) (c .loop2-test .left) (c .before .loop2 .inv .1))
+loop-again c =
+    let at-count = c .before .before .before .before .before .before in
+    let at-loop2 = c .before in (
+      omega arith,
+      row-done _ _ (at-count .count .ensures) _ (c .before .before .before .before .before .levels .ensures) _ _ _
+          (c .before .before .before .loop-test .taken) (at-loop2 .loop2 .inv .0) (c .loop2-test .left) (at-loop2 .loop2 .inv .1),
+    )
 
 returns : tie.Need-returns Inv-loop2 μ-loop2 Inv-loop μ-loop
 returns c = matrix-all _ _ (c .before .before .before .count .ensures) _ _ (c .before .loop .inv .0) (c .loop-test .left) (c .before .loop .inv .1)

@@ -21,7 +21,15 @@ add-if4 c = search needs
 
 returns-3 : tie.Need-returns-3
 unfolding fedBy
-returns-3 c = rw (lt-leb _ _ (c .before .before .before .before .if1 .left), ← c .before .before .before .grow .ensures .0, lt-leb _ _ (c .before .before .if2 .left), le-leb _ _ (c .before .if3 .taken), le-leb _ _ (c .if4 .taken))
+returns-3 c =
+    rw (
+      lt-leb _ _ (c .before .before .before .before .if1 .left),
+      ← c .before .before .before .grow .ensures .0,
+      lt-leb _ _ (c .before .before .if2 .left),
+      le-leb _ _
+          (c .before .if3 .taken),
+      le-leb _ _ (c .if4 .taken),
+    )
 
 cast-t6 : tie.Need-cast-t6
 cast-t6 c = search needs
@@ -31,18 +39,42 @@ add-t8 c = search needs
 
 returns-4 : tie.Need-returns-4
 unfolding fedBy
-returns-4 c = rw (lt-leb _ _ (c .before .before .before .before .if1 .left), ← c .before .before .before .grow .ensures .0, lt-leb _ _ (c .before .before .if2 .left), le-leb _ _ (c .before .if3 .taken), lt-leb _ _ (c .if4 .left))
+returns-4 c =
+    rw (
+      lt-leb _ _ (c .before .before .before .before .if1 .left),
+      ← c .before .before .before .grow .ensures .0,
+      lt-leb _ _ (c .before .before .if2 .left),
+      le-leb _ _
+          (c .before .if3 .taken),
+      lt-leb _ _ (c .if4 .left),
+    )
 
 cast-t13 : tie.Need-cast-t13
 cast-t13 c = search needs
 
 returns-5 : tie.Need-returns-5
 unfolding fedBy
-returns-5 c = rw (lt-leb _ _ (c .before .before .before .before .if1 .left), ← c .before .before .before .grow .ensures .0, lt-leb _ _ (c .before .before .if2 .left), lt-leb _ _ (c .before .if3 .left), c .if5 .taken)
+returns-5 c =
+    rw (
+      lt-leb _ _ (c .before .before .before .before .if1 .left),
+      ← c .before .before .before .grow .ensures .0,
+      lt-leb _ _ (c .before .before .if2 .left),
+      lt-leb _ _
+          (c .before .if3 .left),
+      c .if5 .taken,
+    )
 
 returns-6 : tie.Need-returns-6
 unfolding fedBy
-returns-6 c = rw (lt-leb _ _ (c .before .before .before .before .if1 .left), ← c .before .before .before .grow .ensures .0, lt-leb _ _ (c .before .before .if2 .left), lt-leb _ _ (c .before .if3 .left), c .if5 .left)
+returns-6 c =
+    rw (
+      lt-leb _ _ (c .before .before .before .before .if1 .left),
+      ← c .before .before .before .grow .ensures .0,
+      lt-leb _ _ (c .before .before .if2 .left),
+      lt-leb _ _
+          (c .before .if3 .left),
+      c .if5 .left,
+    )
 
 pub feed-spec : {M : Type 1} → statement M
 feed-spec =

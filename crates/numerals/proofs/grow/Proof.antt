@@ -44,7 +44,9 @@ mul-result-2 : tie.Need-mul-result-2
 mul-result-2 c = omega (arith, bound 0 (c .before .args .b) (c .before .args .p .count) (omega arith) (c .before .pre))
 
 add-result : tie.Need-add-result
-add-result c = omega (arith, bound (c .before .args .p .value) (c .before .args .b) (c .before .args .p .count) (omega (arith, c .struct-known .given)) (c .before .pre))
+add-result c =
+    let s = c .before in
+    omega (arith, bound (s .args .p .value) (s .args .b) (s .args .p .count) (omega (arith, c .struct-known .given)) (s .pre))
 
 returns : tie.Need-returns
 returns c =

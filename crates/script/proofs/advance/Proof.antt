@@ -12,7 +12,8 @@ use Rattle.script.proofs.advance.Statement.{statement}
 use Rattle.script.proofs.advance.Tie as tie
 
 abbrev Inv-loop : tie.InvT-loop
-Inv-loop table₀ buf₀ s from reader₀ i₀ table buf reader i = (length table ≡ length table₀) × (length buf ≡ length buf₀) × (advance reader table buf (drop i s) i ≡ advance reader₀ table₀ buf₀ (drop from s) from)
+Inv-loop table₀ buf₀ s from reader₀ i₀ table buf reader i = (length table ≡ length table₀) × (length buf ≡ length buf₀) ×
+    (advance reader table buf (drop i s) i ≡ advance reader₀ table₀ buf₀ (drop from s) from)
 
 abbrev μ-loop : tie.MeasureT-loop
 μ-loop table₀ buf₀ s from reader₀ i₀ table buf reader i = length s - i
@@ -33,13 +34,23 @@ same-length-2 : tie.Need-same-length-2 Inv-loop μ-loop
 same-length-2 c = search needs
 
 returns : tie.Need-returns Inv-loop μ-loop
-returns c = rw (← c .before .before .before .before .before .before .before .before .before .before .loop .inv .2) (code-stops _ _ _ _ _ _ _ _ (c .before .before .before .before .before .before .take-some .ensures) _ (c .before .is-more .ensures) (not-true _ (c .if1 .taken)))
+returns c =
+    let at-loop = c .before .before .before .before .before .before .before .before .before .before in
+    let at-take-some = c .before .before .before .before .before .before in
+    rw (← at-loop .loop .inv .2) (code-stops _ _ _ _ _ _ _ _ (at-take-some .take-some .ensures) _ (c .before .is-more .ensures) (not-true _ (c .if1 .taken)))
 
 loop-less : tie.Need-loop-less Inv-loop μ-loop
 loop-less c = let z = c .before .before .before .before .before .before .before .take-some .ensures .past in omega arith
 
 loop-again : tie.Need-loop-again Inv-loop μ-loop
-loop-again c = (search needs, search needs, code-goes-on _ _ _ _ _ _ _ _ (c .before .before .before .before .before .before .before .take-some .ensures) _ (c .before .before .is-more .ensures) (not-false _ (c .before .if1 .left)) ∙ c .before .before .before .before .before .before .before .before .before .before .before .loop .inv .2)
+loop-again c =
+    let at-loop = c .before .before .before .before .before .before .before .before .before .before .before in
+    let at-take-some = c .before .before .before .before .before .before .before in (
+      search needs,
+      search needs,
+      code-goes-on _ _ _ _ _ _ _ _ (at-take-some .take-some .ensures) _ (c .before .before .is-more .ensures)
+          (not-false _ (c .before .if1 .left)) ∙ at-loop .loop .inv .2,
+    )
 
 same-length-3 : tie.Need-same-length-3 Inv-loop μ-loop
 same-length-3 c = search needs

@@ -53,7 +53,10 @@ same-length-3 : tie.Need-same-length-3
 same-length-3 c = search needs
 
 returns-2 : tie.Need-returns-2
-returns-2 c = act-configuration _ _ _ _ _ _ _ _ _ _ _ (c .before .before .before .before .before .before .before .before .before .before .enum-told2 .given .1) (c .before .before .before .before .before .before .begin .ensures)
+returns-2 c =
+    let at-enum-told2 = c .before .before .before .before .before .before .before .before .before .before in
+    let at-begin = c .before .before .before .before .before .before in
+    act-configuration _ _ _ _ _ _ _ _ _ _ _ (at-enum-told2 .enum-told2 .given .1) (at-begin .begin .ensures)
 
 same-length-4 : tie.Need-same-length-4
 same-length-4 c = search needs
@@ -68,13 +71,20 @@ same-length-7 : tie.Need-same-length-7
 same-length-7 c = search needs
 
 returns-3 : tie.Need-returns-3
-returns-3 c = act-call _ _ _ _ _ _ _ _ _ _ _ _ _ _ (c .before .before .before .before .before .before .before .before .before .before .before .before .before .before .before .before .enum-told3 .given .1) (c .before .before .before .before .before .before .before .before .before .before .before .before .before .before .before .wrapping-add-u64 .ensures) (c .onward2 .ensures) (c .before .before .before .before .before .before .before .before .before .run .ensures)
+returns-3 c =
+    let at-enum-told3 = c .before .before .before .before .before .before .before .before .before .before .before .before .before .before .before .before in
+    let at-wrapping-add-u64 = c .before .before .before .before .before .before .before .before .before .before .before .before .before .before .before in
+    let at-run = c .before .before .before .before .before .before .before .before .before in
+    act-call _ _ _ _ _ _ _ _ _ _ _ _ _ _ (at-enum-told3 .enum-told3 .given .1) (at-wrapping-add-u64 .wrapping-add-u64 .ensures) (c .onward2 .ensures) (at-run .run .ensures)
 
 same-length-8 : tie.Need-same-length-8
 same-length-8 c = search needs
 
 returns-4 : tie.Need-returns-4
-returns-4 c = act-fault _ _ _ _ _ _ _ _ _ _ _ (c .before .before .before .before .before .before .before .enum-told4 .given .1) (c .before .before .before .before .is-calling .ensures) (c .onward3 .ensures) (c .before .before .before .put-fault .ensures)
+returns-4 c =
+    let at-enum-told4 = c .before .before .before .before .before .before .before in
+    act-fault _ _ _ _ _ _ _ _ _ _ _ (at-enum-told4 .enum-told4 .given .1) (c .before .before .before .before .is-calling .ensures) (c .onward3 .ensures)
+    (c .before .before .before .put-fault .ensures)
 
 pub act-spec : {M : Type 1} → statement M
 act-spec =

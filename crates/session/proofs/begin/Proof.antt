@@ -20,7 +20,9 @@ same-length-3 : tie.Need-same-length-3
 same-length-3 c = search needs
 
 returns : tie.Need-returns
-returns c = begun _ _ _ _ _ _ _ _ _ _ _ (c .before .before .before .before .before .before .before .before .before .prepare .ensures) (c .before .before .put-opening .ensures)
+returns c =
+    let at-prepare = c .before .before .before .before .before .before .before .before .before in
+    begun _ _ _ _ _ _ _ _ _ _ _ (at-prepare .prepare .ensures) (c .before .before .put-opening .ensures)
 
 pub begin-spec : {M : Type 1} → statement M
 begin-spec =

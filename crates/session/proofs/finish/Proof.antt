@@ -24,7 +24,11 @@ same-length : tie.Need-same-length
 same-length c = search needs
 
 returns-3 : tie.Need-returns-3
-returns-3 c = finish-mid _ _ _ _ _ (c .before .before .before .before .before .before .before .if1 .left) (sym (c .before .before .before .before .before .before .is-between .ensures) ∙ c .before .before .before .before .before .if2 .left) (c .before .before .before .is-calling .ensures) (c .before .before .put-fault .ensures)
+returns-3 c =
+    let at-if1 = c .before .before .before .before .before .before .before in
+    let at-is-between = c .before .before .before .before .before .before in
+    finish-mid _ _ _ _ _ (at-if1 .if1 .left) (sym (at-is-between .is-between .ensures) ∙ c .before .before .before .before .before .if2 .left)
+    (c .before .before .before .is-calling .ensures) (c .before .before .put-fault .ensures)
 
 pub finish-spec : {M : Type 1} → statement M
 finish-spec =

@@ -14,14 +14,25 @@ use Rattle.session.proofs.play.Tie as tie
 
 abbrev Inv-loop : tie.InvT-loop
 Inv-loop table₀ store₀ buf₀ out₀ s from session₀ next₀ end₀ table store buf out session next end =
-    (length table ≡ length table₀) × (length store ≡ length store₀) × (length buf ≡ length buf₀) × (length out ≡ length out₀) × (end ≤ length out) × Wrote out₀ 0 (take end out) end out
+    (length table ≡ length table₀) × (length store ≡ length store₀) × (length buf ≡ length buf₀) × (length out ≡ length out₀) × (end ≤ length out) × Wrote out₀ 0
+    (take end out) end out
     × (after (take end out) (play session table store buf (drop next s) next (length out - end)) ≡ play session₀ table₀ store₀ buf₀ (drop from s) from (length out₀))
 
 abbrev μ-loop : tie.MeasureT-loop
 μ-loop table₀ store₀ buf₀ out₀ s from session₀ next₀ end₀ table store buf out session next end = length s - next
 
 loop-holds : tie.Need-loop-holds Inv-loop μ-loop
-loop-holds c = (refl, refl, refl, refl, omega arith, none _ 0, play-starts (c .before .before .before .before .before .args .x) (c .before .before .before .before .before .args .table .now) (c .before .before .before .before .before .args .store .now) (c .before .before .before .before .before .args .buf .now) (drop (c .before .before .before .before .before .args .from) (c .before .before .before .before .before .args .s .now)) (c .before .before .before .before .before .args .out .now) (c .before .before .before .before .before .args .from))
+loop-holds c =
+    let s = c .before .before .before .before .before in (
+      refl,
+      refl,
+      refl,
+      refl,
+      omega arith,
+      none _ 0,
+      play-starts (s .args .x) (s .args .table .now) (s .args .store .now) (s .args .buf .now)
+          (drop (s .args .from) (s .args .s .now)) (s .args .out .now) (s .args .from),
+    )
 
 sub-if1 : tie.Need-sub-if1 Inv-loop μ-loop
 sub-if1 c = search needs
@@ -30,10 +41,28 @@ step-requires : tie.Need-step-requires Inv-loop μ-loop
 step-requires c κs = search needs
 
 loop-less : tie.Need-loop-less Inv-loop μ-loop
-loop-less c = nearer _ _ _ _ _ _ _ (c .before .before .before .before .before .before .before .before .before .before .before .before .before .before .before .loop-test .taken) (c .before .before .before .before .before .before .before .before .before .step .ensures .next)
+loop-less c =
+    let at-loop-test = c .before .before .before .before .before .before .before .before .before .before .before .before .before .before .before in
+    let at-step = c .before .before .before .before .before .before .before .before .before in
+    nearer _ _ _ _ _ _ _ (at-loop-test .loop-test .taken) (at-step .step .ensures .next)
 
 loop-again : tie.Need-loop-again Inv-loop μ-loop
-loop-again c = (search needs, search needs, search needs, search needs, inside _ _ _ _ _ _ _ _ _ _ _ _ _ (c .before .before .before .before .before .before .before .before .before .step .ensures) (c .before .before .before .before .before .before .before .before .before .before .before .before .before .before .before .loop-test .taken) (c .before .before .before .before .before .before .before .before .before .before .before .before .before .before .if1 .left), again-written _ _ _ _ _ _ _ _ _ _ _ _ _ (c .before .before .before .before .before .before .before .before .before .step .ensures) (c .before .before .before .before .before .before .before .before .before .before .before .before .before .before .before .loop-test .taken) (c .before .before .before .before .before .before .before .before .before .before .before .before .before .before .if1 .left) _ (c .before .before .before .before .before .before .before .before .before .before .before .before .before .before .before .before .loop .inv .5), again-same _ _ _ _ _ _ _ _ _ _ _ _ _ (c .before .before .before .before .before .before .before .before .before .step .ensures) (c .before .before .before .before .before .before .before .before .before .before .before .before .before .before .before .loop-test .taken) (c .before .before .before .before .before .before .before .before .before .before .before .before .before .before .if1 .left) _ (c .before .before .before .before .before .before .before .before .before .before .before .before .before .before .before .before .loop .inv .5) _ (c .before .before .before .before .before .before .before .before .before .before .before .before .before .before .before .before .loop .inv .6))
+loop-again c =
+    let at-loop = c .before .before .before .before .before .before .before .before .before .before .before .before .before .before .before .before in
+    let at-loop-test = c .before .before .before .before .before .before .before .before .before .before .before .before .before .before .before in
+    let at-if1 = c .before .before .before .before .before .before .before .before .before .before .before .before .before .before in
+    let at-step = c .before .before .before .before .before .before .before .before .before in (
+      search needs,
+      search needs,
+      search needs,
+      search needs,
+      inside _ _ _ _ _ _ _ _ _ _ _ _ _ (at-step .step .ensures) (at-loop-test .loop-test .taken)
+          (at-if1 .if1 .left),
+      again-written _ _ _ _ _ _ _ _ _ _ _ _ _ (at-step .step .ensures) (at-loop-test .loop-test .taken) (at-if1 .if1 .left) _
+          (at-loop .loop .inv .5),
+      again-same _ _ _ _ _ _ _ _ _ _ _ _ _ (at-step .step .ensures) (at-loop-test .loop-test .taken) (at-if1 .if1 .left) _
+          (at-loop .loop .inv .5) _ (at-loop .loop .inv .6),
+    )
 
 same-length : tie.Need-same-length Inv-loop μ-loop
 same-length c = search needs

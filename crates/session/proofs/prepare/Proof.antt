@@ -41,7 +41,16 @@ same-length-2 : tie.Need-same-length-2
 same-length-2 c = search needs
 
 returns : tie.Need-returns
-returns c = prepared _ _ _ _ _ _ _ _ _ _ (c .before .before .before .before .before .before .before .before .before .before .before .before .before .table-words .ensures) (c .before .before .before .before .before .before .before .before .before .before .before .before .least .ensures) (c .before .before .before .before .before .before .before .before .before .before .file-blocks .ensures) (c .before .before .before .before .before .before .before .before .before .least2 .ensures) (c .before .before .before .before .before .before .before .before .least3 .ensures) (c .before .before .before .before .before .before .put-zeros .ensures) (c .before .before .set-up .ensures .0) (c .before .before .set-up .ensures .1) (c .before .before .set-up .kept .0)
+returns c =
+    let at-table-words = c .before .before .before .before .before .before .before .before .before .before .before .before .before in
+    let at-least = c .before .before .before .before .before .before .before .before .before .before .before .before in
+    let at-file-blocks = c .before .before .before .before .before .before .before .before .before .before in
+    let at-least2 = c .before .before .before .before .before .before .before .before .before in
+    let at-least3 = c .before .before .before .before .before .before .before .before in
+    let at-put-zeros = c .before .before .before .before .before .before in
+    let at-set-up = c .before .before in
+    prepared _ _ _ _ _ _ _ _ _ _ (at-table-words .table-words .ensures) (at-least .least .ensures) (at-file-blocks .file-blocks .ensures) (at-least2 .least2 .ensures)
+    (at-least3 .least3 .ensures) (at-put-zeros .put-zeros .ensures) (at-set-up .set-up .ensures .0) (at-set-up .set-up .ensures .1) (at-set-up .set-up .kept .0)
 
 pub prepare-spec : {M : Type 1} → statement M
 prepare-spec =

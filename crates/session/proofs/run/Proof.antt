@@ -68,7 +68,10 @@ slice-reshare-prefix-put-line : tie.Need-slice-reshare-prefix-put-line
 slice-reshare-prefix-put-line c = search needs
 
 slice-aggregate-put-line : tie.Need-slice-aggregate-put-line
-slice-aggregate-put-line c = lent-again _ _ _ (c .before .before .before .before .before .before .before .before .call .last .1 .1 .1 .1 .1 .1 .1 .0) (c .before .before .before .before .before .before .before .before .before .before .before .before .least4 .ensures) (c .before .before .before .before .before .before .before .before .call .kept .1 .1 .1 .1 .1 .1 .1 .0)
+slice-aggregate-put-line c =
+    let at-least4 = c .before .before .before .before .before .before .before .before .before .before .before .before in
+    let at-call = c .before .before .before .before .before .before .before .before in
+    lent-again _ _ _ (at-call .call .last .1 .1 .1 .1 .1 .1 .1 .0) (at-least4 .least4 .ensures) (at-call .call .kept .1 .1 .1 .1 .1 .1 .1 .0)
 
 put-line-requires : tie.Need-put-line-requires
 put-line-requires c κs = search needs
@@ -86,7 +89,17 @@ same-length-4 : tie.Need-same-length-4
 same-length-4 c = search needs
 
 returns : tie.Need-returns
-returns c = ran _ _ _ _ _ _ _ _ _ _ _ _ _ _ _ _ _ _ _ (c .before .before .before .before .before .before .before .before .before .before .before .before .before .before .before .before .before .before .before .least .ensures) (c .before .before .before .before .before .before .before .before .before .before .before .before .before .before .before .before .before .before .least2 .ensures) (c .before .before .before .before .before .before .before .before .before .before .before .before .before .before .before .before .least3 .ensures ∙ ap (λ (z : ℕ). min z maxBuffer) (c .before .before .before .before .before .before .before .before .before .before .before .before .before .before .before .before .before .wide .ensures)) (c .before .before .before .before .before .before .before .before .before .before .before .before .before .before .before .least4 .ensures) refl (c .before .before .before .before .before .before .before .before .before .before .before .call .ensures .answered) (c .before .before .before .before .before .before .before .before .before .before .before .call .ensures .table) (c .before .before .before .before .before .before .before .before .before .before .before .call .ensures .store) (c .before .before .before .before .before .before .before .before .before .before .before .call .ensures .buffer) (c .before .before .before .before .before .before .before .before .before .before .before .call .kept .0) (c .before .before .before .before .before .before .before .before .before .before .before .call .kept .1 .0) (c .before .before .before .before .before .before .before .before .before .before .before .call .kept .1 .1 .1 .1 .1 .1 .1 .0) (c .before .before .put-line .ensures)
+returns c =
+    let at-least = c .before .before .before .before .before .before .before .before .before .before .before .before .before .before .before .before .before .before .before in
+    let at-least2 = c .before .before .before .before .before .before .before .before .before .before .before .before .before .before .before .before .before .before in
+    let at-wide = c .before .before .before .before .before .before .before .before .before .before .before .before .before .before .before .before .before in
+    let at-least3 = c .before .before .before .before .before .before .before .before .before .before .before .before .before .before .before .before in
+    let at-least4 = c .before .before .before .before .before .before .before .before .before .before .before .before .before .before .before in
+    let at-call = c .before .before .before .before .before .before .before .before .before .before .before in
+    ran _ _ _ _ _ _ _ _ _ _ _ _ _ _ _ _ _ _ _ (at-least .least .ensures) (at-least2 .least2 .ensures)
+    (at-least3 .least3 .ensures ∙ ap (λ (z : ℕ). min z maxBuffer) (at-wide .wide .ensures)) (at-least4 .least4 .ensures) refl (at-call .call .ensures .answered)
+    (at-call .call .ensures .table) (at-call .call .ensures .store) (at-call .call .ensures .buffer) (at-call .call .kept .0) (at-call .call .kept .1 .0)
+    (at-call .call .kept .1 .1 .1 .1 .1 .1 .1 .0) (c .before .before .put-line .ensures)
 
 pub run-spec : {M : Type 1} → statement M
 run-spec =

@@ -29,7 +29,11 @@ same-length-4 : tie.Need-same-length-4
 same-length-4 c = search needs
 
 returns-2 : tie.Need-returns-2
-returns-2 c = step-on _ _ _ _ _ _ _ _ _ _ _ _ _ _ _ _ (c .before .before .before .before .before .before .before .before .before .before .before .before .before .before .before .before .before .before .before .before .before .if1 .left) (c .before .before .before .before .before .before .before .before .before .before .before .before .before .before .before .before .before .advance .ensures) (c .before .before .before .before .before .before .before .before .act .ensures)
+returns-2 c =
+    let at-if1 = c .before .before .before .before .before .before .before .before .before .before .before .before .before .before .before .before .before .before .before .before .before in
+    let at-advance = c .before .before .before .before .before .before .before .before .before .before .before .before .before .before .before .before .before in
+    let at-act = c .before .before .before .before .before .before .before .before in
+    step-on _ _ _ _ _ _ _ _ _ _ _ _ _ _ _ _ (at-if1 .if1 .left) (at-advance .advance .ensures) (at-act .act .ensures)
 
 pub step-spec : {M : Type 1} → statement M
 step-spec =

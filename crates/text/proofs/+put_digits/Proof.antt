@@ -70,7 +70,8 @@ put-digits-returns-2 : (t : ℕ) → put-digits-lts.Need-returns-2 (
   put-digits-below t,
   put-digits.Post,
 ) (put-digits-at t) put-digits.Post
-put-digits-returns-2 t c = as-text _ _ _ _ _ _ (one-digit _ _ (c .before .before .before .before .before .if1 .left) (c .before .before .before .before .if2 .taken)) (c .before .before .put-byte .ensures)
+put-digits-returns-2 t c = as-text _ _ _ _ _ _ (one-digit _ _ (c .before .before .before .before .before .if1 .left) (c .before .before .before .before .if2 .taken))
+    (c .before .before .put-byte .ensures)
 
 put-digits-sub-put-digits : (t : ℕ) → put-digits-lts.Need-sub-put-digits (
   put-byte-reads.Asked,
@@ -126,7 +127,9 @@ put-digits-returns-3 : (t : ℕ) → put-digits-lts.Need-returns-3 (
   put-digits-below t,
   put-digits.Post,
 ) (put-digits-at t) put-digits.Post
-put-digits-returns-3 t c = as-text _ _ _ _ _ _ (more-digits _ _ (c .before .before .before .before .before .before .before .before .before .if1 .left) (c .before .before .before .before .before .before .before .before .if2 .left)) (then _ _ _ _ _ _ _ _ (c .before .before .before .before .before .before .put-digits .ensures) (c .before .before .put-byte2 .ensures))
+put-digits-returns-3 t c = as-text _ _ _ _ _ _ (more-digits _ _ (c .before .before .before .before .before .before .before .before .before .if1 .left)
+    (c .before .before .before .before .before .before .before .before .if2 .left))
+    (then _ _ _ _ _ _ _ _ (c .before .before .before .before .before .before .put-digits .ensures) (c .before .before .put-byte2 .ensures))
 
 pub +put-digits-spec : {M : Type 1} → statement M
 +put-digits-spec = close μ-put-digits λ t. put-digits-lts.spec (

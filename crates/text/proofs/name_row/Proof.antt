@@ -19,7 +19,9 @@ array-copy-out-result c = search needs
 
 returns : tie.Need-returns
 unfolding tabFrom errorName errorNames ascii
-returns c = getD-tab 0 errors (λ n. padded (errorName n)) (c .before .args .n) [] (c .before .pre) ∙ ap (λ (n : ℕ). padded (errorName n)) (zero-add (c .before .args .n))
+returns c =
+    let s = c .before in
+    getD-tab 0 errors (λ n. padded (errorName n)) (s .args .n) [] (s .pre) ∙ ap (λ (n : ℕ). padded (errorName n)) (zero-add (s .args .n))
 
 pub name-row-spec : {M : Type 1} → statement M
 name-row-spec = tie.close (tie.spec mul-result array-copy-out-result returns)

@@ -18,7 +18,8 @@ array-share-prefix-row : tie.Need-array-share-prefix-row
 array-share-prefix-row c = in-row _ _ _ (c .before .before .before .if1 .left) (c .before .name-length .ensures) (c .before .before .name-row .ensures)
 
 slice-aggregate-put-bytes : tie.Need-slice-aggregate-put-bytes
-slice-aggregate-put-bytes c = front-long _ _ _ (c .before .before .before .before .if1 .left) (c .before .before .name-length .ensures) (c .before .before .before .name-row .ensures)
+slice-aggregate-put-bytes c =
+    front-long _ _ _ (c .before .before .before .before .if1 .left) (c .before .before .name-length .ensures) (c .before .before .before .name-row .ensures)
 
 put-bytes-requires : tie.Need-put-bytes-requires
 put-bytes-requires c κs = search needs
@@ -27,7 +28,11 @@ same-length : tie.Need-same-length
 same-length c = search needs
 
 returns-2 : tie.Need-returns-2
-returns-2 c = as-text _ _ _ _ _ _ (front _ _ _ (c .before .before .before .before .before .before .before .if1 .left) (c .before .before .before .before .before .name-length .ensures) (c .before .before .before .before .before .before .name-row .ensures)) (c .before .before .put-bytes .ensures)
+returns-2 c =
+    let at-if1 = c .before .before .before .before .before .before .before in
+    let at-name-row = c .before .before .before .before .before .before in
+    as-text _ _ _ _ _ _ (front _ _ _ (at-if1 .if1 .left) (c .before .before .before .before .before .name-length .ensures) (at-name-row .name-row .ensures))
+    (c .before .before .put-bytes .ensures)
 
 pub put-error-name-spec : {M : Type 1} → statement M
 put-error-name-spec =

@@ -43,7 +43,15 @@ loop-less : tie.Need-loop-less Inv-loop μ-loop
 loop-less c = search needs
 
 loop-again : tie.Need-loop-again Inv-loop μ-loop
-loop-again c = (omega arith, hex-more _ _ _ _ _ _ _ _ _ _ _ _ (c .before .before .before .before .before .before .before .before .before .before .before .loop-test .taken) (c .before .before .before .before .before .before .before .before .hex-digit .ensures) (c .before .before .before .hex-digit2 .ensures) (c .before .before .before .before .before .before .before .before .before .before .before .before .loop .inv .1) (c .before .before .before .before .before .before .before .put-byte .ensures) (c .before .before .put-byte2 .ensures))
+loop-again c =
+    let at-loop = c .before .before .before .before .before .before .before .before .before .before .before .before in
+    let at-loop-test = c .before .before .before .before .before .before .before .before .before .before .before in
+    let at-hex-digit = c .before .before .before .before .before .before .before .before in
+    let at-put-byte = c .before .before .before .before .before .before .before in (
+      omega arith,
+      hex-more _ _ _ _ _ _ _ _ _ _ _ _ (at-loop-test .loop-test .taken) (at-hex-digit .hex-digit .ensures) (c .before .before .before .hex-digit2 .ensures)
+          (at-loop .loop .inv .1) (at-put-byte .put-byte .ensures) (c .before .before .put-byte2 .ensures),
+    )
 
 same-length : tie.Need-same-length Inv-loop μ-loop
 same-length c = same-size _ _ _ _ _ (c .before .loop .inv .1)

@@ -13,7 +13,8 @@ use Rattle.text.proofs.put_line.Tie as tie
 
 -- the parts as the line has them
 parts : (n code error first second : ℕ) (buffer : List ℕ)
-    → (decimal n ++ (space ++ (errorName error ++ space))) ++ ((decimal first ++ (space ++ decimal second)) ++ (cond (showsBuffer code error) (space ++ hex buffer) [] ++ newline))
+    → (decimal n ++ (space ++ (errorName error ++ space))) ++ ((decimal first ++ (space ++ decimal second)) ++
+    (cond (showsBuffer code error) (space ++ hex buffer) [] ++ newline))
     ≡ line n code (answer error first second) buffer
 unfolding line
 parts n code error first second buffer = simp append-assoc
@@ -34,7 +35,12 @@ same-length : tie.Need-same-length
 same-length c = search needs
 
 returns : tie.Need-returns
-returns c = as-text _ _ _ _ _ _ (parts _ _ _ _ _ _) (then _ _ _ _ _ _ _ _ (c .before .before .before .before .before .before .before .before .before .before .before .before .before .before .put-front .ensures) (then _ _ _ _ _ _ _ _ (c .before .before .before .before .before .before .before .before .before .before .put-results .ensures) (then _ _ _ _ _ _ _ _ (c .before .before .before .before .before .before .put-buffer .ensures) (c .before .before .put-byte .ensures))))
+returns c =
+    let at-put-front = c .before .before .before .before .before .before .before .before .before .before .before .before .before .before in
+    let at-put-results = c .before .before .before .before .before .before .before .before .before .before in
+    let at-put-buffer = c .before .before .before .before .before .before in
+    as-text _ _ _ _ _ _ (parts _ _ _ _ _ _) (then _ _ _ _ _ _ _ _ (at-put-front .put-front .ensures)
+    (then _ _ _ _ _ _ _ _ (at-put-results .put-results .ensures) (then _ _ _ _ _ _ _ _ (at-put-buffer .put-buffer .ensures) (c .before .before .put-byte .ensures))))
 
 pub put-line-spec : {M : Type 1} → statement M
 put-line-spec =

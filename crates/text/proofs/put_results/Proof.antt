@@ -17,7 +17,10 @@ same-length : tie.Need-same-length
 same-length c = search needs
 
 returns : tie.Need-returns
-returns c = then _ _ _ _ _ _ _ _ (c .before .before .before .before .before .before .before .before .before .before .put-decimal .ensures) (then _ _ _ _ _ _ _ _ (c .before .before .before .before .before .before .put-byte .ensures) (c .before .before .put-decimal2 .ensures))
+returns c =
+    let at-put-decimal = c .before .before .before .before .before .before .before .before .before .before in
+    let at-put-byte = c .before .before .before .before .before .before in
+    then _ _ _ _ _ _ _ _ (at-put-decimal .put-decimal .ensures) (then _ _ _ _ _ _ _ _ (at-put-byte .put-byte .ensures) (c .before .before .put-decimal2 .ensures))
 
 pub put-results-spec : {M : Type 1} → statement M
 put-results-spec =

@@ -28,7 +28,15 @@ returns : tie.Need-returns
 returns c =
     let lacked = c .before in
     let held = lacked .before .before .before in
-    rw (c .or-refuse5 .ensures, lacked .lacks .ensures, lacked .before .or-refuse4 .ensures, held .or-refuse3 .ensures, held .before .before .or-refuse2 .ensures, held .before .before .before .or-refuse .ensures, held .before .before .before .before .wide .ensures)
+    rw (
+      c .or-refuse5 .ensures,
+      lacked .lacks .ensures,
+      lacked .before .or-refuse4 .ensures,
+      held .or-refuse3 .ensures,
+      held .before .before .or-refuse2 .ensures,
+      held .before .before .before .or-refuse .ensures,
+      held .before .before .before .before .wide .ensures,
+    )
 
 pub bad-use-spec : {M : Type 1} → statement M
 bad-use-spec =

@@ -22,7 +22,9 @@ used c = record { sound = start c .pre .0; entry = entry c .entry-of .ensures; s
 
 told : (c : tie.After-or-refuse2) → c .or-refuse2 .result ≡ refusing (start c .args .e) (readTests (start c .args .a) (entry c .entry-of .result)
     (found c .before .look .result) (found c .read .result) (start c .args .n .blocks) (start c .args .b))
-told c = read-told (used c) (start c .args .store .now) (start c .args .b) (start c .args .e) (c .before .before .before .before .reads .ensures) (c .before .before .before .bad-use .ensures)
+told c =
+    read-told (used c) (start c .args .store .now) (start c .args .b) (start c .args .e) (c .before .before .before .before .reads .ensures)
+    (c .before .before .before .bad-use .ensures)
     (c .before .or-refuse .ensures) (c .or-refuse2 .ensures)
 
 entry-of-requires : tie.Need-entry-of-requires

@@ -56,7 +56,8 @@ same-length c = search needs
 returns : tie.Need-returns
 returns c =
     let after = c .before .before in
-    write-refused _ _ _ _ _ _ (write-number (used after) (start after .args .store .now) (start after .args .b) (start after .args .buffer .now) (told after)) (c .before .if1 .taken) (c .refused .ensures)
+    write-refused _ _ _ _ _ _ (write-number (used after) (start after .args .store .now) (start after .args .b) (start after .args .buffer .now) (told after))
+    (c .before .if1 .taken) (c .refused .ensures)
 
 wide-requires : tie.Need-wide-requires
 wide-requires c κs = search needs
@@ -85,7 +86,10 @@ write-store-requires c κs =
 add-larger : tie.Need-add-larger
 add-larger c =
     let after = c .before .before .before .before .before .before .before .before .before .before in
-    record { fits = next-small (used after) (start after .args .store .now) (start after .args .b) (start after .args .buffer .now) (told after) (c .before .before .before .before .before .before .before .before .before .if1 .left) }
+    record {
+      fits = next-small (used after) (start after .args .store .now) (start after .args .b) (start after .args .buffer .now) (told after)
+          (c .before .before .before .before .before .before .before .before .before .if1 .left);
+    }
 
 larger-requires : tie.Need-larger-requires
 larger-requires c κs = search needs
@@ -106,10 +110,13 @@ returns-2 : tie.Need-returns-2
 returns-2 c =
     let stored = c .before .before .before .before .before .before .before .before in
     let after = stored .before .before .before .before .before .before .before in
-    write-done _ _ _ _ _ _ (write-number (used after) (start after .args .store .now) (start after .args .b) (start after .args .buffer .now) (told after)) (stored .before .before .before .before .before .before .if1 .left) (c .answered .ensures)
-    (write-words (used after) (start after .args .store .now) (start after .args .b) (start after .args .buffer .now) (told after) (stored .before .before .before .before .before .before .if1 .left) (c .before .before .before .before .larger .ensures) (c .before .before .before .write .ensures))
+    write-done _ _ _ _ _ _ (write-number (used after) (start after .args .store .now) (start after .args .b) (start after .args .buffer .now) (told after))
+    (stored .before .before .before .before .before .before .if1 .left) (c .answered .ensures)
+    (write-words (used after) (start after .args .store .now) (start after .args .b) (start after .args .buffer .now) (told after)
+    (stored .before .before .before .before .before .before .if1 .left) (c .before .before .before .before .larger .ensures) (c .before .before .before .write .ensures))
     (write-bytes (used after) (start after .args .store .now) (start after .args .b) (start after .args .buffer .now) (told after)
-    (stored .before .before .before .before .before .before .if1 .left) (stored .before .before .before .before .before .wide .ensures) (stored .before .before .before .wide2 .ensures) (stored .before .before .wide3 .ensures) (stored .before .wide4 .ensures) (stored .write-store .ensures))
+    (stored .before .before .before .before .before .before .if1 .left) (stored .before .before .before .before .before .wide .ensures)
+    (stored .before .before .before .wide2 .ensures) (stored .before .before .wide3 .ensures) (stored .before .wide4 .ensures) (stored .write-store .ensures))
 
 pub write-block-spec : {M : Type 1} → statement M
 write-block-spec =

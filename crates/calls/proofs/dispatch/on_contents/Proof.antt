@@ -45,7 +45,9 @@ same-length-6 : tie.Need-same-length-6
 same-length-6 c = search needs
 
 returns-2 : tie.Need-returns-2
-returns-2 c = through-14 _ _ _ _ _ _ _ _ (c .before .before .before .before .before .before .before .before .match .keys2) (c .before .before .before .before .write-block .ensures)
+returns-2 c =
+    let at-match = c .before .before .before .before .before .before .before .before in
+    through-14 _ _ _ _ _ _ _ _ (at-match .match .keys2) (c .before .before .before .before .write-block .ensures)
 
 same-length-7 : tie.Need-same-length-7
 same-length-7 c = search needs
@@ -63,7 +65,9 @@ same-length-10 : tie.Need-same-length-10
 same-length-10 c = search needs
 
 returns-4 : tie.Need-returns-4
-returns-4 c = through-16 _ _ _ _ _ _ _ _ (c .before .before .before .before .before .before .before .match .keys4) (c .before .before .before .before .receive .ensures)
+returns-4 c =
+    let at-match = c .before .before .before .before .before .before .before in
+    through-16 _ _ _ _ _ _ _ _ (at-match .match .keys4) (c .before .before .before .before .receive .ensures)
 
 same-length-11 : tie.Need-same-length-11
 same-length-11 c = search needs

@@ -19,7 +19,9 @@ word-requires-2 : tie.Need-word-requires-2
 word-requires-2 c κs = search needs
 
 returns : tie.Need-returns
-returns c = entry-read (c .before .before .before .before .pre .0) (kindOf (c .before .before .before .before .args .kind)) _ _ (c .before .before .before .before .pre .1) (c .before .before .entry-at .ensures .0) (c .before .word .ensures) (c .word2 .ensures)
+returns c =
+    let s = c .before .before .before .before in
+    entry-read (s .pre .0) (kindOf (s .args .kind)) _ _ (s .pre .1) (c .before .before .entry-at .ensures .0) (c .before .word .ensures) (c .word2 .ensures)
 
 pub entry-of-spec : {M : Type 1} → statement M
 entry-of-spec =

@@ -95,8 +95,11 @@ same-length-2 c = search needs
 
 returns-2 : tie.Need-returns-2
 unfolding openFile
-returns-2 c = λ buffer. left-done _ (λ h q. openFile h q _ _ _ buffer) (number (c .before .before .before .before .before .before .before .before) buffer) (c .before .before .before .before .before .before .before .if1 .left)
-    (c .answered .ensures ∙ ap (λ (d : ℕ). said 0 d 0) (c .before .before .before .before .before .before .before .before .before .before .before .before .before .before .free-entry .ensures))
+returns-2 c =
+    let at-before = c .before .before .before .before .before .before .before in
+    λ buffer. left-done _ (λ h q. openFile h q _ _ _ buffer) (number (c .before .before .before .before .before .before .before .before) buffer) (at-before .if1 .left)
+    (c .answered .ensures
+    ∙ ap (λ (d : ℕ). said 0 d 0) (c .before .before .before .before .before .before .before .before .before .before .before .before .before .before .free-entry .ensures))
     (c .before .before .before .take-up .ensures ∙ open-words (c .before .before .before .before .before .before .before .before .before .before
     .before .before .before .before .before .before .before .before .before .before .before .pre .0) (c .before .before .before .before .before
     .before .before .before .before .before .before .before .before .before .before .before .before .before .before .before .before .args .a) (c

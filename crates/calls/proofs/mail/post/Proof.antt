@@ -23,10 +23,12 @@ start c = seen c .before .before .before .before .before .before
 abbrev waited : tie.After-or-refuse6 → tie.After-wide
 waited c = allowed c .before
 
-judged : (c : tie.After-or-refuse6) → Posted (start c .args .t .now) (start c .args .n) (start c .args .c) (start c .args .a) (start c .args .buffer .now) (seen c .look .result)
+judged : (c : tie.After-or-refuse6) → Posted (start c .args .t .now) (start c .args .n) (start c .args .c) (start c .args .a) (start c .args .buffer .now)
+    (seen c .look .result)
     (waited c .before .read .result) (waited c .wide .result) (c .or-refuse6 .result)
 judged c =
-    posted (start c .pre .0) (start c .pre .1) _ _ (seen c .before .before .or-self .ensures) (seen c .look .ensures) (waited c .before .read .ensures) (waited c .wide .ensures)
+    posted (start c .pre .0) (start c .pre .1) _ _ (seen c .before .before .or-self .ensures) (seen c .look .ensures) (waited c .before .read .ensures)
+    (waited c .wide .ensures)
     (allowed c .may-write .ensures) (flowed c .may-flow .ensures) (flowed c .before .before .before .or-refuse .ensures) (flowed c .before .or-refuse2 .ensures)
     (c .before .before .before .before .before .before .before .or-refuse3 .ensures) (c .before .before .before .before .or-refuse4 .ensures)
     (c .before .before .or-refuse5 .ensures) (c .or-refuse6 .ensures)
@@ -96,7 +98,8 @@ returns-2 c =
     let after = c .before .before .before .before .before .before in
     let p = judged after in
     let none = c .before .before .before .before .before .if1 .left in
-    let words = ⊎-elim (λ w. w .5 ∙ post-delivered p none (allowed after .may-write .ensures) (c .before .before .before .or-self2 .ensures) (w .0 .taken) (w .2 .ensures)) (λ w. w .1 ∙ post-dropped p none (allowed after .may-write .ensures) (w .0 .left)) (c .before .if2 .came) in
+    let words = ⊎-elim (λ w. w .5 ∙ post-delivered p none (allowed after .may-write .ensures) (c .before .before .before .or-self2 .ensures) (w .0 .taken)
+    (w .2 .ensures)) (λ w. w .1 ∙ post-dropped p none (allowed after .may-write .ensures) (w .0 .left)) (c .before .if2 .came) in
     post-done p none words (c .answered .ensures)
 
 pub post-spec : {M : Type 1} → statement M

@@ -23,7 +23,8 @@ same-length c = search needs
 returns : tie.Need-returns
 returns c =
     let judged = c .before .before in
-    receive-refused _ _ _ (judged .before .before .read .ensures) (judged .before .or-refuse .ensures) (judged .or-refuse2 .ensures) (c .before .if1 .taken) (c .refused .ensures)
+    receive-refused _ _ _ (judged .before .before .read .ensures) (judged .before .or-refuse .ensures) (judged .or-refuse2 .ensures) (c .before .if1 .taken)
+    (c .refused .ensures)
 
 record-at-requires : tie.Need-record-at-requires
 record-at-requires c κs = search needs
@@ -75,7 +76,8 @@ returns-2 c =
     let shown = written .before .before .before .before .before in
     let placed = shown .before .before .before in
     let judged = placed .before .before in
-    receive-done _ _ _ (judged .before .before .read .ensures) (judged .before .or-refuse .ensures) (judged .or-refuse2 .ensures) (judged .before .before .before .before .before .before .pre .known) (placed .before .if1 .left) (placed .record-at .ensures .0) (written .before .one-less .ensures)
+    receive-done _ _ _ (judged .before .before .read .ensures) (judged .before .or-refuse .ensures) (judged .or-refuse2 .ensures)
+    (judged .before .before .before .before .before .before .pre .known) (placed .before .if1 .left) (placed .record-at .ensures .0) (written .before .one-less .ensures)
     (written .write .ensures) (moved .move-up .ensures) (cleared .clear .ensures) (shown .show .ensures) (c .answered .ensures)
 
 pub receive-spec : {M : Type 1} → statement M

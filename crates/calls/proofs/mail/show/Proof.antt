@@ -39,7 +39,9 @@ loop-less : tie.Need-loop-less Inv-loop μ-loop
 loop-less c = search needs
 
 loop-again : tie.Need-loop-again Inv-loop μ-loop
-loop-again c = (omega arith, rw (shown-more, ← (c .before .before .before .before .before .before .loop .inv .1), ← (c .before .before .before .word .ensures)) (c .before .before .put-word .ensures))
+loop-again c =
+    let at-loop = c .before .before .before .before .before .before in
+    (omega arith, rw (shown-more, ← (at-loop .loop .inv .1), ← (c .before .before .before .word .ensures)) (c .before .before .put-word .ensures))
 
 same-length : tie.Need-same-length Inv-loop μ-loop
 same-length c = ap length (c .before .loop .inv .1) ∙ length-shown _ _ _ _

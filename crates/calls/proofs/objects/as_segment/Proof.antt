@@ -24,7 +24,9 @@ enum-told : tie.Need-enum-told
 enum-told c = search needs
 
 returns : tie.Need-returns
-returns c = let is = segment-is _ _ _ (sym (c .before .before .before .before .before .check .ensures) ∙ c .before .before .before .g .given .1) in named _ segment _ (is .0) (is .1) (c .before .index .ensures) (c .serial .ensures)
+returns c =
+    let is = segment-is _ _ _ (sym (c .before .before .before .before .before .check .ensures) ∙ c .before .before .before .g .given .1) in
+    named _ segment _ (is .0) (is .1) (c .before .index .ensures) (c .serial .ensures)
 
 returns-2 : tie.Need-returns-2
 returns-2 c = name-none _ segment _ (segment-not _ _ (sym (c .before .before .check .ensures) ∙ c .enum-told .given .1))

@@ -17,7 +17,13 @@ or-refuse-requires-3 : tie.Need-or-refuse-requires-3
 or-refuse-requires-3 c κs = search needs
 
 returns : tie.Need-returns
-returns c = rw (c .or-refuse3 .ensures, c .before .before .or-refuse2 .ensures, c .before .before .before .or-refuse .ensures, c .before .before .before .before .before .absent .ensures)
+returns c =
+    rw (
+      c .or-refuse3 .ensures,
+      c .before .before .or-refuse2 .ensures,
+      c .before .before .before .or-refuse .ensures,
+      c .before .before .before .before .before .absent .ensures,
+    )
 
 pub find-spec : {M : Type 1} → statement M
 find-spec =

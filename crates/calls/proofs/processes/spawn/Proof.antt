@@ -68,7 +68,16 @@ module _ {t : List ℕ} {n : Header} {p : Caller} (sound : Sound t n p) (a b c :
         let h : List ℕ = configuration t in
         rw (← index, ← old)
         (sixth
-        ∙ rw (fifth, four, spot (sound .known) (at process (q .index) parent), spot (sound .known) (at process (q .index) (bits process)), begin, begins (sound .known) process (q .index), me)
+        ∙ rw (
+          fifth,
+          four,
+          spot (sound .known) (at process (q .index) parent),
+          spot (sound .known) (at process (q .index) (bits process)),
+          begin,
+          begins
+              (sound .known) process (q .index),
+          me,
+        )
         (sym (four-is h t process (q .index) 1 (x + 1) a b
         ((at process (q .index) parent ≔ seidAt (wordsOf t) process (p .slot)) ∷ (at process (q .index) (bits process) ≔ c) ∷ []))))
 
@@ -179,7 +188,8 @@ returns-2 c =
     λ buffer. left-done _ (λ h r. spawn h r _ _ _ _ buffer) (counted j buffer) (past .before .if1 .left)
     (c .answered .ensures ∙ ap (λ (x : ℕ). said 0 x 0) (result (start j .pre .0) (start j .args .a) (start j .args .b) (start j .args .bits) buffer (mine j .read .ensures)
     (ours j .read2 .ensures) (start j .pre .1) (room past) old (c .before .seid .ensures)))
-    (words (start j .pre .0) (start j .args .a) (start j .args .b) (start j .args .bits) buffer (mine j .read .ensures) (ours j .read2 .ensures) (start j .pre .1) (room past) old
+    (words (start j .pre .0) (start j .args .a) (start j .args .b) (start j .args .bits) buffer (mine j .read .ensures) (ours j .read2 .ensures) (start j .pre .1)
+    (room past) old
     (four .before .before .before .before .before .or-self .ensures) (four .before .before .record-at .ensures .0) (four .put-four .ensures) (parented .write .ensures)
     (last .write2 .ensures))
 

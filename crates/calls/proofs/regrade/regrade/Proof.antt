@@ -75,7 +75,8 @@ returns : tie.Need-returns
 returns c =
     let after = c .before .before in
     let s = start after .args in
-    regrade-refused _ _ _ _ _ _ _ (regrade-number (used after) (s .store .now) (s .b) (s .c) (s .buffer .now) (start after .pre .3) (told after)) (c .before .if1 .taken) (c .refused .ensures)
+    regrade-refused _ _ _ _ _ _ _ (regrade-number (used after) (s .store .now) (s .b) (s .c) (s .buffer .now) (start after .pre .3) (told after))
+    (c .before .if1 .taken) (c .refused .ensures)
 
 two-bytes-requires : tie.Need-two-bytes-requires
 two-bytes-requires c κs = search needs

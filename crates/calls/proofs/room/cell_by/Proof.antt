@@ -31,10 +31,15 @@ word-requires : tie.Need-word-requires Inv-loop μ-loop
 word-requires c κs = search needs
 
 add-end : tie.Need-add-end Inv-loop μ-loop
-add-end c = omega (arith, sum-small (c .before .before .before .before .before .pre .1) (c .before .before .before .loop .inv) (c .before .before .loop-test .taken) (c .before .wide .ensures) (c .word .ensures) (c .before .before .before .before .before .pre .2))
+add-end c =
+    let s = c .before .before .before .before .before in
+    omega (arith, sum-small (s .pre .1) (c .before .before .before .loop .inv) (c .before .before .loop-test .taken) (c .before .wide .ensures) (c .word .ensures) (s .pre .2))
 
 returns : tie.Need-returns Inv-loop μ-loop
-returns c = found (c .before .before .before .before .before .before .pre .1) (c .before .before .before .before .loop .inv) (c .before .before .before .loop-test .taken) (c .before .before .wide .ensures) (c .before .word .ensures) (c .if1 .taken)
+returns c =
+    let s = c .before .before .before .before .before .before in
+    found (s .pre .1) (c .before .before .before .before .loop .inv) (c .before .before .before .loop-test .taken) (c .before .before .wide .ensures)
+    (c .before .word .ensures) (c .if1 .taken)
 
 add-c : tie.Need-add-c Inv-loop μ-loop
 add-c c = search needs
@@ -43,7 +48,10 @@ loop-less : tie.Need-loop-less Inv-loop μ-loop
 loop-less c = search needs
 
 loop-again : tie.Need-loop-again Inv-loop μ-loop
-loop-again c = further (c .before .before .before .before .before .before .pre .1) (c .before .before .before .before .loop .inv) (c .before .before .before .loop-test .taken) (c .before .before .wide .ensures) (c .before .word .ensures) (c .if1 .left)
+loop-again c =
+    let s = c .before .before .before .before .before .before in
+    further (s .pre .1) (c .before .before .before .before .loop .inv) (c .before .before .before .loop-test .taken) (c .before .before .wide .ensures)
+    (c .before .word .ensures) (c .if1 .left)
 
 returns-2 : tie.Need-returns-2 Inv-loop μ-loop
 returns-2 c = at-end (c .before .before .before .pre .1) (c .before .loop .inv) (c .loop-test .left)

@@ -11,7 +11,9 @@ cell-word-requires : tie.Need-cell-word-requires
 cell-word-requires c κs = search needs
 
 cell-by-requires : tie.Need-cell-by-requires
-cell-by-requires c κs = let w = kind-word (c .before .before .pre) (kindOf (c .before .before .args .kind)) (c .cell-word .ensures .0) in (cells-is (c .before .before .pre), w .0, w .1)
+cell-by-requires c κs =
+    let s = c .before .before in
+    let w = kind-word (s .pre) (kindOf (s .args .kind)) (c .cell-word .ensures .0) in (cells-is (s .pre), w .0, w .1)
 
 returns : tie.Need-returns
 returns c = c .cell-by .ensures ∙ rw (c .before .cell-word .ensures .0) (by-kind _ _ _)

@@ -35,7 +35,9 @@ word-requires c κs = search needs
 
 returns : tie.Need-returns Inv-loop μ-loop
 unfolding emptyAt
-returns c = sought-hit (c .before .before .before .before .before .loop .inv) (omega arith) (empty-told _ _ _ (c .before .before .wide2 .ensures) (c .before .word .ensures) (c .if2 .taken))
+returns c =
+    sought-hit (c .before .before .before .before .before .loop .inv) (omega arith)
+    (empty-told _ _ _ (c .before .before .wide2 .ensures) (c .before .word .ensures) (c .if2 .taken))
 
 add-d : tie.Need-add-d Inv-loop μ-loop
 add-d c = search needs
@@ -44,7 +46,9 @@ loop-less : tie.Need-loop-less Inv-loop μ-loop
 loop-less c = search needs
 
 loop-again : tie.Need-loop-again Inv-loop μ-loop
-loop-again c = sought-more (c .before .before .before .before .before .loop .inv) (omega arith) (filled-told _ _ _ (c .before .before .wide2 .ensures) (c .before .word .ensures) (c .if2 .left))
+loop-again c =
+    sought-more (c .before .before .before .before .before .loop .inv) (omega arith)
+    (filled-told _ _ _ (c .before .before .wide2 .ensures) (c .before .word .ensures) (c .if2 .left))
 
 returns-2 : tie.Need-returns-2 Inv-loop μ-loop
 unfolding emptyAt

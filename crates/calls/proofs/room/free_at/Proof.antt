@@ -54,7 +54,15 @@ loop-less : tie.Need-loop-less Inv-loop μ-loop
 loop-less c = search needs
 
 loop-again : tie.Need-loop-again Inv-loop μ-loop
-loop-again c = (c .before .before .before .before .before .before .loop .inv .0, omega (arith, c .before .before .before .before .before .before .loop .inv .1), omega arith, chosen-next (c .before .before .before .before .before .before .loop .inv .1) (c .before .before .before .before .before .loop-test .taken) (c .before .before .before .before .before .before .loop .inv .3) (c .before .before .before .before .wide .ensures) (c .before .before .word2 .ensures) (c .before .before .before .word .ensures) _ refl (c .before .first .ensures) (c .first2 .ensures))
+loop-again c =
+    let at-loop = c .before .before .before .before .before .before in (
+      at-loop .loop .inv .0,
+      omega (arith, at-loop .loop .inv .1),
+      omega arith,
+      chosen-next (at-loop .loop .inv .1)
+          (c .before .before .before .before .before .loop-test .taken) (at-loop .loop .inv .3) (c .before .before .before .before .wide .ensures)
+          (c .before .before .word2 .ensures) (c .before .before .before .word .ensures) _ refl (c .before .first .ensures) (c .first2 .ensures),
+    )
 
 returns : tie.Need-returns Inv-loop μ-loop
 returns c = chosen-end _ (c .before .loop .inv .0) (omega (arith, c .before .loop .inv .2)) (c .before .loop .inv .3)

@@ -11,7 +11,9 @@ cell-word-requires : tie.Need-cell-word-requires
 cell-word-requires c κs = search needs
 
 first-slot-requires : tie.Need-first-slot-requires
-first-slot-requires c κs = let w = kind-word (c .before .before .pre .0) (kindOf (c .before .before .args .kind)) (c .cell-word .ensures .0) in (c .before .before .pre .0, omega (arith, c .before .before .pre .1), w .0, w .1)
+first-slot-requires c κs =
+    let s = c .before .before in
+    let w = kind-word (s .pre .0) (kindOf (s .args .kind)) (c .cell-word .ensures .0) in (s .pre .0, omega (arith, s .pre .1), w .0, w .1)
 
 in-cell-requires : tie.Need-in-cell-requires
 in-cell-requires c κs = (c .before .before .before .pre .0, c .before .before .before .pre .1, c .before .cell-word .ensures .1)

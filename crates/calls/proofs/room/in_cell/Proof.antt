@@ -21,7 +21,9 @@ word-requires : tie.Need-word-requires
 word-requires c κs = search needs
 
 returns : tie.Need-returns
-returns c = cell-word _ (omega (arith, c .before .before .before .pre .1, cells-is (c .before .before .before .pre .0))) (c .before .before .before .pre .2) (c .before .wide .ensures) (c .word .ensures)
+returns c =
+    let s = c .before .before .before in
+    cell-word _ (omega (arith, s .pre .1, cells-is (s .pre .0))) (s .pre .2) (c .before .wide .ensures) (c .word .ensures)
 
 pub in-cell-spec : {M : Type 1} → statement M
 in-cell-spec =

@@ -17,7 +17,10 @@ same-length : tie.Need-same-length
 same-length c = search needs
 
 returns : tie.Need-returns
-returns c = of-process _ _ _ _ (c .before .before .before .before .before .before .or-self .ensures) (c .before .before .before .before .before .class-of .ensures) (c .before .before .before .before .if1 .taken) (c .before .before .status-of .ensures)
+returns c =
+    let at-or-self = c .before .before .before .before .before .before in
+    of-process _ _ _ _ (at-or-self .or-self .ensures) (c .before .before .before .before .before .class-of .ensures) (c .before .before .before .before .if1 .taken)
+    (c .before .before .status-of .ensures)
 
 status-of-requires-2 : tie.Need-status-of-requires-2
 status-of-requires-2 c κs = search needs
@@ -28,7 +31,8 @@ same-length-2 c = search needs
 returns-2 : tie.Need-returns-2
 returns-2 c =
     let classed = c .before .before .before .before .before .before in
-    of-segment _ _ _ _ (classed .before .or-self .ensures) (classed .class-of .ensures) (c .before .before .before .before .before .if1 .left) (c .before .before .before .before .if2 .taken) (c .before .before .status-of2 .ensures)
+    of-segment _ _ _ _ (classed .before .or-self .ensures) (classed .class-of .ensures) (c .before .before .before .before .before .if1 .left)
+    (c .before .before .before .before .if2 .taken) (c .before .before .status-of2 .ensures)
 
 status-of-requires-3 : tie.Need-status-of-requires-3
 status-of-requires-3 c κs = search needs
@@ -39,7 +43,8 @@ same-length-3 c = search needs
 returns-3 : tie.Need-returns-3
 returns-3 c =
     let classed = c .before .before .before .before .before .before in
-    of-file _ _ _ _ (classed .before .or-self .ensures) (classed .class-of .ensures) (c .before .before .before .before .before .if1 .left) (c .before .before .before .before .if2 .left) (c .before .before .status-of3 .ensures)
+    of-file _ _ _ _ (classed .before .or-self .ensures) (classed .class-of .ensures) (c .before .before .before .before .before .if1 .left)
+    (c .before .before .before .before .if2 .left) (c .before .before .status-of3 .ensures)
 
 pub status-spec : {M : Type 1} → statement M
 status-spec =

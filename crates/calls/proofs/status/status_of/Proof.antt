@@ -14,7 +14,8 @@ seen c = c .before .before .before
 abbrev start : tie.After-find → tie.Start
 start c = seen c .before .before .before
 
-judged : (c : tie.After-find) → Judged (start c .args .t .now) (start c .args .n) (start c .args .c) (kindOf (start c .args .kind)) (start c .args .s) (start c .args .buffer .now)
+judged : (c : tie.After-find) → Judged (start c .args .t .now) (start c .args .n) (start c .args .c) (kindOf (start c .args .kind)) (start c .args .s)
+    (start c .args .buffer .now)
     (seen c .look .result) (c .find .result)
 judged c = judged-by (start c .pre .0) (kindOf (start c .args .kind)) _ _ (seen c .look .ensures) (c .before .before .or-refuse .ensures) (c .find .ensures)
 

@@ -33,7 +33,15 @@ awaiting-requires c κs = search needs
 
 returns-3 : tie.Need-returns-3
 unfolding headerEnded
-returns-3 c = rw (← c .before .before .before .before .word .ensures, ← c .before .before .before .wide .ensures, c .awaiting .ensures, ne-eqb _ _ (c .before .before .if1 .left), le-ltb _ _ (c .before .if2 .left))
+returns-3 c =
+    rw (
+      ← c .before .before .before .before .word .ensures,
+      ← c .before .before .before .wide .ensures,
+      c .awaiting .ensures,
+      ne-eqb _ _
+          (c .before .before .if1 .left),
+      le-ltb _ _ (c .before .if2 .left),
+    )
 
 pub header-ended-spec : {M : Type 1} → statement M
 header-ended-spec =

@@ -16,7 +16,9 @@ same-length c = search needs
 
 returns : tie.Need-returns
 unfolding numbered
-returns c = (rw (c .onward .ensures, c .before .before .before .before .before .keep .ensures .0, lt-ltb _ _ (c .before .if1 .taken)), c .before .before .before .before .before .keep .ensures .1)
+returns c =
+    let at-keep = c .before .before .before .before .before in
+    (rw (c .onward .ensures, at-keep .keep .ensures .0, lt-ltb _ _ (c .before .if1 .taken)), at-keep .keep .ensures .1)
 
 ended-requires : tie.Need-ended-requires
 ended-requires c κs = search needs
@@ -26,7 +28,9 @@ same-length-2 c = search needs
 
 returns-2 : tie.Need-returns-2
 unfolding numbered
-returns-2 c = (rw (c .ended .ensures, c .before .before .before .before .before .before .keep .ensures .0, c .before .before .before .before .before .before .keep .ensures .1, le-ltb _ _ (c .before .before .if1 .left)), c .before .before .before .before .before .before .keep .ensures .1)
+returns-2 c =
+    let at-keep = c .before .before .before .before .before .before in
+    (rw (c .ended .ensures, at-keep .keep .ensures .0, at-keep .keep .ensures .1, le-ltb _ _ (c .before .before .if1 .left)), at-keep .keep .ensures .1)
 
 pub numbered-spec : {M : Type 1} → statement M
 numbered-spec =

@@ -32,7 +32,13 @@ same-length : tie.Need-same-length
 same-length c = search needs
 
 returns : tie.Need-returns
-returns c = λ t. rw (c .further .ensures) (code-more-bytes _ t _ _ _ _ (c .before .before .before .before .before .before .before .before .before .before .before .pre .0) (c .before .before .before .before .before .before .before .before .before .before .before .pre .1) (c .before .before .before .before .before .before .before .bytes-left .ensures) _ (c .before .before .before .before .before .before .before .before .wide .ensures) _ (c .before .before .before .before .before .before .if1 .taken) (c .before .before .before .put-bytes .ensures))
+returns c =
+    let s = c .before .before .before .before .before .before .before .before .before .before .before in
+    let at-wide = c .before .before .before .before .before .before .before .before in
+    let at-bytes-left = c .before .before .before .before .before .before .before in
+    let at-if1 = c .before .before .before .before .before .before in
+    λ t. rw (c .further .ensures) (code-more-bytes _ t _ _ _ _ (s .pre .0) (s .pre .1) (at-bytes-left .bytes-left .ensures) _ (at-wide .wide .ensures) _
+    (at-if1 .if1 .taken) (c .before .before .before .put-bytes .ensures))
 
 add-put-bytes : tie.Need-add-put-bytes
 add-put-bytes c = search needs
@@ -59,7 +65,13 @@ same-length-2 : tie.Need-same-length-2
 same-length-2 c = search needs
 
 returns-2 : tie.Need-returns-2
-returns-2 c = λ t. rw (c .awaiting .ensures) (code-all-bytes _ t _ _ _ _ (c .before .before .before .before .before .before .before .before .before .before .before .before .pre .0) (c .before .before .before .before .before .before .before .before .before .before .before .before .pre .1) (c .before .before .before .before .before .before .before .before .bytes-left .ensures) _ (c .before .before .before .before .before .before .before .before .before .wide .ensures) _ (c .before .before .before .before .before .before .before .if1 .left) (c .before .before .before .before .put-bytes2 .ensures))
+returns-2 c =
+    let s = c .before .before .before .before .before .before .before .before .before .before .before .before in
+    let at-wide = c .before .before .before .before .before .before .before .before .before in
+    let at-bytes-left = c .before .before .before .before .before .before .before .before in
+    let at-if1 = c .before .before .before .before .before .before .before in
+    λ t. rw (c .awaiting .ensures) (code-all-bytes _ t _ _ _ _ (s .pre .0) (s .pre .1) (at-bytes-left .bytes-left .ensures) _ (at-wide .wide .ensures) _
+    (at-if1 .if1 .left) (c .before .before .before .before .put-bytes2 .ensures))
 
 pub take-bytes-spec : {M : Type 1} → statement M
 take-bytes-spec =

@@ -28,7 +28,10 @@ same-length c = search needs
 
 returns-2 : tie.Need-returns-2
 unfolding fedTook fedTable
-returns-2 c = (rw (c .before .before .before .before .before .fed2 .given .1) (c .before .before .numbered .ensures .0), rw (c .before .before .before .before .before .fed2 .given .1) (c .before .before .numbered .ensures .1))
+returns-2 c =
+    let at-fed2 = c .before .before .before .before .before in
+    let at-numbered = c .before .before in
+    (rw (at-fed2 .fed2 .given .1) (at-numbered .numbered .ensures .0), rw (at-fed2 .fed2 .given .1) (at-numbered .numbered .ensures .1))
 
 returns-3 : tie.Need-returns-3
 unfolding fedTook fedTable

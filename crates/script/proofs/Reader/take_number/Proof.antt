@@ -17,7 +17,12 @@ same-length : tie.Need-same-length
 same-length c = search needs
 
 returns : tie.Need-returns
-returns c = λ l. code-number _ _ l _ _ _ _ _ _ (c .before .before .before .before .before .before .before .before .before .before .pre .0) (c .before .before .before .before .before .before .before .before .before .before .pre .1) (c .before .before .before .before .before .before .feed-all .ensures) (c .before .before .before .before .before .with-part .ensures) (c .before .before .before .take-fed .ensures .0) (c .before .before .before .take-fed .ensures .1)
+returns c =
+    let s = c .before .before .before .before .before .before .before .before .before .before in
+    let at-feed-all = c .before .before .before .before .before .before in
+    let at-take-fed = c .before .before .before in
+    λ l. code-number _ _ l _ _ _ _ _ _ (s .pre .0) (s .pre .1) (at-feed-all .feed-all .ensures) (c .before .before .before .before .before .with-part .ensures)
+    (at-take-fed .take-fed .ensures .0) (at-take-fed .take-fed .ensures .1)
 
 pub take-number-spec : {M : Type 1} → statement M
 take-number-spec =
