@@ -14,3 +14,9 @@ reads = (λ κs a. tt, λ κs a z z′ w w′ p q. (one p q, refl))
 
 pub writes : Exact code.writes.Kinds.ps code.writes.Kinds.r code.writes.Reads.Asked code.writes.Reads.Learnt
 writes = (λ κs a. tt, λ κs a z z′ w w′ p q. (one p q, refl))
+
+pub valid-table : Exact code.valid_table.Kinds.ps code.valid_table.Kinds.r code.valid_table.Reads.Asked code.valid_table.Reads.Learnt
+valid-table = (λ κs a. tt, λ κs a z z′ w w′ p q. (one p q, refl))
+
+pub valid-in : Exact code.valid_in.Kinds.ps code.valid_in.Kinds.r code.valid_in.Reads.Asked code.valid_in.Reads.Learnt
+valid-in = (λ κs a. tt, λ κs a z z′ w w′ p q. (one p q, refl))

@@ -3,10 +3,11 @@ ghost use mathlib.Core.Path.{_≡_};
 ghost use mathlib.Core.Bool.{true, cond};
 ghost use Prim.Native.Nat.{ℕ, _+_, _*_, _≤_, _<_};
 ghost use lib.ListN.{length, getD};
-ghost use Rattle.rules.specs.Words.{allBelow, countBelow};
+ghost use Rattle.rules.specs.Words.{tabFrom, allBelow, countBelow};
 ghost use Rattle.rules.specs.Claim.{test};
 ghost use Rattle.rules.specs.Layout.{maxCells, maxSlots, entries, slots, cellOf, configuration, flowMatrix, rd};
 ghost use Rattle.rules.specs.Seid.{class, classOf, indexOf};
+ghost use Rattle.rules.specs.Modes.{validModes};
 ghost use Rattle.rules.specs.WellFormed.{validUse, writeUse, heldOk, entryOk};
 ghost use Rattle.layout.specs.Kinds.{kindOf};
 ghost use Rattle.table.specs.Shape.{Shaped, CellsOf};
@@ -16,6 +17,7 @@ use crate::records;
 use crate::runs;
 use layout::Header;
 use layout::Kind;
+use modes::NUMBERS;
 use rules::ENTRIES;
 use rules::LIVE;
 use rules::MAX_CELLS;
@@ -48,13 +50,14 @@ pub(crate) fn held_ok(
 }
 
 // The second word of an entry for an object of a kind: modes, or access. No entry holds a process.
-fn valid_use(kind: Kind, u: u32) -> bool
+fn valid_use(kind: Kind, valid: &[bool; NUMBERS], u: u32) -> bool
+    requires { ⌜ now valid ≡ tabFrom 0 16 validModes ⌝ }
     ensures { λ r. ⌜ r ≡ validUse (kindOf kind) u ⌝ }
 {
     match kind {
         Kind::Process => u == 0,
         Kind::Segment => rights::valid_access(u),
-        Kind::File => modes::valid(u),
+        Kind::File => modes::valid_in(valid, u),
     }
 }
 
@@ -95,13 +98,14 @@ fn entry_ok(
     n: Header,
     kind: Kind,
     flow: &[[bool; MAX_CELLS]; MAX_CELLS],
+    valid: &[bool; NUMBERS],
     mine: usize,
     cell: usize,
     i: usize,
     s: u32,
     u: u32,
 ) -> bool
-    requires { ⌜ Shaped (now t) n × (now flow ≡ flowMatrix (configuration (now t))) × (mine < maxCells) × (i < slots (configuration (now t)) (kindOf kind)) ⌝ }
+    requires { ⌜ Shaped (now t) n × (now flow ≡ flowMatrix (configuration (now t))) × (mine < maxCells) × (i < slots (configuration (now t)) (kindOf kind)) × (now valid ≡ tabFrom 0 16 validModes) ⌝ }
     requires { ⌜ (classOf s ≡ class (kindOf kind)) × (indexOf s ≡ i) × (cell ≡ cellOf (configuration (now t)) (kindOf kind) i) ⌝ }
     ensures { λ r. ⌜ r ≡ test (entryOk (configuration (now (t .entry))) (rd (configuration (now (t .entry))) (now (t .entry))) (kindOf kind) mine s u) ⌝ }
 {
@@ -110,7 +114,7 @@ fn entry_ok(
     let serial = layout::serial_of(s);
     let held = (0 < serial) & ((serial <= t[at + SERIAL]) & flow[cell][mine]);
     let current = !own | ((t[at + LIVE] == 1) & (t[at + SERIAL] == serial));
-    held & (current & (valid_use(kind, u) & (!write_use(kind, u) | own)))
+    held & (current & (valid_use(kind, valid, u) & (!write_use(kind, u) | own)))
 }
 
 // A used entry, judged, and counted for its slot if the object is of the own cell.
@@ -120,12 +124,13 @@ fn judge_entry(
     kind: Kind,
     cells: &[u8; MAX_SLOTS],
     flow: &[[bool; MAX_CELLS]; MAX_CELLS],
+    valid: &[bool; NUMBERS],
     mine: usize,
     s: u32,
     u: u32,
     counts: &mut [u16],
 ) -> bool
-    requires { ⌜ Shaped (now t) n × CellsOf (configuration (now t)) (kindOf kind) (now cells) × (now flow ≡ flowMatrix (configuration (now t))) × (mine < maxCells) × (s ≡ 0 → u ≡ 0 → ⊥) ⌝ }
+    requires { ⌜ Shaped (now t) n × CellsOf (configuration (now t)) (kindOf kind) (now cells) × (now flow ≡ flowMatrix (configuration (now t))) × (mine < maxCells) × (s ≡ 0 → u ≡ 0 → ⊥) × (now valid ≡ tabFrom 0 16 validModes) ⌝ }
     requires { ⌜ (length (now counts) ≡ maxSlots) × ((i : ℕ) → i < maxSlots → getD (now counts) i 0 < 65535) ⌝ }
     ensures { λ r. ⌜ r ≡ test (entryOk (configuration (now (t .entry))) (rd (configuration (now (t .entry))) (now (t .entry))) (kindOf kind) mine s u) ⌝ }
     ensures { λ r. ⌜ Counts (λ i. cond (names (configuration (now (t .entry))) (kindOf kind) mine s i) 1 0) 1 r (now (counts .entry)) (now (counts .exit)) ⌝ }
@@ -137,7 +142,7 @@ fn judge_entry(
     let cell = runs::index(cells[i]);
     let own = first(cell == mine, 1, 0);
     counts[i] = counts[i] + own as u16;
-    entry_ok(t, n, kind, flow, mine, cell, i, s, u)
+    entry_ok(t, n, kind, flow, valid, mine, cell, i, s, u)
 }
 
 // The entries for objects of the kind, of which those in the list are used: they begin at a place. Those for objects of the own cell are counted, slot by slot.
@@ -147,13 +152,14 @@ pub(crate) fn entries_ok(
     kind: Kind,
     cells: &[u8; MAX_SLOTS],
     flow: &[[bool; MAX_CELLS]; MAX_CELLS],
+    valid: &[bool; NUMBERS],
     mine: usize,
     from: usize,
     list: &[u32],
     used: usize,
     counts: &mut [u16],
 ) -> bool
-    requires { ⌜ Shaped (now t) n × CellsOf (configuration (now t)) (kindOf kind) (now cells) × (now flow ≡ flowMatrix (configuration (now t))) × (mine < maxCells) × Countable (now counts) ⌝ }
+    requires { ⌜ Shaped (now t) n × CellsOf (configuration (now t)) (kindOf kind) (now cells) × (now flow ≡ flowMatrix (configuration (now t))) × (mine < maxCells) × Countable (now counts) × (now valid ≡ tabFrom 0 16 validModes) ⌝ }
     requires { ⌜ (from + 2 * entries ≤ length (now t)) × (length (now list) ≡ 2 * entries) × Squeezed (now t) from (now list) used entries ⌝ }
     ensures { λ r. ⌜ r ≡ allBelow entries (λ d. test (entryOk (configuration (now (t .entry))) (rd (configuration (now (t .entry))) (now (t .entry))) (kindOf kind) mine (heldWord (now (t .entry)) from d) (usedWord (now (t .entry)) from d))) ⌝ }
     ensures { λ r. ⌜ Counts (λ i. countBelow entries (λ d. names (configuration (now (t .entry))) (kindOf kind) mine (heldWord (now (t .entry)) from d) i)) entries r (now (counts .entry)) (now (counts .exit)) ⌝ }
@@ -162,7 +168,7 @@ pub(crate) fn entries_ok(
     for e in 0..used {
         let s = list[2 * e];
         let u = list[1 + 2 * e];
-        ok = ok & judge_entry(t, n, kind, cells, flow, mine, s, u, counts);
+        ok = ok & judge_entry(t, n, kind, cells, flow, valid, mine, s, u, counts);
     }
     ok
 }

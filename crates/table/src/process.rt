@@ -113,12 +113,14 @@ fn descriptors_ok(
 {
     let mut list = [0u32; 2 * ENTRIES];
     let used = held::used(t, from, &mut list);
+    let valid = modes::valid_table();
     held::entries_ok(
         t,
         n,
         Kind::File,
         cells,
         flow,
+        &valid,
         mine,
         from,
         &list,
@@ -143,12 +145,14 @@ fn designators_ok(
 {
     let mut list = [0u32; 2 * ENTRIES];
     let used = held::used(t, from, &mut list);
+    let valid = modes::valid_table();
     held::entries_ok(
         t,
         n,
         Kind::Segment,
         cells,
         flow,
+        &valid,
         mine,
         from,
         &list,

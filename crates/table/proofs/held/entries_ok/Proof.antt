@@ -20,13 +20,13 @@ use Rattle.table.proofs.held.entries_ok.Statement.{statement}
 use Rattle.table.proofs.held.entries_ok.Tie as tie
 
 abbrev Inv-loop : tie.InvT-loop
-Inv-loop t n kind cells flow mine from list used counts₀ ok₀ e₀ counts ok e =
+Inv-loop t n kind cells flow valid mine from list used counts₀ ok₀ e₀ counts ok e =
     (e ≤ used) × (length counts ≡ maxSlots)
     × (ok ≡ allBelow e (λ j. test (entryOk (configuration t) (rd (configuration t) t) (kindOf kind) mine (getD list (2 * j) 0) (getD list (1 + 2 * j) 0))))
     × Counts (λ i. countBelow e (λ j. names (configuration t) (kindOf kind) mine (getD list (2 * j) 0) i)) e ok counts₀ counts
 
 abbrev μ-loop : tie.MeasureT-loop
-μ-loop t n kind cells flow mine from list used counts₀ ok₀ e₀ counts ok e = used - e
+μ-loop t n kind cells flow valid mine from list used counts₀ ok₀ e₀ counts ok e = used - e
 
 loop-holds : tie.Need-loop-holds Inv-loop μ-loop
 loop-holds c = (search needs, c .before .before .before .pre .0 .4 .long, all-first _, counts-first _ _ (λ i. count-none 0 _ (λ k l. absurd (omega arith))))
@@ -63,7 +63,7 @@ judge-entry-requires c κs =
     let x = s .pre .1 .2 in
     let in-list = c .before .before .before .loop-test .taken in
     let busy = busy-word (s .args .t .now) (s .args .from) _ _ _ (x .lists .busy (l .e) in-list) (x .held-is (l .e) in-list) (x .used-is (l .e) in-list) in (
-      (s .pre .0 .0, s .pre .0 .1, s .pre .0 .2, s .pre .0 .3, busy),
+      (s .pre .0 .0, s .pre .0 .1, s .pre .0 .2, s .pre .0 .3, busy, s .pre .0 .5),
       (l .inv .1, λ i m. omega (arith, l .inv .3 .few i m, s .pre .0 .4 .room i m, x .lists .few, in-list)),
     )
 
@@ -78,7 +78,7 @@ loop-again c =
     let s = c .before .before .before .before .before .before .before .before .before .before .before in
     let l = c .before .before .before .before .before .before .before .loop in (
       search needs,
-      c .before .before .judge-entry .kept .1 .1 .1 .1 .1 .1 .1 .1 .0 ∙ l .inv .1,
+      c .before .before .judge-entry .kept .1 .1 .1 .1 .1 .1 .1 .1 .1 .0 ∙ l .inv .1,
       all-next _ (l .inv .2) (c .before .before .judge-entry .ensures .0),
       counts-next _ _ _ (l .e) (l .ok) _ _ _ _ (l .inv .3) (c .before .before .judge-entry .ensures .1) (λ i.
           count-more (l .e) (λ j. names (configuration (s .args .t .now)) (kindOf (s .args .kind)) (s .args .mine) (getD (s .args .list .now) (2 * j) 0) i)),

@@ -93,7 +93,7 @@ entry-ok-requires c κs =
     let s = c .before .before .before .before .before .before .before .before .before in
     let l = slot-in (c .before .before) in
     let is = c .before .before .before .before .before .before .index-in .ensures .right (omega (arith, slot-low (c .before .before))) in (
-      (s .pre .0 .0, s .pre .0 .2, s .pre .0 .3, l),
+      (s .pre .0 .0, s .pre .0 .2, s .pre .0 .3, l, s .pre .0 .5),
       (
         is .0,
         is .1,

@@ -1,4 +1,10 @@
 -- `held::valid_use` meets its contract, kind by kind.
+use mathlib.Core.Path.{ap, _∙_}
+use mathlib.Core.Bool.{Bool, false, _&&_}
+use mathlib.Core.List.{List}
+use lib.Dec.{ltb}
+use lib.ListN.{getD}
+use Rattle.modes.proofs.Numbers.{valid-told}
 use borrow.Author.Needs.{needs}
 use Rattle.table.proofs.held.valid_use.Statement.{statement}
 use Rattle.table.proofs.held.valid_use.Tie as tie
@@ -15,8 +21,8 @@ valid-access-requires c κs = search needs
 enum-told-3 : tie.Need-enum-told-3
 enum-told-3 c = search needs
 
-valid-requires : tie.Need-valid-requires
-valid-requires c κs = search needs
+valid-in-requires : tie.Need-valid-in-requires
+valid-in-requires c κs = search needs
 
 returns : tie.Need-returns
 returns c = rw (c .enum-told .given .1)
@@ -25,7 +31,9 @@ returns-2 : tie.Need-returns-2
 returns-2 c = rw (c .before .enum-told2 .given .1) (c .valid-access .ensures)
 
 returns-3 : tie.Need-returns-3
-returns-3 c = rw (c .before .enum-told3 .given .1) (c .valid .ensures)
+returns-3 c =
+    let s = c .before .before .before in
+    rw (c .before .enum-told3 .given .1) (c .valid-in .ensures ∙ ap (λ (table : List Bool). ltb (s .args .u) 16 && getD table (s .args .u) false) (s .pre) ∙ valid-told (s .args .u))
 
 pub valid-use-spec : {M : Type 1} → statement M
 valid-use-spec =
@@ -35,7 +43,7 @@ valid-use-spec =
     enum-told-2
     valid-access-requires
     enum-told-3
-    valid-requires
+    valid-in-requires
     returns
     returns-2
     returns-3)

@@ -12,21 +12,25 @@ slice-aggregate-used c = search needs
 used-requires : tie.Need-used-requires
 used-requires c κs = search needs
 
+valid-table-requires : tie.Need-valid-table-requires
+valid-table-requires c κs = search needs
+
 slice-aggregate-entries-ok : tie.Need-slice-aggregate-entries-ok
 slice-aggregate-entries-ok c = search needs
 
 entries-ok-requires : tie.Need-entries-ok-requires
 entries-ok-requires c κs =
-    let s = c .before .before .before .before .before .before .before in
-    ((s .pre .0, s .pre .1, s .pre .2, s .pre .3, s .pre .4), (s .pre .5, search needs, c .before .before .before .used .ensures))
+    let s = c .before .before .before .before .before .before .before .before .before in
+    let at-table = c .before .before .before in
+    ((s .pre .0, s .pre .1, s .pre .2, s .pre .3, s .pre .4, at-table .valid-table .ensures), (s .pre .5, search needs, at-table .before .before .used .ensures))
 
 slice-aggregate-held-once : tie.Need-slice-aggregate-held-once
 slice-aggregate-held-once c = search needs
 
 held-once-requires : tie.Need-held-once-requires
 held-once-requires c κs =
-    let s = c .before .before .before .before .before .before .before .before .before .before .before in
-    (s .pre .5, search needs, c .before .before .before .before .before .before .before .used .ensures)
+    let s = c .before .before .before .before .before .before .before .before .before .before .before .before .before in
+    (s .pre .5, search needs, c .before .before .before .before .before .before .before .before .before .used .ensures)
 
 same-length : tie.Need-same-length
 same-length c = search needs
@@ -42,6 +46,7 @@ designators-ok-spec =
     (tie.spec
     slice-aggregate-used
     used-requires
+    valid-table-requires
     slice-aggregate-entries-ok
     entries-ok-requires
     slice-aggregate-held-once
