@@ -208,8 +208,7 @@ module _ {t : List â„•} {n : Header} {c : Caller} (sound : Sound t n c) (a b : â
           pe,
           begins (sound .known) file (f .index),
           spot (sound .known) (at process (c .slot) (heldAt file d)),
-          new-seid sound file slot
-              (create-room none) xe se,
+          new-seid sound file slot (create-room none) xe se,
           xe,
           ue,
           ge,

@@ -36,14 +36,12 @@ module _ {t : List ℕ} {n : Header} {c : Caller} (sound : Sound t n c) where
   few-holders segment i th l = omega (
     arith,
     references-counted (configuration t) (wordsOf t) (sound .records) i l,
-    own-few (configuration t) (wordsOf t) segment i
-        (shape (sound .known) .few process),
+    own-few (configuration t) (wordsOf t) segment i (shape (sound .known) .few process),
   )
   few-holders file i th l = omega (
     arith,
     opens-counted (configuration t) (wordsOf t) (sound .records) i l,
-    own-few (configuration t) (wordsOf t) file i
-        (shape (sound .known) .few process),
+    own-few (configuration t) (wordsOf t) file i (shape (sound .known) .few process),
   )
 
   -- the count as the code reads it, where the object's record begins at a place

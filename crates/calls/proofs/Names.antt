@@ -63,14 +63,12 @@ module _ {t : List ℕ} {n : Header} {c : Caller} (sound : Sound t n c) {m : Lis
     formed = name .formed;
     slot = name .slot;
     cell = cell;
-    own = eqb cell
-        (c .cell);
+    own = eqb cell (c .cell);
     flows = f;
     present = eqb live-word 1 && eqb serial-word (name .serial);
     mine = eqb owner-word mine;
     rights = x;
-  })
-      (seenAs (configuration t) (wordsOf t) (c .slot) k (namedOf n k s))
+  }) (seenAs (configuration t) (wordsOf t) (c .slot) k (namedOf n k s))
   unfolding rightsAt
   seen =
       rw (← name-is, rights-is, flow-is, bits-is, bits-at-is, live-is, serial-is, owner-is, group-is, mine-is, my-group-is, matrix, cell-is, sound .home)

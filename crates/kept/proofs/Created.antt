@@ -83,8 +83,7 @@ module _ (h : List ℕ) (r : Addr → ℕ) (p : ℕ) (c : Caller h r p) (k : Kin
       (rw (word 3) (me .group-fits))
       (object-alive h (over r words) k i o (record {
         bits-fit = rw (object-words k o .bits-at, word 4) bits-fit;
-        particular = rw
-            (word 5, word 6) particular;
+        particular = rw (word 5, word 6) particular;
         needed = λ z. rw count-is (omega arith);
       }))
 

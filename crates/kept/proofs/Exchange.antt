@@ -98,8 +98,7 @@ module _ (h : List ℕ) (r : Addr → ℕ) (w : Fine h r) (k : Kind) (o : Object
             empty = e .empty;
             held = λ n. let y = e .held n in record {
               form = y .form;
-              serial-known = rw (x .new-index n, b .in-object serial)
-                  (rw (x .new-index n) at (y .serial-known));
+              serial-known = rw (x .new-index n, b .in-object serial) (rw (x .new-index n) at (y .serial-known));
               flow = y .flow;
             };
             current-live = λ n c. rw (x .new-index n) (b .in-object live ∙ (rw (x .new-index n) at (e .current-live n c)));

@@ -58,8 +58,7 @@ module _ (h : List ℕ) (r : Addr → ℕ) (p : ℕ) (me : Caller h r p) (a b c 
               ne-eqb j 3 (λ e. omega arith),
               ne-eqb j 2 (λ e. omega arith),
               ne-eqb j 1 (λ e. omega arith),
-              ne-eqb j 0
-                  (λ e. omega arith),
+              ne-eqb j 0 (λ e. omega arith),
             );
       })
 

@@ -51,8 +51,7 @@ module _ (h : List ℕ) (r : Addr → ℕ) (w : Fine h r) (x : Copy) (c f : ℕ)
             (object-alive h _ file f tt (record {
               bits-fit = rw (word 4) bits-fit;
               particular = rw (word 5, word 6) (omega arith, size-fits);
-              needed = rw (word 5)
-                  (λ z. absurd (true≢false z));
+              needed = rw (word 5) (λ z. absurd (true≢false z));
             }));
         serial-grown = omega (arith, word 1);
         same-holders = word 7 ∙ sym held;

@@ -43,8 +43,7 @@ module _ (h : List ℕ) (r : Addr → ℕ) (k : Kind) (o : Object k) (i : ℕ) (
       own-word (holders k) v (omega arith)
       (record {
         bits-fit = rw (s .holders-at, s .bits-at) (rw (s .bits-at) at (alive-now .bits-fit));
-        particular = rw (s .holders-at)
-            (alive-now .particular);
+        particular = rw (s .holders-at) (alive-now .particular);
         needed = rw (s .holders-at) needed;
       })
 

@@ -309,8 +309,7 @@ map-own s k w p pl alive other unreleased g gl = elim (ℕ-discrete (step s k .a
     past : (x : Word) → Wrote (configuration (s .table)) (rd (configuration (s .table)) (s .table)) k x → x .at .kind ≡ process → x .at .slot ≡ p → pageAt g ≡ x .at .word → ⊥
     past x (made {j = j} {c = c} m l room low y) e f z = omega (
       arith,
-      slot-untaken (configuration (s .table))
-          (rd (configuration (s .table)) (s .table)) j c room .is-free,
+      slot-untaken (configuration (s .table)) (rd (configuration (s .table)) (s .table)) j c room .is-free,
       lived j _ e f,
     )
       where

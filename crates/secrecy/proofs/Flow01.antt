@@ -23,6 +23,5 @@ alike01 v a b c buffer =
       View.same-free-slot v,
       View.free-in (v .here),
       View.own-flows (v .here),
-      View.free-own
-          (v .here),
+      View.free-own (v .here),
     ) depth 12

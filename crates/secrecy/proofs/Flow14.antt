@@ -62,6 +62,5 @@ alike14 v a b buffer =
       View.same-present v,
       View.same-rights v,
       View.held-in (v .here),
-      View.held-flows
-          (v .here),
+      View.held-flows (v .here),
     ) depth 16

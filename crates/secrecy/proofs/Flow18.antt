@@ -21,6 +21,5 @@ alike18 v a buffer = search (
   View.same-present v,
   View.same-rights v,
   View.held-in (v .here),
-  View.held-flows
-      (v .here),
+  View.held-flows (v .here),
 ) depth 12

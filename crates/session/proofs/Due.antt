@@ -149,8 +149,7 @@ step-sizes s k = sizes (configuration (s .table)) s (k .buffer) (wholeRule (conf
 after-call : (x : Session) (t st : List ℕ) (k : Call) → x .words ≤ length t → x .bytes ≤ length st
     → _≡_ {A = State} (record {
       table = take (x .words) (sets t 0 (next (stateOf x t st) k .table));
-      store = take (x .bytes)
-          (sets st 0 (next (stateOf x t st) k .store));
+      store = take (x .bytes) (sets st 0 (next (stateOf x t st) k .store));
     }) (next (stateOf x t st) k)
 after-call x t st k w v =
     let z = step-sizes (stateOf x t st) k in

@@ -184,8 +184,7 @@ pub begun : (reader : Reader) (i : ℕ) (t st : List ℕ) (y : Setup) (t′ st�
         lines = 0;
         words = y .words;
         bytes = y .bytes;
-        over = not
-            (eqb (y .answer) XOK);
+        over = not (eqb (y .answer) XOK);
       };
       next = i;
       end = r;

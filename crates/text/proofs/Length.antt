@@ -44,6 +44,5 @@ line-short n code w s h =
       name-at-most (w .error),
       digits-short maxDigits (w .first),
       digits-short maxDigits (w .second),
-      shown-short
-          (showsBuffer code (w .error)) s h,
+      shown-short (showsBuffer code (w .error)) s h,
     ))

@@ -26,8 +26,7 @@ returns-3 c =
       lt-leb _ _ (c .before .before .before .before .if1 .left),
       ← c .before .before .before .grow .ensures .0,
       lt-leb _ _ (c .before .before .if2 .left),
-      le-leb _ _
-          (c .before .if3 .taken),
+      le-leb _ _ (c .before .if3 .taken),
       le-leb _ _ (c .if4 .taken),
     )
 
@@ -44,8 +43,7 @@ returns-4 c =
       lt-leb _ _ (c .before .before .before .before .if1 .left),
       ← c .before .before .before .grow .ensures .0,
       lt-leb _ _ (c .before .before .if2 .left),
-      le-leb _ _
-          (c .before .if3 .taken),
+      le-leb _ _ (c .before .if3 .taken),
       lt-leb _ _ (c .if4 .left),
     )
 
@@ -59,8 +57,7 @@ returns-5 c =
       lt-leb _ _ (c .before .before .before .before .if1 .left),
       ← c .before .before .before .grow .ensures .0,
       lt-leb _ _ (c .before .before .if2 .left),
-      lt-leb _ _
-          (c .before .if3 .left),
+      lt-leb _ _ (c .before .if3 .left),
       c .if5 .taken,
     )
 
@@ -71,8 +68,7 @@ returns-6 c =
       lt-leb _ _ (c .before .before .before .before .if1 .left),
       ← c .before .before .before .grow .ensures .0,
       lt-leb _ _ (c .before .before .if2 .left),
-      lt-leb _ _
-          (c .before .if3 .left),
+      lt-leb _ _ (c .before .if3 .left),
       c .if5 .left,
     )
 

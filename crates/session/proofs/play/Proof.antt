@@ -56,10 +56,8 @@ loop-again c =
       search needs,
       search needs,
       search needs,
-      inside _ _ _ _ _ _ _ _ _ _ _ _ _ (at-step .step .ensures) (at-loop-test .loop-test .taken)
-          (at-if1 .if1 .left),
-      again-written _ _ _ _ _ _ _ _ _ _ _ _ _ (at-step .step .ensures) (at-loop-test .loop-test .taken) (at-if1 .if1 .left) _
-          (at-loop .loop .inv .5),
+      inside _ _ _ _ _ _ _ _ _ _ _ _ _ (at-step .step .ensures) (at-loop-test .loop-test .taken) (at-if1 .if1 .left),
+      again-written _ _ _ _ _ _ _ _ _ _ _ _ _ (at-step .step .ensures) (at-loop-test .loop-test .taken) (at-if1 .if1 .left) _ (at-loop .loop .inv .5),
       again-same _ _ _ _ _ _ _ _ _ _ _ _ _ (at-step .step .ensures) (at-loop-test .loop-test .taken) (at-if1 .if1 .left) _
           (at-loop .loop .inv .5) _ (at-loop .loop .inv .6),
     )

@@ -74,8 +74,7 @@ module _ {t : List ℕ} {n : Header} {p : Caller} (sound : Sound t n p) (a b c :
           spot (sound .known) (at process (q .index) parent),
           spot (sound .known) (at process (q .index) (bits process)),
           begin,
-          begins
-              (sound .known) process (q .index),
+          begins (sound .known) process (q .index),
           me,
         )
         (sym (four-is h t process (q .index) 1 (x + 1) a b

@@ -47,8 +47,7 @@ returns c =
     let at-wide3 = c .before .before in
     rw (c .enum-told .given .1) (
       omega (arith, at-wide .wide .ensures, at-wide2 .wide2 .ensures, at-wide3 .wide3 .ensures),
-      omega
-          (arith, at-wide .wide .ensures, at-wide2 .wide2 .ensures, at-wide3 .wide3 .ensures, c .before .before .before .before .before .good),
+      omega (arith, at-wide .wide .ensures, at-wide2 .wide2 .ensures, at-wide3 .wide3 .ensures, c .before .before .before .before .before .good),
     )
 
 returns-2 : tie.Need-returns-2
@@ -58,8 +57,7 @@ returns-2 c =
     let at-wide3 = c .before .before in
     rw (c .enum-told2 .given .1) (
       omega (arith, at-wide .wide .ensures, at-wide2 .wide2 .ensures, at-wide3 .wide3 .ensures),
-      omega
-          (arith, at-wide .wide .ensures, at-wide2 .wide2 .ensures, at-wide3 .wide3 .ensures, c .before .before .before .before .before .good),
+      omega (arith, at-wide .wide .ensures, at-wide2 .wide2 .ensures, at-wide3 .wide3 .ensures, c .before .before .before .before .before .good),
     )
 
 returns-3 : tie.Need-returns-3
@@ -69,8 +67,7 @@ returns-3 c =
     let at-wide3 = c .before .before in
     rw (c .enum-told3 .given .1) (
       omega (arith, at-wide .wide .ensures, at-wide2 .wide2 .ensures, at-wide3 .wide3 .ensures),
-      omega
-          (arith, at-wide .wide .ensures, at-wide2 .wide2 .ensures, at-wide3 .wide3 .ensures, c .before .before .before .before .before .good),
+      omega (arith, at-wide .wide .ensures, at-wide2 .wide2 .ensures, at-wide3 .wide3 .ensures, c .before .before .before .before .before .good),
     )
 
 pub base-spec : {M : Type 1} → statement M

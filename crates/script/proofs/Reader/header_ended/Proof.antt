@@ -38,8 +38,7 @@ returns-3 c =
       ← c .before .before .before .before .word .ensures,
       ← c .before .before .before .wide .ensures,
       c .awaiting .ensures,
-      ne-eqb _ _
-          (c .before .before .if1 .left),
+      ne-eqb _ _ (c .before .before .if1 .left),
       le-ltb _ _ (c .before .if2 .left),
     )
 

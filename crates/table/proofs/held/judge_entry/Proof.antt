@@ -78,8 +78,7 @@ add-counts c =
       arith,
       c .before .first .ensures,
       one-le (eqb (c .before .before .index .result) (s .args .mine)),
-      s .pre .1 .1
-          (c .before .before .before .before .before .before .index-in .result) (slot-low (c .before .before)),
+      s .pre .1 .1 (c .before .before .before .before .before .before .index-in .result) (slot-low (c .before .before)),
     )
 
 mul-counts-2 : tie.Need-mul-counts-2

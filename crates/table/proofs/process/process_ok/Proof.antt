@@ -215,8 +215,7 @@ returns-2 c =
       says,
       (
         λ good. free-counted _ _ p free segment _ (sym says ∙ good) (λ d l. (omega arith, omega arith)),
-        λ good. free-counted _ _ p free file _ (sym says ∙ good)
-            (λ d l. (omega arith, omega arith)),
+        λ good. free-counted _ _ p free file _ (sym says ∙ good) (λ d l. (omega arith, omega arith)),
       ),
     )
 

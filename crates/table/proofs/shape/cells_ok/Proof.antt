@@ -27,8 +27,7 @@ loop-holds c = (search needs, c .wide .ensures ∙ sym (cells-read _ _ (c .befor
 cell-ok-requires : tie.Need-cell-ok-requires Inv-loop μ-loop
 cell-ok-requires c κs = (
   omega (arith, c .before .before .wide .ensures, c .loop-test .taken, c .before .before .before .before .pre .header .cells-is),
-  omega
-      (arith, c .before .before .wide .ensures, c .loop-test .taken, c .before .before .before .before .pre .exact),
+  omega (arith, c .before .before .wide .ensures, c .loop-test .taken, c .before .before .before .before .pre .exact),
 )
 
 add-c : tie.Need-add-c Inv-loop μ-loop
