@@ -6,19 +6,17 @@ use Prim.Native.Nat.{ℕ, _<_, _≤_}
 use native.Mathlib.Omega.{arith}
 use lib.ListN.{replicate}
 use borrow.Author.Tests.{eq-eqb, ne-eqb}
-use Rattle.rules.specs.Words.{allBelow, someBelow, sumBelow, countBelow, lowest, orRather, least, tabFrom, part, word4}
-use Rattle.rules.specs.Level.{Level, level, has, within, equals, flowsTo}
-use Rattle.rules.specs.Layout.{maxSerial, Kind, process, file, cells, slots, blocks, guard, cellWord, levelOf, configuration, firstSlot, cellOf, flows, at, rd, live, serial}
-use Rattle.rules.specs.Seid.{class, seid, classOf, indexOf, serialOf, isSeid, seidAt, orSelf, present}
-use Rattle.rules.specs.Modes.{validModes, reads, writes}
+use Rattle.rules.specs.Words.{allBelow}
+use Rattle.rules.specs.Level.{Level, level, has, within, flowsTo}
+use Rattle.rules.specs.Layout.{maxSerial, Kind, process, file, slots, configuration, flows, at, rd, live, serial}
+use Rattle.rules.specs.Seid.{class, seid, classOf, indexOf, present}
+use Rattle.rules.specs.Modes.{validModes}
 use Rattle.rules.specs.Rights.{rights, mayRead, mayWrite, access}
-use Rattle.rules.specs.WellFormed.{headerOk, cellOk, levelsDistinct, sumsMatch, configured, lengthsExact, recordOk, heldOk, currentOk, entryOk, parentOk, heldOnce, messageOk, pageOk, processOk, ownEntry, ownEntries, segmentSize, segmentOk, fileOk, recordsOk, wellFormed}
 use Rattle.rules.specs.Errors.{XOK}
 use Rattle.rules.specs.Rule.{_≔_, write, store}
-use Rattle.rules.specs.Find.{freeSlot, freeEntry}
-use Rattle.rules.specs.Call07.{create}
-use Rattle.rules.specs.SetUp.{canSetUp, firstProcesses, freshTable, setUpTable}
-use Rattle.rules.specs.Step.{State, Call, answer, step, next, badCaller, badCode, ruleOf, carriedOut, wholeRule}
+use Rattle.rules.specs.SetUp.{setUpTable}
+use Rattle.rules.specs.Step.{State, Call, answer, step, next}
+use Rattle.promises.proofs.Opened.{open-table, open-set-up, open-calls, open-step}
 use Rattle.laws.proofs.Tests.{refuted, both-ways}
 use Rattle.levels.proofs.Flow.{flows-says, flows-when, reflexive}
 use Rattle.kept.proofs.Kept.{Well}
@@ -70,7 +68,7 @@ creation = record { caller = 0; code = 7; a = 420; b = 3; c = 0; buffer = [] }
 -- the second slot is taken, and the first stays as it is
 second-taken : (step first-worn creation .answered ≡ answer XOK (seid (class file) 1 1) 0)
     × (rd two-slots (next first-worn creation .table) (at file 0 live) ≡ 0) × (rd two-slots (next first-worn creation .table) (at file 0 serial) ≡ maxSerial)
-unfolding allBelow someBelow sumBelow countBelow lowest orRather least tabFrom part word4 within equals flowsTo cells slots blocks guard cellWord levelOf configuration firstSlot cellOf flows rd seid classOf indexOf serialOf isSeid seidAt orSelf present validModes reads writes headerOk cellOk levelsDistinct sumsMatch configured lengthsExact recordOk heldOk currentOk entryOk parentOk heldOnce messageOk pageOk processOk ownEntry ownEntries segmentSize segmentOk fileOk recordsOk wellFormed freeSlot freeEntry create canSetUp firstProcesses freshTable setUpTable ruleOf badCaller badCode carriedOut wholeRule step
+unfolding open-table open-set-up open-calls open-step
 second-taken = (refl, refl, refl)
 
 -- ---- a post up

@@ -4,16 +4,14 @@ use mathlib.Core.Bool.{Bool, true, false}
 use mathlib.Core.List.{List, [], _∷_, _++_}
 use Prim.Native.Nat.{ℕ, _+_, _-_, _*_}
 use lib.ListN.{set, replicate}
-use Rattle.rules.specs.Words.{allBelow, sumBelow, countBelow, lowest}
 use Rattle.rules.specs.Claim.{test}
-use Rattle.rules.specs.Level.{within, equals, flowsTo}
-use Rattle.rules.specs.Layout.{headerWords, cellWords, process, segment, file, recordWords, cells, slots, blocks, guard, cellWord, levelOf, configuration, firstSlot, cellOf, flows, Addr, at, rd, live, serial, owner, group, parent, queue, zero7, heldAt, usedAt, messageAt, pageAt, bits, sharable, size, references, opens}
-use Rattle.rules.specs.Seid.{class, seid, classOf, indexOf, serialOf, isSeid}
-use Rattle.rules.specs.Modes.{validModes, excludesReaders, excludesWriters, writes, clash}
-use Rattle.rules.specs.Rights.{asksWrite, validAccess}
-use Rattle.rules.specs.WellFormed.{headerOk, cellOk, levelsDistinct, sumsMatch, configured, lengthsExact, recordOk, heldOk, currentOk, entryOk, parentOk, heldOnce, messageOk, pageOk, processOk, ownEntry, ownEntries, segmentSize, segmentOk, fileOk, recordsOk, wellFormed}
+use Rattle.rules.specs.Layout.{headerWords, cellWords, process, segment, file, recordWords, cells, slots, guard, Addr, at, live, serial, owner, group, parent, queue, zero7, heldAt, usedAt, messageAt, pageAt, bits, sharable, size, references, opens}
+use Rattle.rules.specs.Seid.{class, seid}
+use Rattle.rules.specs.Modes.{clash}
+use Rattle.rules.specs.WellFormed.{headerOk, wellFormed}
 use Rattle.rules.specs.Rule.{Word, _≔_, write}
 use Rattle.rules.specs.SetUp.{canSetUp, firstProcesses, freshTable, setUpTable}
+use Rattle.promises.proofs.Opened.{open-table, open-set-up}
 
 -- two cells of security 1 and 3, with a process and a file slot each, and a segment slot in the first; B 1
 abbrev conf : List ℕ
@@ -113,7 +111,7 @@ pub record Judged : Type 0 where
   pub byte-too-many : test (wellFormed used (bytes + 1)) ≡ false
 
 pub judged : Judged
-unfolding allBelow sumBelow countBelow lowest within equals flowsTo cells slots blocks guard cellWord levelOf configuration firstSlot cellOf flows rd seid classOf indexOf serialOf isSeid validModes excludesReaders excludesWriters writes clash asksWrite validAccess headerOk cellOk levelsDistinct sumsMatch configured lengthsExact recordOk heldOk currentOk entryOk parentOk heldOnce messageOk pageOk processOk ownEntry ownEntries segmentSize segmentOk fileOk recordsOk wellFormed canSetUp firstProcesses freshTable setUpTable
+unfolding open-table open-set-up
 judged =
     record {
       not-set-up = refl;

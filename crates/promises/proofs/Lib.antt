@@ -1,4 +1,5 @@
 -- What the rules promise, statement by statement.
+pub mod Opened
 pub mod Refusals
 pub mod After
 pub mod Stale

@@ -4,23 +4,14 @@ use mathlib.Core.List.{List, [], _∷_, _++_}
 use Prim.Native.Nat.{ℕ}
 use Prim.Native.String.{String}
 use lib.ListN.{replicate}
-use Rattle.rules.specs.Words.{allBelow, someBelow, sumBelow, countBelow, lowest, orRather, least, tabFrom, part, word4}
-use Rattle.rules.specs.Level.{within, equals, flowsTo}
-use Rattle.rules.specs.Layout.{cells, slots, blocks, guard, cellWord, levelOf, configuration, firstSlot, cellOf, flows, rd}
-use Rattle.rules.specs.Seid.{seid, classOf, indexOf, serialOf, isSeid, seidAt, orSelf, present}
-use Rattle.rules.specs.Modes.{validModes, reads, writes, excludesReaders, excludesWriters, clash}
-use Rattle.rules.specs.Rights.{rights, mayRead, mayWrite, lacks, asksRead, asksWrite, validAccess, access}
-use Rattle.rules.specs.WellFormed.{headerOk, cellOk, levelsDistinct, sumsMatch, configured, lengthsExact, recordOk, heldOk, currentOk, entryOk, parentOk, heldOnce, messageOk, pageOk, processOk, ownEntry, ownEntries, segmentSize, segmentOk, fileOk, recordsOk, wellFormed}
+use Rattle.rules.specs.Layout.{cells, slots, guard}
+use Rattle.rules.specs.Modes.{reads}
 use Rattle.rules.specs.Errors.{ascii, errorNames, errorName}
 use Rattle.rules.specs.Rule.{sameAddr, over}
-use Rattle.rules.specs.Find.{rightsAt, freeSlot, freeEntry, zeros, oneLess, pageLeft, pagesSet, emptied, givenUp}
 use Rattle.rules.specs.Call07.{create}
-use Rattle.rules.specs.Call08.{clashesAt, clashes, openFile}
 use Rattle.rules.specs.Call09.{close}
-use Rattle.rules.specs.Call13.{block, readBlock}
-use Rattle.rules.specs.SetUp.{firstProcesses, freshTable}
-use Rattle.rules.specs.Step.{ruleOf, badCaller, badCode, carriedOut, wholeRule, step}
 use Rattle.rules.specs.Replay.{encoded, newline, groups, numberFrom, numbersFrom, configurationIn, replayable, callIn, scriptIn, decimalIn, hex, showsBuffer, line, linesFrom, heading, startOf, scriptListing, listing}
+use Rattle.promises.proofs.Opened.{open-table, open-set-up, open-calls, open-step}
 
 -- numbers as the input has them
 abbrev pub numbers : List ℕ → List ℕ
@@ -68,5 +59,5 @@ pub the-listing : listing (configuration-bytes ++ calls-bytes)
     ∷ "7 XOK 2164260866 0"
     ∷ "8 XnoObj 0 0"
     ∷ [])
-unfolding allBelow someBelow sumBelow countBelow lowest orRather least tabFrom part word4 within equals flowsTo cells slots blocks guard cellWord levelOf configuration firstSlot cellOf flows rd seid classOf indexOf serialOf isSeid seidAt orSelf present validModes reads writes excludesReaders excludesWriters clash rights mayRead mayWrite lacks asksRead asksWrite validAccess access headerOk cellOk levelsDistinct sumsMatch configured lengthsExact recordOk heldOk currentOk entryOk parentOk heldOnce messageOk pageOk processOk ownEntry ownEntries segmentSize segmentOk fileOk recordsOk wellFormed ascii errorNames errorName sameAddr over rightsAt freeSlot freeEntry zeros oneLess pageLeft pagesSet emptied givenUp create clashesAt clashes openFile close block readBlock firstProcesses freshTable ruleOf badCaller badCode carriedOut wholeRule step groups numberFrom numbersFrom configurationIn replayable callIn scriptIn decimalIn hex showsBuffer line linesFrom heading startOf scriptListing listing
+unfolding open-table open-set-up open-calls open-step ascii errorNames errorName sameAddr over groups numberFrom numbersFrom configurationIn replayable callIn scriptIn decimalIn hex showsBuffer line linesFrom heading startOf scriptListing listing
 the-listing = refl

@@ -7,16 +7,14 @@ use native.Mathlib.Omega.{arith}
 use lib.Dec.{ltb}
 use lib.ListN.{length, getD, take, replicate, length-replicate}
 use borrow.Author.Tests.{ltb-true}
-use Rattle.rules.specs.Words.{allBelow, someBelow, sumBelow, countBelow, lowest, tabFrom, part, word4}
-use Rattle.rules.specs.Level.{within, equals, flowsTo}
-use Rattle.rules.specs.Layout.{cells, slots, blocks, guard, cellWord, levelOf, configuration, firstSlot, cellOf, flows, rd, file}
-use Rattle.rules.specs.Seid.{seid, classOf, indexOf, serialOf, isSeid, class}
-use Rattle.rules.specs.Modes.{validModes, reads, writes}
-use Rattle.rules.specs.WellFormed.{headerOk, cellOk, levelsDistinct, sumsMatch, configured, lengthsExact, recordOk, heldOk, currentOk, entryOk, parentOk, heldOnce, messageOk, pageOk, processOk, ownEntry, ownEntries, segmentSize, segmentOk, fileOk, recordsOk, wellFormed}
+use Rattle.rules.specs.Layout.{file}
+use Rattle.rules.specs.Seid.{seid, class}
+use Rattle.rules.specs.Modes.{writes}
+use Rattle.rules.specs.WellFormed.{wellFormed}
 use Rattle.rules.specs.Errors.{XOK}
-use Rattle.rules.specs.SetUp.{canSetUp, firstProcesses, freshTable, setUpTable}
 use Rattle.rules.specs.Step.{State, Call, answer, step, next, run}
 use Rattle.rules.specs.Image.{imageOf, imageLength, imageAnswer, imageOut}
+use Rattle.promises.proofs.Opened.{open-table, open-set-up}
 use Rattle.laws.proofs.Below.{all-at}
 use Rattle.laws.proofs.Claims.{holds}
 use Rattle.kept.proofs.Kept.{Well}
@@ -35,11 +33,11 @@ handed-out-again s k out words taken = ap (λ o. o .answered) (answered-again s 
 -- ---- so it is of a file, on the table of Edges
 
 formed : Well first-worn
-unfolding allBelow someBelow sumBelow countBelow lowest tabFrom part word4 within equals flowsTo cells slots blocks guard cellWord levelOf configuration firstSlot cellOf flows rd seid classOf indexOf serialOf isSeid validModes reads writes headerOk cellOk levelsDistinct sumsMatch configured lengthsExact recordOk heldOk currentOk entryOk parentOk heldOnce messageOk pageOk processOk ownEntry ownEntries segmentSize segmentOk fileOk recordsOk wellFormed canSetUp firstProcesses freshTable setUpTable
+unfolding open-table open-set-up
 formed = holds (wellFormed (first-worn .table) (length (first-worn .store))) refl
 
 small : Words (first-worn .table)
-unfolding allBelow someBelow sumBelow countBelow lowest tabFrom part word4 within equals flowsTo cells slots blocks guard cellWord levelOf configuration firstSlot cellOf flows rd seid classOf indexOf serialOf isSeid validModes reads writes headerOk cellOk levelsDistinct sumsMatch configured lengthsExact recordOk heldOk currentOk entryOk parentOk heldOnce messageOk pageOk processOk ownEntry ownEntries segmentSize segmentOk fileOk recordsOk wellFormed canSetUp firstProcesses freshTable setUpTable
+unfolding open-table open-set-up
 small i l = ltb-true _ _ (all-at 144 (λ i. ltb (getD (first-worn .table) i 0) (2 ^ 32)) refl i l)
 
 -- room for the image, and no more

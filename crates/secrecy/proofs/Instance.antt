@@ -7,22 +7,14 @@ use native.Mathlib.Omega.{arith}
 use lib.Dec.{ltb}
 use lib.ListN.{length, replicate}
 use borrow.Author.Tests.{ltb-true}
-use Rattle.rules.specs.Words.{allBelow, someBelow, sumBelow, countBelow, lowest, orRather, least, tabFrom, part}
-use Rattle.rules.specs.Level.{within, equals, flowsTo}
-use Rattle.rules.specs.Layout.{Kind, process, file, recordWords, live, serial, owner, bits, links, size, cells, slots, blocks, guard, cellWord, levelOf, configuration, firstSlot, cellOf, flows, at, rd}
-use Rattle.rules.specs.Seid.{seid, classOf, indexOf, serialOf, isSeid, seidAt, orSelf, present}
-use Rattle.rules.specs.Modes.{validModes, reads, writes, excludesReaders, excludesWriters, clash}
-use Rattle.rules.specs.Rights.{rights, mayRead, mayWrite, lacks, asksRead, asksWrite, validAccess, access}
-use Rattle.rules.specs.WellFormed.{headerOk, cellOk, levelsDistinct, sumsMatch, configured, lengthsExact, recordOk, heldOk, currentOk, entryOk, parentOk, heldOnce, messageOk, pageOk, processOk, ownEntry, ownEntries, segmentSize, segmentOk, fileOk, recordsOk, wellFormed}
+use Rattle.rules.specs.Words.{sumBelow}
+use Rattle.rules.specs.Layout.{Kind, process, file, recordWords, live, serial, owner, bits, links, size, cells, slots, guard, cellWord, configuration, firstSlot, cellOf, at, rd}
+use Rattle.rules.specs.WellFormed.{wellFormed}
 use Rattle.rules.specs.SetUp.{canSetUp, firstProcesses, freshTable, setUpTable}
-use Rattle.rules.specs.Find.{rightsAt, freeSlot, freeEntry, zeros, oneLess, pageLeft, pagesSet, emptied, givenUp}
-use Rattle.rules.specs.Call07.{create}
-use Rattle.rules.specs.Call08.{clashesAt, clashes, openFile}
-use Rattle.rules.specs.Call09.{close}
-use Rattle.rules.specs.Call13.{block, readBlock}
-use Rattle.rules.specs.Step.{State, Call, Reply, answer, ruleOf, badCaller, badCode, carriedOut, wholeRule, step, reply, run}
+use Rattle.rules.specs.Step.{State, Call, Reply, answer, reply, run}
 use Rattle.rules.specs.Rule.{_≔_, bytesAt, Effect, effect, write, store}
 use Rattle.rules.specs.Observer.{observer, Closed, Agree, stays, remaining, replies}
+use Rattle.promises.proofs.Opened.{open-table, open-set-up, open-calls, open-step}
 use Rattle.laws.proofs.Claims.{holds}
 use Rattle.laws.proofs.Written.{AllOf, nil, also}
 use Rattle.kept.proofs.Kept.{Well}
@@ -34,7 +26,7 @@ use Rattle.secrecy.proofs.Demand3.{no-guard}
 
 -- the rules' definitions that the examples compute with: to open this is to open them
 unfoldable pub open-rules : Unit {0}
-unfolding freshTable firstProcesses allBelow someBelow sumBelow countBelow lowest orRather least tabFrom part within equals flowsTo cells slots blocks guard cellWord levelOf configuration firstSlot cellOf flows rd seid classOf indexOf serialOf isSeid seidAt orSelf present validModes reads writes excludesReaders excludesWriters clash rights mayRead mayWrite lacks asksRead asksWrite validAccess access headerOk cellOk levelsDistinct sumsMatch configured lengthsExact recordOk heldOk currentOk entryOk parentOk heldOnce messageOk pageOk processOk ownEntry ownEntries segmentSize segmentOk fileOk recordsOk wellFormed rightsAt freeSlot freeEntry zeros oneLess pageLeft pagesSet emptied givenUp create clashesAt clashes openFile close block readBlock ruleOf badCaller badCode carriedOut wholeRule step reply stays remaining replies
+unfolding open-table open-set-up open-calls open-step reply stays remaining replies
 open-rules = tt
 
 -- "Two cells, security 1 and 3, integrity, compartments, owner and group 0, two process and two file slots each, no segment slots, B 1." g is the guard word.

@@ -8,13 +8,12 @@ use native.Mathlib.Omega.{arith}
 use lib.ListN.{length, replicate}
 use borrow.Author.Tests.{leb-true}
 use Rattle.rules.specs.Copy.{Copy}
-use Rattle.rules.specs.Step.{answer}
 use Rattle.rules.specs.Observer.{observer}
 use Rattle.rules.specs.Regrade.{withoutRefused}
 use Rattle.rules.specs.Tray.{Record, mostRecords, afterTray, remainingIn, asked, Apart, SameParts}
 use Rattle.rules.specs.TrayRegrade.{acceptedIn, eventIn, eventsIn}
 use Rattle.secrecy.proofs.Tray.{SameTrays, below-guard}
-use Rattle.secrecy.proofs.TrayInstance.{open-trays, divided, first-error}
+use Rattle.secrecy.proofs.TrayInstance.{open-trays, record-of, divided, first-error}
 use Rattle.secrecy.proofs.Instance.{guarded, fresh, other, secret, fresh-formed, other-formed, fresh-configuration, low-closed, agreed}
 use Rattle.secrecy.proofs.Desk.{open-more, desk, guard-above}
 
@@ -22,10 +21,6 @@ use Rattle.secrecy.proofs.Desk.{open-more, desk, guard-above}
 open-desk : Unit {0}
 unfolding open-more open-trays acceptedIn eventIn eventsIn
 open-desk = tt
-
--- a record whose part lies at a place and has so many bytes; in the room for its answer stands anything
-abbrev record-of : ℕ → ℕ → ℕ → ℕ → ℕ → ℕ → ℕ → Record
-record-of p k a b c at n = record { caller = p; code = k; a = a; b = b; c = c; offset = at; length = n; answer = answer 9 9 9 }
 
 -- the guard, process 2, makes a file and regrades it into the low cell; the low process asks for the copy's status, and opens it
 unfoldable pub one-tray : List Record

@@ -58,8 +58,11 @@ divided h C n rs e i s = refuted (hidden h C rs i) (λ t. let a = seen-below h C
 -- ---- two trays
 
 -- a record whose part lies at a place and has so many bytes; in the room for its answer stands anything
+abbrev pub record-of : ℕ → ℕ → ℕ → ℕ → ℕ → ℕ → ℕ → Record
+record-of p k a b c at n = record { caller = p; code = k; a = a; b = b; c = c; offset = at; length = n; answer = answer 9 9 9 }
+
 abbrev asks : ℕ → ℕ → ℕ → ℕ → ℕ → ℕ → Record
-asks p k a b at n = record { caller = p; code = k; a = a; b = b; c = 0; offset = at; length = n; answer = answer 9 9 9 }
+asks p k a b at n = record-of p k a b 0 at n
 
 -- the low process creates a file and asks for its own status; between, the high one opens the file, or asks for its status, or a call is made from a slot that is
 -- not live, with a part that lies outside
