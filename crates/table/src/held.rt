@@ -3,13 +3,13 @@ ghost use mathlib.Core.Path.{_≡_};
 ghost use mathlib.Core.Bool.{true, cond};
 ghost use Prim.Native.Nat.{ℕ, _+_, _*_, _≤_, _<_};
 ghost use lib.ListN.{length, getD};
-ghost use Rattle.rules.specs.Words.{tabFrom, allBelow, countBelow};
+ghost use Rattle.rules.specs.Words.{allBelow, countBelow};
 ghost use Rattle.rules.specs.Claim.{test};
 ghost use Rattle.rules.specs.Layout.{maxCells, maxSlots, entries, slots, cellOf, configuration, flowMatrix, rd};
 ghost use Rattle.rules.specs.Seid.{class, classOf, indexOf};
-ghost use Rattle.rules.specs.Modes.{validModes};
 ghost use Rattle.rules.specs.WellFormed.{validUse, writeUse, heldOk, entryOk};
 ghost use Rattle.layout.specs.Kinds.{kindOf};
+ghost use Rattle.modes.specs.Valid.{validTable};
 ghost use Rattle.table.specs.Shape.{Shaped, CellsOf};
 ghost use Rattle.table.specs.Entries.{heldWord, usedWord, Squeezed, names, Countable, Counts};
 use crate::places;
@@ -51,7 +51,7 @@ pub(crate) fn held_ok(
 
 // The second word of an entry for an object of a kind: modes, or access. No entry holds a process.
 fn valid_use(kind: Kind, valid: &[bool; NUMBERS], u: u32) -> bool
-    requires { ⌜ now valid ≡ tabFrom 0 16 validModes ⌝ }
+    requires { ⌜ now valid ≡ validTable ⌝ }
     ensures { λ r. ⌜ r ≡ validUse (kindOf kind) u ⌝ }
 {
     match kind {
@@ -105,7 +105,7 @@ fn entry_ok(
     s: u32,
     u: u32,
 ) -> bool
-    requires { ⌜ Shaped (now t) n × (now flow ≡ flowMatrix (configuration (now t))) × (mine < maxCells) × (i < slots (configuration (now t)) (kindOf kind)) × (now valid ≡ tabFrom 0 16 validModes) ⌝ }
+    requires { ⌜ Shaped (now t) n × (now flow ≡ flowMatrix (configuration (now t))) × (mine < maxCells) × (i < slots (configuration (now t)) (kindOf kind)) × (now valid ≡ validTable) ⌝ }
     requires { ⌜ (classOf s ≡ class (kindOf kind)) × (indexOf s ≡ i) × (cell ≡ cellOf (configuration (now t)) (kindOf kind) i) ⌝ }
     ensures { λ r. ⌜ r ≡ test (entryOk (configuration (now (t .entry))) (rd (configuration (now (t .entry))) (now (t .entry))) (kindOf kind) mine s u) ⌝ }
 {
@@ -130,7 +130,7 @@ fn judge_entry(
     u: u32,
     counts: &mut [u16],
 ) -> bool
-    requires { ⌜ Shaped (now t) n × CellsOf (configuration (now t)) (kindOf kind) (now cells) × (now flow ≡ flowMatrix (configuration (now t))) × (mine < maxCells) × (s ≡ 0 → u ≡ 0 → ⊥) × (now valid ≡ tabFrom 0 16 validModes) ⌝ }
+    requires { ⌜ Shaped (now t) n × CellsOf (configuration (now t)) (kindOf kind) (now cells) × (now flow ≡ flowMatrix (configuration (now t))) × (mine < maxCells) × (s ≡ 0 → u ≡ 0 → ⊥) × (now valid ≡ validTable) ⌝ }
     requires { ⌜ (length (now counts) ≡ maxSlots) × ((i : ℕ) → i < maxSlots → getD (now counts) i 0 < 65535) ⌝ }
     ensures { λ r. ⌜ r ≡ test (entryOk (configuration (now (t .entry))) (rd (configuration (now (t .entry))) (now (t .entry))) (kindOf kind) mine s u) ⌝ }
     ensures { λ r. ⌜ Counts (λ i. cond (names (configuration (now (t .entry))) (kindOf kind) mine s i) 1 0) 1 r (now (counts .entry)) (now (counts .exit)) ⌝ }
@@ -159,7 +159,7 @@ pub(crate) fn entries_ok(
     used: usize,
     counts: &mut [u16],
 ) -> bool
-    requires { ⌜ Shaped (now t) n × CellsOf (configuration (now t)) (kindOf kind) (now cells) × (now flow ≡ flowMatrix (configuration (now t))) × (mine < maxCells) × Countable (now counts) × (now valid ≡ tabFrom 0 16 validModes) ⌝ }
+    requires { ⌜ Shaped (now t) n × CellsOf (configuration (now t)) (kindOf kind) (now cells) × (now flow ≡ flowMatrix (configuration (now t))) × (mine < maxCells) × Countable (now counts) × (now valid ≡ validTable) ⌝ }
     requires { ⌜ (from + 2 * entries ≤ length (now t)) × (length (now list) ≡ 2 * entries) × Squeezed (now t) from (now list) used entries ⌝ }
     ensures { λ r. ⌜ r ≡ allBelow entries (λ d. test (entryOk (configuration (now (t .entry))) (rd (configuration (now (t .entry))) (now (t .entry))) (kindOf kind) mine (heldWord (now (t .entry)) from d) (usedWord (now (t .entry)) from d))) ⌝ }
     ensures { λ r. ⌜ Counts (λ i. countBelow entries (λ d. names (configuration (now (t .entry))) (kindOf kind) mine (heldWord (now (t .entry)) from d) i)) entries r (now (counts .entry)) (now (counts .exit)) ⌝ }

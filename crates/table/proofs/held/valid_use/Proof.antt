@@ -1,9 +1,8 @@
 -- `held::valid_use` meets its contract, kind by kind.
 use mathlib.Core.Path.{ap, _∙_}
-use mathlib.Core.Bool.{Bool, false, _&&_}
+use mathlib.Core.Bool.{Bool}
 use mathlib.Core.List.{List}
-use lib.Dec.{ltb}
-use lib.ListN.{getD}
+use Rattle.modes.specs.Valid.{saidIn}
 use Rattle.modes.proofs.Numbers.{valid-told}
 use borrow.Author.Needs.{needs}
 use Rattle.table.proofs.held.valid_use.Statement.{statement}
@@ -33,7 +32,7 @@ returns-2 c = rw (c .before .enum-told2 .given .1) (c .valid-access .ensures)
 returns-3 : tie.Need-returns-3
 returns-3 c =
     let s = c .before .before .before in
-    rw (c .before .enum-told3 .given .1) (c .valid-in .ensures ∙ ap (λ (table : List Bool). ltb (s .args .u) 16 && getD table (s .args .u) false) (s .pre) ∙ valid-told (s .args .u))
+    rw (c .before .enum-told3 .given .1) (c .valid-in .ensures ∙ ap (λ (table : List Bool). saidIn table (s .args .u)) (s .pre) ∙ valid-told (s .args .u))
 
 pub valid-use-spec : {M : Type 1} → statement M
 valid-use-spec =
