@@ -21,7 +21,7 @@
 //! # Ok::<(), Error>(())
 //! ```
 //!
-//! [`setup`], [`well_formed`], [`call`], [`view`], [`tray`], [`image`] and [`reload`] are the library's functions over slices, for hosts that
+//! [`setup`], [`well_formed`], [`call`], [`view`], [`view_part`], [`tray`], [`image`] and [`reload`] are the library's functions over slices, for hosts that
 //! keep their own memory or hand calls through by their numbers:
 //!
 //! ```
@@ -76,7 +76,9 @@ pub use code::Code;
 pub use error::Error;
 pub use hall::{Cell, Hall, Level};
 pub use owner::{Caller, Descriptor, Designator, Monitor, Page};
-pub use raw::{Answer, Record, TRAY_RECORDS, call, image, image_length, reload, setup, tray, view, well_formed};
+pub use raw::{
+    Answer, Part, Record, TRAY_RECORDS, call, image, image_length, reload, setup, tray, view, view_part, well_formed,
+};
 pub use rights::{Access, Bits, Modes};
 pub use seid::{Kind, Seid};
 pub use told::{Message, Status};

@@ -73,12 +73,16 @@ pub struct Answer {
     pub second: u32,
 }
 
-/// What a view shows, as it comes over the boundary: a refusal, or the first byte and the count of a part of the store.
+/// What a view shows, as it comes over the boundary: a part of the store.
+#[derive(Clone, Copy, Debug, Default, PartialEq, Eq)]
 #[repr(C)]
-struct Part {
-    error: u32,
-    from: usize,
-    count: usize,
+pub struct Part {
+    /// 0, or the number of the refusal.
+    pub error: u32,
+    /// Its first byte; 0 in a refusal.
+    pub from: usize,
+    /// How many bytes it has; 0 in a refusal.
+    pub count: usize,
 }
 
 /// A call by the tray, as it goes over the boundary: its numbers, its buffer as a part of the bytes that are lent with the tray, and
@@ -155,11 +159,15 @@ pub fn call(
 /// The block that a read would copy, as a part of the store: by the process in slot `caller`, with its descriptor and the block's
 /// number. The refusals are those of a read, but for the buffer's length; nothing is changed.
 pub fn view<'a>(table: &[u32], store: &'a [u8], caller: u32, descriptor: u32, block: u32) -> Result<&'a [u8], Error> {
-    // SAFETY: the pointers and lengths are those of two slices, which the library only reads; any lengths and contents are allowed.
-    let Part { error, from, count } =
-        unsafe { c::monitor_view(table.as_ptr(), table.len(), store.as_ptr(), store.len(), caller, descriptor, block) };
+    let Part { error, from, count } = view_part(table, store, caller, descriptor, block);
     Error::told(error)?;
     Ok(&store[from..from + count])
+}
+
+/// The same by its place in the store, for hosts that keep it elsewhere.
+pub fn view_part(table: &[u32], store: &[u8], caller: u32, descriptor: u32, block: u32) -> Part {
+    // SAFETY: the pointers and lengths are those of two slices, which the library only reads; any lengths and contents are allowed.
+    unsafe { c::monitor_view(table.as_ptr(), table.len(), store.as_ptr(), store.len(), caller, descriptor, block) }
 }
 
 /// The most records of a tray.

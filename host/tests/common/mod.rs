@@ -4,26 +4,6 @@ use trial::Monitor;
 
 pub struct Archive;
 
-/// A view as it comes over the boundary, for the wrapper shows nothing of a refusal's first byte and count.
-#[repr(C)]
-struct Part {
-    error: u32,
-    from: usize,
-    count: usize,
-}
-
-unsafe extern "C" {
-    fn monitor_view(
-        table: *const u32,
-        words: usize,
-        store: *const u8,
-        bytes: usize,
-        caller: u32,
-        a: u32,
-        b: u32,
-    ) -> Part;
-}
-
 impl Monitor for Archive {
     fn setup(&self, table: &mut [u32], store_bytes: usize) -> u32 {
         monitor::setup(table, store_bytes).map_or_else(|error| error.number(), |()| 0)
@@ -40,10 +20,8 @@ impl Monitor for Archive {
     }
 
     fn view(&self, table: &[u32], store: &[u8], caller: u32, descriptor: u32, block: u32) -> (u32, usize, usize) {
-        let (words, bytes) = (table.len(), store.len());
-        // Sound: both are lent to be read alone, and as long as they are said to be.
-        let Part { error, from, count } =
-            unsafe { monitor_view(table.as_ptr(), words, store.as_ptr(), bytes, caller, descriptor, block) };
+        // The wrapper shows nothing of a refusal's first byte and count.
+        let monitor::Part { error, from, count } = monitor::view_part(table, store, caller, descriptor, block);
         let wrapped = monitor::view(table, store, caller, descriptor, block).map_err(|error| error.number());
         assert_eq!(trial::shown(store, wrapped), (error, from, count), "the wrapper's view, and the library's");
         (error, from, count)
