@@ -37,8 +37,9 @@ use Rattle.calls.specs.Entries.{entryOf}
 use Rattle.calls.specs.Calls.{useTests}
 use Rattle.calls.specs.Refusing.{orRefuse, refusing}
 use Rattle.calls.specs.Left.{said, ruleAt}
-use Rattle.calls.specs.Blocks.{ReadLeft, WriteLeft}
+use Rattle.calls.specs.Blocks.{readUse, ReadLeft, WriteLeft}
 use Rattle.calls.specs.View.{partOf, partAt, ShownBy}
+use Rattle.calls.specs.declared.blocks.Use.{Use}
 use Rattle.calls.proofs.Worlds.{spot, shape, blocks-is}
 use Rattle.calls.proofs.Refusals.{refusing-first, refusing-alike, none-found, Clear, clear-of}
 use Rattle.calls.proofs.Looks.{seen-formed, slot-is, slot-in}
@@ -156,9 +157,9 @@ readTests a d f z blocks b = useTests a (d .held) (reads (d .used)) XnotReadable
 
 -- the slot, the block and the file's blocks as the code has them: v, y and x
 module _ {t : List ℕ} {n : Header} {c : Caller} {a : ℕ} {d : Entry} {f : Seen} {z : ℕ} (u : Used t n c a d f z) (st : List ℕ) (b e₀ : ℕ) {e : ℕ} where
-  pub read-told : {held : Bool} {e1 e2 : ℕ} → held ≡ reads (d .used) → e1 ≡ refusing e₀ (useTests a (d .held) held XnotReadable f true false)
+  pub read-told : {w : Use} {e1 e2 : ℕ} → w ≡ readUse (d .used) → e1 ≡ refusing e₀ (useTests a (d .held) (w .held) (w .number) f (w .read) (w .write))
       → e2 ≡ orRefuse e1 (leb (n .blocks) b) XbadBlockNo → e ≡ orRefuse e2 (leb z b) XendOfFile → e ≡ refusing e₀ (readTests a d f z (n .blocks) b)
-  read-told held tests block end = rw (end, block, tests, held) refl
+  read-told to-read tests block end = rw (end, block, tests, to-read) refl
 
   module _ (told : e ≡ refusing e₀ (readTests a d f z (n .blocks) b)) where
     block-test : formed (configuration t) file (d .held) ≡ true → firstRefusal ((leb (n .blocks) b ⇒ XbadBlockNo) ∷ (leb z b ⇒ XendOfFile) ∷ [])

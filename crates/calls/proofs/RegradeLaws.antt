@@ -34,6 +34,8 @@ use Rattle.calls.specs.Calls.{useTests}
 use Rattle.calls.specs.Refusing.{orRefuse, refusing}
 use Rattle.calls.specs.Left.{said, ruleAt}
 use Rattle.calls.specs.Regrade.{Apart, Copyable, FoundIn, RegradeLeft}
+use Rattle.calls.specs.declared.blocks.Use.{Use}
+use Rattle.calls.specs.Blocks.{readUse}
 use Rattle.calls.proofs.Worlds.{shape, cells-is, blocks-is, guard-is}
 use Rattle.calls.proofs.Refusals.{refusing-first, past, Clear, clear-of}
 use Rattle.calls.proofs.Looks.{seen-formed, slot-in}
@@ -120,12 +122,12 @@ desk-fits sound = omega (arith, home-in sound, cells-is (sound .known), shape (s
 
 module _ {t : List ℕ} {n : Header} {c : Caller} {a : ℕ} {d : Entry} {f : Seen} {z : ℕ} (u : Used t n c a d f z) (st : List ℕ) (b bits : ℕ) (buf : List ℕ) {g : Slot}
     (slot : FoundIn t b g) {e : ℕ} where
-  pub regrade-told : {held : Bool} {e1 e2 e3 e4 : ℕ} → held ≡ reads (d .used) → e1 ≡ orRefuse 0 (not (eqb (n .guard) (c .cell + 1))) XnoSPriv
+  pub regrade-told : {w : Use} {e1 e2 e3 e4 : ℕ} → w ≡ readUse (d .used) → e1 ≡ orRefuse 0 (not (eqb (n .guard) (c .cell + 1))) XnoSPriv
       → e2 ≡ orRefuse e1 (not (eqb (length buf) 4)) XbSz → e3 ≡ orRefuse e2 (leb (n .cells) b || ltb maxBits bits) XbParam
-      → e4 ≡ refusing e3 (useTests a (d .held) held XnotReadable f true false) → e ≡ orRefuse e4 (g .none) XnoSpace
+      → e4 ≡ refusing e3 (useTests a (d .held) (w .held) (w .number) f (w .read) (w .write)) → e ≡ orRefuse e4 (g .none) XnoSpace
       → e ≡ firstRefusal (regradeTests n c a d f g b bits (length buf))
-  regrade-told held desk long named tests last =
-      rw (last, tests, held, named, long, desk) (refusing-first (regradeTests n c a d f g b bits (length buf)) refl)
+  regrade-told to-read desk long named tests last =
+      rw (last, tests, to-read, named, long, desk) (refusing-first (regradeTests n c a d f g b bits (length buf)) refl)
 
   module _ (told : e ≡ firstRefusal (regradeTests n c a d f g b bits (length buf))) where
     pub regrade-number : e ≡ firstRefusal (ruleAt t (λ h q. regrade h q st (c .slot) a b bits buf) .refusals)

@@ -9,7 +9,7 @@ ghost use Rattle.rules.specs.Layout.{blockBytes, configuration, flowMatrix, sto
 ghost use Rattle.calls.specs.World.{Sound};
 ghost use Rattle.calls.specs.Refusing.{refusing};
 ghost use Rattle.calls.specs.Calls.{useTests};
-ghost use Rattle.calls.specs.Blocks.{ReadLeft, WriteLeft};
+ghost use Rattle.calls.specs.Blocks.{readUse, ReadLeft, WriteLeft};
 ghost use Rattle.calls.specs.View.{ShownBy, partOf};
 use crate::Answer;
 use crate::Caller;
@@ -50,6 +50,18 @@ pub(crate) struct Use {
     pub number: u32,
     pub read: bool,
     pub write: bool,
+}
+
+// Blocks that are to be read, by an entry with these modes.
+pub(crate) fn to_read(modes: u32) -> Use
+    ensures { λ r. ⌜ r ≡ readUse modes ⌝ }
+{
+    Use {
+        held: reads(modes),
+        number: XNOT_READABLE,
+        read: true,
+        write: false,
+    }
 }
 
 // What refuses the use of a file by entry a, which holds s: past the last entry or empty; not held so, which has a number of its own; stale; today's owner bits.
@@ -134,12 +146,7 @@ pub(crate) fn shown(
     let d = entry_of(t, n, Kind::File, c.slot, a);
     let f = look(t, n, m, c, Kind::File, d.held);
     let size = read(t, n, Kind::File, f.slot, SIZE);
-    let u = Use {
-        held: reads(d.used),
-        number: XNOT_READABLE,
-        read: true,
-        write: false,
-    };
+    let u = to_read(d.used);
     let e = bad_use(e, a, d.held, u, f);
     let e = or_refuse(e, n.blocks <= b, XBAD_BLOCK_NO);
     let e = or_refuse(e, size <= b, XEND_OF_FILE);

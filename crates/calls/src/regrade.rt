@@ -16,8 +16,8 @@ use crate::base::answered;
 use crate::base::or_refuse;
 use crate::base::read;
 use crate::base::refused;
-use crate::blocks::Use;
 use crate::blocks::bad_use;
+use crate::blocks::to_read;
 use crate::entries::entry_of;
 use crate::entries::make;
 use crate::objects::look;
@@ -26,7 +26,6 @@ use crate::room::free_slot;
 use ids::seid;
 use layout::Header;
 use layout::Kind;
-use modes::reads;
 use rules::BLOCK_BYTES;
 use rules::FILE_CLASS;
 use rules::MAX_BITS;
@@ -37,7 +36,6 @@ use rules::XB_PARAM;
 use rules::XB_SZ;
 use rules::XNO_S_PRIV;
 use rules::XNO_SPACE;
-use rules::XNOT_READABLE;
 use rules::XOK;
 use words::byte;
 use words::wide;
@@ -125,12 +123,7 @@ pub(crate) fn regrade(
     let d = entry_of(t, n, Kind::File, me.slot, a);
     let f = look(t, n, m, me, Kind::File, d.held);
     let size = read(t, n, Kind::File, f.slot, SIZE);
-    let u = Use {
-        held: reads(d.used),
-        number: XNOT_READABLE,
-        read: true,
-        write: false,
-    };
+    let u = to_read(d.used);
     let at_desk = n.guard == me.cell + 1;
     let e = or_refuse(XOK, !at_desk, XNO_S_PRIV);
     let e = or_refuse(e, buffer.len() != BUFFER_BYTES, XB_SZ);

@@ -23,7 +23,7 @@ used c = record { sound = start c .pre .0; entry = entry c .entry-of .ensures; s
 told : (c : tie.After-or-refuse2) → c .or-refuse2 .result ≡ refusing (start c .args .e) (readTests (start c .args .a) (entry c .entry-of .result)
     (found c .before .look .result) (found c .read .result) (start c .args .n .blocks) (start c .args .b))
 told c =
-    read-told (used c) (start c .args .store .now) (start c .args .b) (start c .args .e) (c .before .before .before .before .reads .ensures)
+    read-told (used c) (start c .args .store .now) (start c .args .b) (start c .args .e) (c .before .before .before .before .to-read .ensures)
     (c .before .before .before .bad-use .ensures)
     (c .before .or-refuse .ensures) (c .or-refuse2 .ensures)
 
@@ -36,8 +36,8 @@ look-requires c κs = search needs
 read-requires : tie.Need-read-requires
 read-requires c κs = search needs
 
-reads-requires : tie.Need-reads-requires
-reads-requires c κs = search needs
+to-read-requires : tie.Need-to-read-requires
+to-read-requires c κs = search needs
 
 bad-use-requires : tie.Need-bad-use-requires
 bad-use-requires c κs = search needs
@@ -87,7 +87,7 @@ shown-spec =
     entry-of-requires
     look-requires
     read-requires
-    reads-requires
+    to-read-requires
     bad-use-requires
     or-refuse-requires
     or-refuse-requires-2

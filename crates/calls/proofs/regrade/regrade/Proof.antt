@@ -10,7 +10,7 @@ use Rattle.calls.proofs.regrade.regrade.Statement.{statement}
 use Rattle.calls.proofs.regrade.regrade.Tie as tie
 
 -- what the code has found of the entry and its file, and the number that refuses
-abbrev used-so : tie.After-or-refuse4 → tie.After-reads
+abbrev used-so : tie.After-or-refuse4 → tie.After-to-read
 used-so c = c .before .before .before .before .before .before .before .before
 
 abbrev found : tie.After-or-refuse4 → tie.After-read
@@ -30,7 +30,7 @@ told : (c : tie.After-or-refuse4) → c .or-refuse4 .result ≡ firstRefusal (re
     (found c .before .before .look .result) (start c .args .g) (start c .args .b) (start c .args .c) (length (start c .args .buffer .now)))
 told c =
     regrade-told (used c) (start c .args .store .now) (start c .args .b) (start c .args .c) (start c .args .buffer .now) (start c .pre .3)
-    (used-so c .reads .ensures) (c .before .before .before .before .before .or-refuse .ensures) (c .before .before .before .before .or-refuse2 .ensures)
+    (used-so c .to-read .ensures) (c .before .before .before .before .before .or-refuse .ensures) (c .before .before .before .before .or-refuse2 .ensures)
     (c .before .before .or-refuse3 .ensures) (c .before .bad-use .ensures) (c .or-refuse4 .ensures)
 
 entry-of-requires : tie.Need-entry-of-requires
@@ -42,8 +42,8 @@ look-requires c κs = search needs
 read-requires : tie.Need-read-requires
 read-requires c κs = search needs
 
-reads-requires : tie.Need-reads-requires
-reads-requires c κs = search needs
+to-read-requires : tie.Need-to-read-requires
+to-read-requires c κs = search needs
 
 add-at-desk : tie.Need-add-at-desk
 add-at-desk c =
@@ -129,7 +129,7 @@ regrade-spec =
     entry-of-requires
     look-requires
     read-requires
-    reads-requires
+    to-read-requires
     add-at-desk
     or-refuse-requires
     or-refuse-requires-2
