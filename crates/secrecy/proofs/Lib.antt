@@ -36,7 +36,3 @@ pub mod TrayRegrades
 pub mod Tray
 pub mod Tenants
 pub mod AfterSetUp
-pub mod Instance
-pub mod TrayInstance
-pub mod Desk
-pub mod TrayDesk

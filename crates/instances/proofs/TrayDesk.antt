@@ -12,10 +12,10 @@ use Rattle.rules.specs.Observer.{observer}
 use Rattle.rules.specs.Regrade.{withoutRefused}
 use Rattle.rules.specs.Tray.{Record, mostRecords, afterTray, remainingIn, asked, Apart, SameParts}
 use Rattle.rules.specs.TrayRegrade.{acceptedIn, eventIn, eventsIn}
 use Rattle.secrecy.proofs.Tray.{SameTrays, below-guard}
-use Rattle.secrecy.proofs.TrayInstance.{open-trays, record-of, divided, first-error}
-use Rattle.secrecy.proofs.Instance.{guarded, fresh, other, secret, fresh-formed, other-formed, fresh-configuration, low-closed, agreed}
-use Rattle.secrecy.proofs.Desk.{open-more, desk, guard-above}
+use Rattle.instances.proofs.TrayInstance.{open-trays, record-of, divided, first-error}
+use Rattle.instances.proofs.Instance.{guarded, fresh, other, secret, fresh-formed, other-formed, fresh-configuration, low-closed, agreed}
+use Rattle.instances.proofs.Desk.{open-more, desk, guard-above}
 
 -- the rules' definitions that the examples compute with
 open-desk : Unit {0}

@@ -16,8 +16,8 @@ use Rattle.rules.specs.Observer.{observer}
 use Rattle.rules.specs.Tray.{Record, inside, recordRule, recordStep, Tray, inOrder, mostRecords, trayAnswer, afterTray, staysIn, remainingIn, asked, within, seen, hidden, Apart, SameParts}
 use Rattle.laws.proofs.Tests.{and-left, and-right, or-rest, both-ways, refuted, split, cond-true, cond-false, failed}
 use Rattle.laws.proofs.Below.{all-at}
 use Rattle.secrecy.proofs.Tray.{SameTrays, no-guard}
-use Rattle.secrecy.proofs.Instance.{open-rules, guarded, hall, fresh, other, fresh-formed, other-formed, fresh-configuration, low-closed, agreed, unguarded}
+use Rattle.instances.proofs.Instance.{open-rules, guarded, hall, fresh, other, fresh-formed, other-formed, fresh-configuration, low-closed, agreed, unguarded}
 
 -- ---- parts that lie apart because a place divides them: the remaining ones end by it, and the struck-out ones begin at it
 

@@ -23,12 +23,12 @@ use Rattle.rules.specs.Copy.{copy}
 use Rattle.laws.proofs.Claims.{holds}
 use Rattle.laws.proofs.Written.{AllOf, nil, also}
 use Rattle.kept.proofs.Kept.{Well}
 use Rattle.secrecy.proofs.CellFlow.{flows-trans}
 use Rattle.secrecy.proofs.Shown.{Up, Ups, UpBytes}
 use Rattle.secrecy.proofs.Apply.{Sized, hide-effect}
 use Rattle.secrecy.proofs.Steps.{from-configuration}
 use Rattle.secrecy.proofs.Demand3.{below-guard}
-use Rattle.secrecy.proofs.Instance.{open-rules, guarded, fresh, other, secret, fresh-formed, other-formed, fresh-configuration, low-closed, agreed}
+use Rattle.instances.proofs.Instance.{open-rules, guarded, fresh, other, secret, fresh-formed, other-formed, fresh-configuration, low-closed, agreed}
 
 -- the rules' definitions that the examples compute with
 unfoldable pub open-more : Unit {0}
