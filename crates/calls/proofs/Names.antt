@@ -4,12 +4,17 @@ use mathlib.Core.Bool.{Bool, true, false, cond, _&&_}
 use mathlib.Core.List.{List, []}
 use Prim.Native.Nat.{ℕ, _≤_, _<_, _^_}
 use native.Mathlib.Omega.{arith}
-use lib.Dec.{eqb}
-use lib.ListN.{getD}
-use Rattle.rules.specs.Layout.{maxSerial, Kind, process, segment, file, configuration, cellOf, flowMatrix, at, live, serial, owner, group, bits}
+use lib.Dec.{eqb, ltb}
+use lib.ListN.{length, getD}
+use borrow.Author.Tests.{ltb-true, ltb-false}
+use Rattle.rules.specs.Layout.{maxSerial, maxCells, Kind, process, segment, file, configuration, cellOf, flows, flowMatrix, at, live, serial, owner, group, bits}
 use Rattle.rules.specs.Seid.{class, indexOf, serialOf, isSeid, seidAt, orSelf}
 use Rattle.rules.specs.Rights.{rights}
 use Rattle.rules.specs.Find.{rightsAt}
+use Rattle.rules.specs.Words.{tabFrom}
+use Rattle.laws.proofs.Tests.{split}
+use Rattle.laws.proofs.Tab.{length-tab}
+use Rattle.laws.proofs.Fill.{tab-at, tab-past}
 use Rattle.laws.proofs.Shape.{process-record}
 use Rattle.levels.proofs.Cells.{matrix-any}
 use Rattle.layout.specs.declared.Header.{Header}
@@ -20,7 +25,7 @@ use Rattle.calls.specs.declared.Caller.{Caller}
 use Rattle.calls.specs.declared.objects.Named.{Named}
 use Rattle.calls.specs.declared.objects.Seen.{Seen}
 use Rattle.calls.specs.World.{Known, Sound, wordsOf}
-use Rattle.calls.specs.Seen.{nameOf, noName, namedOf, seenAs}
+use Rattle.calls.specs.Seen.{nameOf, noName, namedOf, Sixteen, seenAs}
 use Rattle.calls.proofs.Worlds.{shape}
 
 module _ (n : Header) (k : Kind) (s : ℕ) where
@@ -33,6 +38,21 @@ module _ (n : Header) (k : Kind) (s : ℕ) where
   pub name-none : isSeid (class k) (slotsOf n k) s ≡ false → noName ≡ namedOf n k s
   unfolding namedOf
   name-none e = rw e
+
+-- the matrix has sixteen rows, and past them a row of none
+pub sixteen : (h : List ℕ) {m : List (List Bool)} → m ≡ flowMatrix h → Sixteen m
+unfolding flowMatrix
+sixteen h {m} e = record { rows = omega (arith, ap length e ∙ length-tab 0 maxCells rows); row = one }
+  where
+    rows : ℕ → List Bool
+    rows c = tabFrom 0 maxCells (λ d. flows h c d)
+
+    one : (c : ℕ) → length (getD m c []) ≤ maxCells
+    one c =
+        let here : getD m c [] ≡ getD (tabFrom 0 maxCells rows) c [] = ap (λ (x : List (List Bool)). getD x c []) e in
+        split (length (getD m c []) ≤ maxCells) (ltb c maxCells)
+        (λ l. omega (arith, ap length (here ∙ tab-at maxCells rows c [] (ltb-true c maxCells l)) ∙ length-tab 0 maxCells (flows h c)))
+        (λ l. omega (arith, ap length (here ∙ tab-past maxCells rows c [] (ltb-false c maxCells l))))
 
 -- the calling process for seid 0
 pub self-told : {t : List ℕ} {n : Header} {c : Caller} → Sound t n c → (a : ℕ) {s x r : ℕ} → s ≡ wordsOf t (at process (c .slot) serial)

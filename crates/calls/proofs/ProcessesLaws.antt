@@ -186,7 +186,7 @@ module _ (h : List ℕ) (k : Kind) (th : holdable k ≡ true) (q : ℕ) (ql : q 
 known-write : {t : List ℕ} {n : Header} → Known t n → (ws : List Word) → Known (write (configuration t) t ws) n
 known-write {t} known ws =
     let c = conf-write (configuration t) t ws refl in
-    record { conf = rw c (known .conf); header = rw c (known .header) }
+    record { conf = rw c (known .conf); long = rw (c, length-write) (known .long); header = rw c (known .header) }
 
 -- one entry: s is what it holds
 module _ (h t : List ℕ) (k : Kind) (q d : ℕ) {x : Entry} (entry : x ≡ entryOf (rd h t) k q d) where

@@ -62,8 +62,8 @@ module _ {t s : List ℕ} {n : Header} {m : List (List Bool)} (j : Judged t s n 
   whole = holds (wellFormed t (length s)) (j .good)
 
   pub known : Known t n
-  unfolding wellFormed
-  known = record { conf = whole .0; header = j .header }
+  unfolding wellFormed lengthsExact
+  known = record { conf = whole .0; long = omega (arith, whole .1 .0 .0); header = j .header }
 
   pub store-long : length s ≡ storeBytes (configuration t)
   unfolding wellFormed lengthsExact

@@ -1,9 +1,10 @@
 -- What a word names, what the caller sees of it, and the refusals of "find" and "own" on that; the slot that a search finds.
 use mathlib.Core.Bool.{Bool, true, false, cond, _&&_, not}
 use mathlib.Core.List.{List, [], _∷_, _++_}
-use Prim.Native.Nat.{ℕ}
+use Prim.Native.Nat.{ℕ, _≤_}
 use lib.Dec.{eqb}
-use Rattle.rules.specs.Layout.{Kind, process, cellOf, flows, Addr, at, live, serial, owner}
+use lib.ListN.{length, getD}
+use Rattle.rules.specs.Layout.{maxCells, Kind, process, cellOf, flows, Addr, at, live, serial, owner}
 use Rattle.rules.specs.Seid.{class, indexOf, serialOf, isSeid}
 use Rattle.rules.specs.Errors.{XnoAcc, XnoOwner}
 use Rattle.rules.specs.Rule.{Refusal, _⇒_}
@@ -23,6 +24,11 @@ noName = record { formed = false; slot = 0; serial = 0 }
 
 unfoldable pub namedOf : Header → Kind → ℕ → Named
 namedOf n k s = cond (isSeid (class k) (slotsOf n k) s) (nameOf s) noName
+
+-- a matrix of at most sixteen rows of sixteen entries: what one that is lent must be known to be
+pub record Sixteen (m : List (List Bool)) : Type 0 where
+  pub rows : length m ≤ maxCells
+  pub row : (c : ℕ) → length (getD m c []) ≤ maxCells
 
 -- what process p sees of it
 abbrev pub seenAs : List ℕ → (Addr → ℕ) → ℕ → Kind → Named → Seen

@@ -2,12 +2,12 @@
 use mathlib.Core.Path.{_≡_}
 use mathlib.Core.Bool.{Bool, true, false, _&&_}
 use mathlib.Core.List.{List}
-use Prim.Native.Nat.{ℕ, _+_, _*_, _<_}
+use Prim.Native.Nat.{ℕ, _+_, _*_, _<_, _≤_}
 use lib.Dec.{ltb, eqb}
 use lib.ListN.{length, getD}
 use Rattle.rules.specs.Words.{sumBelow, lowest, least}
 use Rattle.rules.specs.Claim.{Holds, test}
-use Rattle.rules.specs.Layout.{maxSerial, Kind, process, segment, file, cells, slots, cellWord, configuration, cellOf, flowMatrix, Addr, rd, tableWords, live, serial, entries}
+use Rattle.rules.specs.Layout.{maxSerial, configurationWords, Kind, process, segment, file, cells, slots, cellWord, configuration, cellOf, flowMatrix, Addr, rd, tableWords, live, serial, entries}
 use Rattle.rules.specs.Seid.{class, isSeid}
 use Rattle.rules.specs.Modes.{validModes}
 use Rattle.rules.specs.WellFormed.{configured, recordsOk, wellFormed}
@@ -19,9 +19,10 @@ use Rattle.calls.specs.declared.Caller.{Caller}
 abbrev pub wordsOf : List ℕ → Addr → ℕ
 wordsOf t = rd (configuration t) t
 
--- the configuration is good, and the header is its own
+-- the configuration is good and whole, and the header is its own
 pub record Known (t : List ℕ) (n : Header) : Type 0 where
   pub conf : Holds (configured (configuration t))
+  pub long : configurationWords (configuration t) ≤ length t
   pub header : n ≡ headerOf (configuration t)
 
 -- what a call's functions may count on: a well-formed table, its header, a caller that it has, and the caller's cell

@@ -144,7 +144,7 @@ pub(crate) fn shown(
     ensures { λ r. ⌜ ShownBy e (now (t .entry)) (now (store .entry)) (c .slot) a b r ⌝ }
 {
     let d = entry_of(t, n, Kind::File, c.slot, a);
-    let f = look(t, n, m, c, Kind::File, d.held);
+    let f = look(t, n, &m, c, Kind::File, d.held);
     let size = read(t, n, Kind::File, f.slot, SIZE);
     let u = to_read(d.used);
     let e = bad_use(e, a, d.held, u, f);
@@ -209,7 +209,7 @@ pub(crate) fn write_block(
     ensures { λ r. ⌜ WriteLeft (now (t .entry)) (now (store .entry)) (c .slot) a b (now (buffer .entry)) r (now (t .exit)) (now (store .exit)) ⌝ }
 {
     let d = entry_of(t, n, Kind::File, c.slot, a);
-    let f = look(t, n, m, c, Kind::File, d.held);
+    let f = look(t, n, &m, c, Kind::File, d.held);
     let size = read(t, n, Kind::File, f.slot, SIZE);
     let u = Use {
         held: writes(d.used),

@@ -42,14 +42,14 @@ use rules::XN_SG_DES;
 fn on_processes_and_segments(
     t: &mut [u32],
     n: Header,
-    m: [[bool; MAX_CELLS]; MAX_CELLS],
+    m: &[[bool; MAX_CELLS]; MAX_CELLS],
     me: Caller,
     code: u32,
     a: u32,
     b: u32,
     c: u32,
 ) -> Answer
-    requires { ⌜ Sound (now t) n me × (m ≡ flowMatrix (configuration (now t))) × (1 ≤ code) × (code ≤ 6) ⌝ }
+    requires { ⌜ Sound (now t) n me × (now m ≡ flowMatrix (configuration (now t))) × (1 ≤ code) × (code ≤ 6) ⌝ }
     ensures { λ r. ⌜ ((s buffer : List ℕ) → Plain (now (t .entry)) (me .slot) code a b c r (now (t .exit)) s buffer) ⌝ }
 {
     match code {
@@ -57,14 +57,14 @@ fn on_processes_and_segments(
             let q = free_slot(t, n, Kind::Process, me.cell);
             spawn(t, n, me, q, a, b, c)
         }
-        2 => release_process(t, n, m, me, a),
+        2 => release_process(t, n, *m, me, a),
         3 => {
             let g = free_slot(t, n, Kind::Segment, me.cell);
             build_segment(t, n, me, g, a, b, c)
         }
-        4 => rendezvous(t, n, m, me, a, b),
+        4 => rendezvous(t, n, *m, me, a, b),
         5 => give_up(t, n, me, Kind::Segment, a, XN_SG_DES, XB_SG_DES),
-        _ => set_access(t, n, m, me, a, b),
+        _ => set_access(t, n, *m, me, a, b),
     }
 }
 
@@ -72,14 +72,14 @@ fn on_processes_and_segments(
 fn on_files(
     t: &mut [u32],
     n: Header,
-    m: [[bool; MAX_CELLS]; MAX_CELLS],
+    m: &[[bool; MAX_CELLS]; MAX_CELLS],
     me: Caller,
     code: u32,
     a: u32,
     b: u32,
     c: u32,
 ) -> Answer
-    requires { ⌜ Sound (now t) n me × (m ≡ flowMatrix (configuration (now t))) × (7 ≤ code) × (code ≤ 12) ⌝ }
+    requires { ⌜ Sound (now t) n me × (now m ≡ flowMatrix (configuration (now t))) × (7 ≤ code) × (code ≤ 12) ⌝ }
     ensures { λ r. ⌜ ((s buffer : List ℕ) → Plain (now (t .entry)) (me .slot) code a b c r (now (t .exit)) s buffer) ⌝ }
 {
     match code {
@@ -87,11 +87,11 @@ fn on_files(
             let f = free_slot(t, n, Kind::File, me.cell);
             create(t, n, me, f, a, b)
         }
-        8 => open(t, n, m, me, a, b),
+        8 => open(t, n, *m, me, a, b),
         9 => give_up(t, n, me, Kind::File, a, XBAD_OD, XBAD_OD),
-        10 => link(t, n, m, me, a),
-        11 => unlink(t, n, m, me, a),
-        _ => set_bits(t, n, m, me, a, b),
+        10 => link(t, n, *m, me, a),
+        11 => unlink(t, n, *m, me, a),
+        _ => set_bits(t, n, *m, me, a, b),
     }
 }
 
@@ -100,7 +100,7 @@ fn on_contents(
     t: &mut [u32],
     store: &mut [u8],
     n: Header,
-    m: [[bool; MAX_CELLS]; MAX_CELLS],
+    m: &[[bool; MAX_CELLS]; MAX_CELLS],
     me: Caller,
     code: u32,
     a: u32,
@@ -108,16 +108,16 @@ fn on_contents(
     c: u32,
     buffer: &mut [u8],
 ) -> Answer
-    requires { ⌜ Sound (now t) n me × (m ≡ flowMatrix (configuration (now t))) × (length (now store) ≡ storeBytes (configuration (now t))) × (13 ≤ code) × (code ≤ 18) ⌝ }
+    requires { ⌜ Sound (now t) n me × (now m ≡ flowMatrix (configuration (now t))) × (length (now store) ≡ storeBytes (configuration (now t))) × (13 ≤ code) × (code ≤ 18) ⌝ }
     ensures { λ r. ⌜ Through (now (t .entry)) (now (store .entry)) (now (buffer .entry)) (ruleIn (now (t .entry)) (now (store .entry)) (me .slot) code a b c (now (buffer .entry))) r (now (t .exit)) (now (store .exit)) (now (buffer .exit)) ⌝ }
 {
     match code {
-        13 => read_block(t, n, m, me, store, a, b, buffer),
-        14 => write_block(t, n, m, me, store, a, b, buffer),
-        15 => post(t, n, m, me, a, buffer),
+        13 => read_block(t, n, *m, me, store, a, b, buffer),
+        14 => write_block(t, n, *m, me, store, a, b, buffer),
+        15 => post(t, n, *m, me, a, buffer),
         16 => receive(t, n, me, buffer),
-        17 => status(t, n, m, me, a, buffer),
-        _ => access_of(t, n, m, me, a),
+        17 => status(t, n, *m, me, a, buffer),
+        _ => access_of(t, n, *m, me, a),
     }
 }
 
@@ -125,19 +125,19 @@ fn on_contents(
 fn on_map(
     t: &mut [u32],
     n: Header,
-    m: [[bool; MAX_CELLS]; MAX_CELLS],
+    m: &[[bool; MAX_CELLS]; MAX_CELLS],
     me: Caller,
     code: u32,
     a: u32,
     b: u32,
     c: u32,
 ) -> Answer
-    requires { ⌜ Sound (now t) n me × (m ≡ flowMatrix (configuration (now t))) × (19 ≤ code) × (code ≤ 20) ⌝ }
+    requires { ⌜ Sound (now t) n me × (now m ≡ flowMatrix (configuration (now t))) × (19 ≤ code) × (code ≤ 20) ⌝ }
     ensures { λ r. ⌜ ((s buffer : List ℕ) → Plain (now (t .entry)) (me .slot) code a b c r (now (t .exit)) s buffer) ⌝ }
 {
     match code {
-        19 => remap(t, n, m, me, a, b, c),
-        _ => page_access(t, n, m, me, a),
+        19 => remap(t, n, *m, me, a, b, c),
+        _ => page_access(t, n, *m, me, a),
     }
 }
 
@@ -146,7 +146,7 @@ pub(crate) fn carry_out(
     t: &mut [u32],
     store: &mut [u8],
     n: Header,
-    m: [[bool; MAX_CELLS]; MAX_CELLS],
+    m: &[[bool; MAX_CELLS]; MAX_CELLS],
     me: Caller,
     code: u32,
     a: u32,
@@ -154,7 +154,7 @@ pub(crate) fn carry_out(
     c: u32,
     buffer: &mut [u8],
 ) -> Answer
-    requires { ⌜ Sound (now t) n me × (m ≡ flowMatrix (configuration (now t))) × (length (now store) ≡ storeBytes (configuration (now t))) × (1 ≤ code) × (code ≤ lastCode) ⌝ }
+    requires { ⌜ Sound (now t) n me × (now m ≡ flowMatrix (configuration (now t))) × (length (now store) ≡ storeBytes (configuration (now t))) × (1 ≤ code) × (code ≤ lastCode) ⌝ }
     ensures { λ r. ⌜ Through (now (t .entry)) (now (store .entry)) (now (buffer .entry)) (ruleIn (now (t .entry)) (now (store .entry)) (me .slot) code a b c (now (buffer .entry))) r (now (t .exit)) (now (store .exit)) (now (buffer .exit)) ⌝ }
 {
     if code <= 6 {
@@ -170,5 +170,5 @@ pub(crate) fn carry_out(
         return on_map(t, n, m, me, code, a, b, c);
     }
     let g = slot_in(t, n, b);
-    regrade(t, store, n, m, me, g, a, b, c, buffer)
+    regrade(t, store, n, *m, me, g, a, b, c, buffer)
 }

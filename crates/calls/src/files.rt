@@ -205,7 +205,7 @@ pub(crate) fn open(
     ensures { λ r. ⌜ ((buffer : List ℕ) → Left (now (t .entry)) (λ h q. openFile h q (c .slot) a b buffer) r (now (t .exit))) ⌝ }
 {
     let s = or_self(t, n, c, a);
-    let f = look(t, n, m, c, Kind::File, s);
+    let f = look(t, n, &m, c, Kind::File, s);
     let d = free_entry(t, n, Kind::File, c.slot);
     let e = may_open(f, b);
     let clashing = busy(t, n, c, e, f, s, b);
@@ -232,7 +232,7 @@ pub(crate) fn link(
     ensures { λ r. ⌜ ((buffer : List ℕ) → Left (now (t .entry)) (λ h q. link h q (c .slot) a buffer) r (now (t .exit))) ⌝ }
 {
     let s = or_self(t, n, c, a);
-    let f = look(t, n, m, c, Kind::File, s);
+    let f = look(t, n, &m, c, Kind::File, s);
     let links = read(t, n, Kind::File, f.slot, LINKS);
     let e = own(XOK, f, Kind::File);
     let e = or_refuse(e, links == MAX_LINKS, XBAD_LINK);
@@ -269,7 +269,7 @@ pub(crate) fn unlink(
     ensures { λ r. ⌜ ((buffer : List ℕ) → Left (now (t .entry)) (λ h q. unlink h q (c .slot) a buffer) r (now (t .exit))) ⌝ }
 {
     let s = or_self(t, n, c, a);
-    let f = look(t, n, m, c, Kind::File, s);
+    let f = look(t, n, &m, c, Kind::File, s);
     let links = read(t, n, Kind::File, f.slot, LINKS);
     let e = own(XOK, f, Kind::File);
     let e = or_refuse(e, links == 0, XBAD_LINK);
@@ -305,7 +305,7 @@ fn set_bits_of(
     requires { ⌜ Sound (now t) n c × (m ≡ flowMatrix (configuration (now t))) ⌝ }
     ensures { λ r. ⌜ ((buffer : List ℕ) → Left (now (t .entry)) (λ h q. setBitsOf h q (c .slot) s b buffer (kindOf kind)) r (now (t .exit))) ⌝ }
 {
-    let x = look(t, n, m, c, kind, s);
+    let x = look(t, n, &m, c, kind, s);
     let shared = is_shared(t, n, kind, x.slot);
     let e = or_refuse(XOK, MAX_BITS < b, XB_PARAM);
     let e = own(e, x, kind);

@@ -104,7 +104,7 @@ pub(crate) fn bad_code(code: u32) -> bool
 pub(crate) fn call_judged(
     t: &mut [u32],
     store: &mut [u8],
-    m: [[bool; MAX_CELLS]; MAX_CELLS],
+    m: &[[bool; MAX_CELLS]; MAX_CELLS],
     caller: u32,
     code: u32,
     a: u32,
@@ -112,7 +112,7 @@ pub(crate) fn call_judged(
     c: u32,
     buffer: &mut [u8],
 ) -> Answer
-    requires { ⌜ Ready (now t) (now store) m ⌝ }
+    requires { ⌜ Ready (now t) (now store) (now m) ⌝ }
     ensures { λ r. ⌜ Did (step (stateOf (now (t .entry)) (now (store .entry))) (callOf caller code a b c (now (buffer .entry)))) r (now (t .exit)) (now (store .exit)) (now (buffer .exit)) ⌝ }
 {
     let n = header_of(t);
@@ -144,7 +144,7 @@ pub fn call(
     if !table::judge(table, store.len(), &mut m) {
         return refused(XB_TAB);
     }
-    call_judged(table, store, m, caller, code, a, b, c, buffer)
+    call_judged(table, store, &m, caller, code, a, b, c, buffer)
 }
 
 // A view's number, and where in the store the block stands that it shows: for a host in C, which can't be handed a part.
@@ -194,7 +194,7 @@ pub fn tray(table: &mut [u32], store: &mut [u8], records: &mut [Record], bytes: 
     let mut i = 0;
     while i < n {
         let r = records[i];
-        records[i] = run(table, store, bytes, m, r);
+        records[i] = run(table, store, bytes, &m, r);
         i += 1;
     }
     error

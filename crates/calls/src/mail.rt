@@ -22,11 +22,11 @@ use crate::base::refused;
 use crate::base::write;
 use crate::entries::clear;
 use crate::entries::put_four;
+use crate::objects::flow_at;
 use crate::objects::look;
 use crate::objects::or_self;
 use layout::Header;
 use layout::Kind;
-use levels::may_flow;
 use rights::may_write;
 use rules::MAX_CELLS;
 use rules::MESSAGE_WORDS;
@@ -144,13 +144,13 @@ pub(crate) fn post(
     ensures { λ r. ⌜ Left (now (t .entry)) (λ h q. post h q (c .slot) a (now (buffer .entry))) r (now (t .exit)) ⌝ }
 {
     let s = or_self(t, n, c, a);
-    let to = look(t, n, m, c, Kind::Process, s);
+    let to = look(t, n, &m, c, Kind::Process, s);
     let waiting = read(t, n, Kind::Process, to.slot, QUEUE);
     let full = MESSAGES <= wide(waiting);
     let allowed = may_write(to.rights);
     let e = or_refuse(XOK, buffer.len() != TEXT_BYTES, XB_SZ);
     let e = or_refuse(e, !to.formed, XB_PR_SD);
-    let e = or_refuse(e, !may_flow(m, c.cell, to.cell), XNO_ACC);
+    let e = or_refuse(e, !flow_at(&m, c.cell, to.cell), XNO_ACC);
     let e = or_refuse(e, to.own & !to.present, XB_PR_SD);
     let e = or_refuse(e, to.own & !allowed, XDAP_VIOL);
     let e = or_refuse(e, to.own & full, XPOST_EH);

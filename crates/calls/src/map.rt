@@ -136,7 +136,7 @@ pub(crate) fn remap(
 {
     let s = entry_of(t, n, Kind::Segment, c.slot, incoming).held;
     let u = entry_of(t, n, Kind::Segment, c.slot, outgoing).held;
-    let g = look(t, n, m, c, Kind::Segment, s);
+    let g = look(t, n, &m, c, Kind::Segment, s);
     let run = run_of(t, n, g.slot);
     let map = map_of(t, n, c.slot);
     let rest = left(map, outgoing);

@@ -1,14 +1,15 @@
 // What a caller sees of the object that a word names, and the refusals of "find" and "own".
 ghost use mathlib.Core.Path.{_≡_};
-ghost use mathlib.Core.Bool.{Bool, not};
+ghost use mathlib.Core.Bool.{Bool, false, not};
 ghost use mathlib.Core.List.{[], _∷_};
+ghost use lib.ListN.{getD};
 ghost use Rattle.rules.specs.Layout.{process, segment, file, configuration, flowMatrix};
 ghost use Rattle.rules.specs.Seid.{orSelf};
 ghost use Rattle.rules.specs.Find.{absent};
 ghost use Rattle.layout.specs.Kinds.{kindOf};
 ghost use Rattle.calls.specs.World.{Known, Sound, wordsOf};
 ghost use Rattle.calls.specs.Refusing.{refusing};
-ghost use Rattle.calls.specs.Seen.{namedOf, seenAs, findTests, ownTests};
+ghost use Rattle.calls.specs.Seen.{namedOf, Sixteen, seenAs, findTests, ownTests};
 use crate::Caller;
 use crate::base::or_refuse;
 use crate::base::read;
@@ -22,7 +23,6 @@ use ids::SegmentIs;
 use ids::seid;
 use layout::Header;
 use layout::Kind;
-use levels::may_flow;
 use rules::GROUP;
 use rules::LIVE;
 use rules::MAX_CELLS;
@@ -116,6 +116,21 @@ fn name_of(n: Header, kind: Kind, s: u32) -> Named
     }
 }
 
+// One entry of the matrix, where it is lent; no past its sixteen cells.
+pub(crate) fn flow_at(m: &[[bool; MAX_CELLS]; MAX_CELLS], c: u32, d: u32) -> bool
+    requires { ⌜ Sixteen (now m) ⌝ }
+    ensures { λ r. ⌜ r ≡ getD (getD (now (m .entry)) c []) d false ⌝ }
+{
+    let from = c as usize;
+    let to = d as usize;
+    if from < MAX_CELLS {
+        if to < MAX_CELLS {
+            return m[from][to];
+        }
+    }
+    false
+}
+
 // What the caller sees of it: its slot and cell, whether that is the caller's own, whether what it holds may flow to the caller, whether the slot is live with that
 // serial, whether the owners are one, and the caller's rights today.
 pub(crate) struct Seen {
@@ -132,12 +147,12 @@ pub(crate) struct Seen {
 pub(crate) fn look(
     t: &[u32],
     n: Header,
-    m: [[bool; MAX_CELLS]; MAX_CELLS],
+    m: &[[bool; MAX_CELLS]; MAX_CELLS],
     c: Caller,
     kind: Kind,
     s: u32,
 ) -> Seen
-    requires { ⌜ Sound (now t) n c × (m ≡ flowMatrix (configuration (now t))) ⌝ }
+    requires { ⌜ Sound (now t) n c × (now m ≡ flowMatrix (configuration (now t))) ⌝ }
     ensures { λ r. ⌜ r ≡ seenAs (configuration (now (t .entry))) (wordsOf (now (t .entry))) (c .slot) (kindOf kind) (namedOf n (kindOf kind) s) ⌝ }
 {
     let x = name_of(n, kind, s);
@@ -154,7 +169,7 @@ pub(crate) fn look(
     let mine = n.record_at(Kind::Process, me);
     let my_owner = word(t, mine + OWNER);
     let my_group = word(t, mine + GROUP);
-    let flows = may_flow(m, cell, c.cell);
+    let flows = flow_at(m, cell, c.cell);
     let rights = rights::rights(my_owner, my_group, owner, group, bits);
     Seen {
         formed: x.formed,

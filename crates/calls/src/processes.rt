@@ -118,7 +118,7 @@ pub(crate) fn release_process(
     ensures { λ r. ⌜ ((buffer : List ℕ) → Left (now (t .entry)) (λ h q. releaseProcess h q (c .slot) a buffer) r (now (t .exit))) ⌝ }
 {
     let s = or_self(t, n, c, a);
-    let q = look(t, n, m, c, Kind::Process, s);
+    let q = look(t, n, &m, c, Kind::Process, s);
     let e = own(XOK, q, Kind::Process);
     if e != XOK {
         return refused(e);

@@ -121,7 +121,7 @@ pub(crate) fn regrade(
     ensures { λ r. ⌜ RegradeLeft (now (t .entry)) (now (store .entry)) (me .slot) a b c (now (buffer .entry)) r (now (t .exit)) (now (store .exit)) ⌝ }
 {
     let d = entry_of(t, n, Kind::File, me.slot, a);
-    let f = look(t, n, m, me, Kind::File, d.held);
+    let f = look(t, n, &m, me, Kind::File, d.held);
     let size = read(t, n, Kind::File, f.slot, SIZE);
     let u = to_read(d.used);
     let at_desk = n.guard == me.cell + 1;

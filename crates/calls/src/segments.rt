@@ -1,7 +1,9 @@
 // Segments: build, rendezvous, set access, access. (Release is files::give_up.)
 ghost use mathlib.Core.Path.{_≡_};
+ghost use mathlib.Core.Bool.{_&&_};
 ghost use mathlib.Core.List.{List};
 ghost use Prim.Native.Nat.{ℕ};
+ghost use lib.Dec.{eqb};
 ghost use Rattle.rules.specs.Layout.{segment, configuration, flowMatrix};
 ghost use Rattle.rules.specs.WellFormed.{segmentSize};
 ghost use Rattle.rules.specs.Call03.{buildSegment};
@@ -75,6 +77,17 @@ fn already_held(t: &[u32], n: Header, c: Caller, s: u32) -> bool
     held
 }
 
+// Whether a rendezvous that nothing has refused so far is with a segment that the caller holds.
+fn twice(t: &[u32], n: Header, c: Caller, e: u32, s: u32) -> bool
+    requires { ⌜ Known (now t) n ⌝ }
+    ensures { λ r. ⌜ r ≡ eqb e 0 && alreadyHeld (wordsOf (now (t .entry))) (c .slot) s ⌝ }
+{
+    if e == XOK {
+        return already_held(t, n, c, s);
+    }
+    false
+}
+
 // "A multiple of 512 in 512..65024."
 fn is_size(n: u32) -> bool
     ensures { λ r. ⌜ r ≡ segmentSize n ⌝ }
@@ -143,16 +156,16 @@ pub(crate) fn rendezvous(
     ensures { λ r. ⌜ ((buffer : List ℕ) → Left (now (t .entry)) (λ h q. rendezvous h q (c .slot) a b buffer) r (now (t .exit))) ⌝ }
 {
     let s = or_self(t, n, c, a);
-    let g = look(t, n, m, c, Kind::Segment, s);
+    let g = look(t, n, &m, c, Kind::Segment, s);
     let d = free_entry(t, n, Kind::Segment, c.slot);
     let sharable = read(t, n, Kind::Segment, g.slot, SHARABLE);
-    let twice = already_held(t, n, c, s);
     let forbidden = !g.flows | (asks_write(b) & !g.own);
     let e = or_refuse(XOK, (b == 0) | !valid_access(b), XB_PARAM);
     let e = find(e, g, Kind::Segment, forbidden);
     let e = or_refuse(e, sharable == 0, XSG_NO_ACC);
     let e = or_refuse(e, lacks(g.rights, asks_read(b), asks_write(b)), XDAP_VIOL);
-    let e = or_refuse(e, twice, XDUP_SG);
+    let again = twice(t, n, c, e, s);
+    let e = or_refuse(e, again, XDUP_SG);
     let e = or_refuse(e, ENTRIES <= wide(d), XOD_SPACE);
     if e != XOK {
         return refused(e);
@@ -176,7 +189,7 @@ pub(crate) fn set_access(
     ensures { λ r. ⌜ ((buffer : List ℕ) → Left (now (t .entry)) (λ h q. setAccess h q (c .slot) a b buffer) r (now (t .exit))) ⌝ }
 {
     let d = entry_of(t, n, Kind::Segment, c.slot, a);
-    let g = look(t, n, m, c, Kind::Segment, d.held);
+    let g = look(t, n, &m, c, Kind::Segment, d.held);
     let e = or_refuse(XOK, !valid_access(b), XB_PARAM);
     let e = or_refuse(e, ENTRIES <= wide(a), XN_SG_DES);
     let e = or_refuse(e, d.held == 0, XB_SG_DES);
@@ -202,7 +215,7 @@ pub(crate) fn access_of(
     ensures { λ r. ⌜ ((buffer : List ℕ) → Left (now (t .entry)) (λ h q. accessOf h q (c .slot) a buffer) r (now (t .entry))) ⌝ }
 {
     let d = entry_of(t, n, Kind::Segment, c.slot, a);
-    let g = look(t, n, m, c, Kind::Segment, d.held);
+    let g = look(t, n, &m, c, Kind::Segment, d.held);
     let e = or_refuse(XOK, ENTRIES <= wide(a), XN_SG_DES);
     let e = or_refuse(e, d.held == 0, XB_SG_DES);
     let e = or_refuse(e, !g.present, XB_SG_SD);

@@ -83,7 +83,7 @@ fn status_of(
     requires { ⌜ Sound (now t) n c × (m ≡ flowMatrix (configuration (now t))) ⌝ }
     ensures { λ r. ⌜ (r ≡ answerOf (ruleAt (now (t .entry)) (λ h q. statusOf h q (c .slot) s (now (buffer .entry)) (kindOf kind)))) × (now (buffer .exit) ≡ bufferOf (now (buffer .entry)) (ruleAt (now (t .entry)) (λ h q. statusOf h q (c .slot) s (now (buffer .entry)) (kindOf kind)))) ⌝ }
 {
-    let x = look(t, n, m, c, kind, s);
+    let x = look(t, n, &m, c, kind, s);
     let e = or_refuse(XOK, buffer.len() != STATUS_BYTES, XB_SZ);
     let e = find(e, x, kind, !x.flows);
     if e != XOK {

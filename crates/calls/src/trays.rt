@@ -16,7 +16,6 @@ use crate::base::refused;
 use crate::call_judged;
 use layout::Header;
 use layout::header_of;
-use levels::may_flow;
 use rules::MAX_CELLS;
 use rules::XB_PARAM;
 use rules::XB_PR_SD;
@@ -53,7 +52,7 @@ pub(crate) fn verdict(m: [[bool; MAX_CELLS]; MAX_CELLS], count: usize) -> u32
     if MOST_RECORDS < count {
         return XB_PARAM;
     }
-    if may_flow(m, 0, 0) {
+    if m[0][0] {
         return XOK;
     }
     XB_TAB
@@ -101,10 +100,10 @@ pub(crate) fn run(
     t: &mut [u32],
     store: &mut [u8],
     bytes: &mut [u8],
-    m: [[bool; MAX_CELLS]; MAX_CELLS],
+    m: &[[bool; MAX_CELLS]; MAX_CELLS],
     r: Record,
 ) -> Record
-    requires { ⌜ Ready (now t) (now store) m ⌝ }
+    requires { ⌜ Ready (now t) (now store) (now m) ⌝ }
     ensures { λ y. ⌜ Ran (stateOf (now (t .entry)) (now (store .entry))) (now (bytes .entry)) r y (now (t .exit)) (now (store .exit)) (now (bytes .exit)) ⌝ }
 {
     let from = wide(r.offset);

@@ -1,8 +1,6 @@
 // Levels, and which cell may flow to which.
 ghost use mathlib.Core.Path.{_≡_};
 ghost use Rattle.rules.specs.Level.{equals, flowsTo, flowsFrom};
-ghost use mathlib.Core.Bool.{false};
-ghost use mathlib.Core.List.{[]};
 ghost use Prim.Native.Nat.{min};
 ghost use lib.ListN.{getD};
 ghost use Rattle.rules.specs.Words.{tabFrom};
@@ -117,18 +115,4 @@ pub fn flow_matrix(t: &[u32]) -> [[bool; MAX_CELLS]; MAX_CELLS]
         c += 1;
     }
     m
-}
-
-// One entry of the matrix, and no past its sixteen cells.
-pub fn may_flow(m: [[bool; MAX_CELLS]; MAX_CELLS], c: u32, d: u32) -> bool
-    ensures { λ r. ⌜ r ≡ getD (getD m c []) d false ⌝ }
-{
-    let from = c as usize;
-    let to = d as usize;
-    if from < MAX_CELLS {
-        if to < MAX_CELLS {
-            return m[from][to];
-        }
-    }
-    false
 }

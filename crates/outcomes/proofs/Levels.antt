@@ -26,6 +26,3 @@ levels = (λ κs a. tt, λ κs a z z′ w w′ p q. (one p q, refl))
 
 pub flow-matrix : Exact code.flow_matrix.Kinds.ps code.flow_matrix.Kinds.r code.flow_matrix.Reads.Asked code.flow_matrix.Reads.Learnt
 flow-matrix = (λ κs a. tt, λ κs a z z′ w w′ p q. (one p q, refl))
-
-pub may-flow : Exact code.may_flow.Kinds.ps code.may_flow.Kinds.r code.may_flow.Reads.Asked code.may_flow.Reads.Learnt
-may-flow = (λ κs a. tt, λ κs a z z′ w w′ p q. (one p q, refl))

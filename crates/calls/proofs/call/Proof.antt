@@ -19,7 +19,7 @@ returns c = no-table _ _ _ _ _ _ _ _ (c .before .before .judge .ensures .0) (fai
 
 call-judged-requires : tie.Need-call-judged-requires
 call-judged-requires c κs =
-    let at-if1 = c .before .before .before in let at-judge = at-if1 .before in
+    let at-if1 = c .before .before .before .before in let at-judge = at-if1 .before in
     ready-by _ _ _ (at-judge .judge .ensures .0) (passed (at-judge .judge .result) (at-if1 .if1 .left)) (at-judge .judge .ensures .1)
 
 same-length-2 : tie.Need-same-length-2

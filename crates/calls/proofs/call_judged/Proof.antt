@@ -10,7 +10,7 @@ abbrev start : tie.After-header-of → tie.Start
 start c = c .before .before .before .before .before
 
 -- the header that was read is the judged table's
-judged : (c : tie.After-header-of) → Judged (start c .args .t .now) (start c .args .store .now) (c .header-of .result) (start c .args .m)
+judged : (c : tie.After-header-of) → Judged (start c .args .t .now) (start c .args .store .now) (c .header-of .result) (start c .args .m .now)
 judged c = ready-judged (start c .pre) (c .header-of .ensures)
 
 header-of-requires : tie.Need-header-of-requires

@@ -11,7 +11,7 @@ abbrev found : tie.After-or-refuse2 → tie.After-read
 found c = c .before .before .before .before .before
 
 abbrev entry : tie.After-or-refuse2 → tie.After-entry-of
-entry c = found c .before .before
+entry c = found c .before .before .before
 
 abbrev start : tie.After-or-refuse2 → tie.Start
 start c = entry c .before .before .before

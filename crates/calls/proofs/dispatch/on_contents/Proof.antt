@@ -33,7 +33,7 @@ same-length-3 : tie.Need-same-length-3
 same-length-3 c = search needs
 
 returns : tie.Need-returns
-returns c = through-13 _ _ _ _ _ _ _ _ (c .before .before .before .before .before .before .match .keys1) (c .before .before .read-block .ensures)
+returns c = through-13 _ _ _ _ _ _ _ _ (c .before .before .before .before .before .before .before .match .keys1) (c .before .before .read-block .ensures)
 
 same-length-4 : tie.Need-same-length-4
 same-length-4 c = search needs
@@ -46,7 +46,7 @@ same-length-6 c = search needs
 
 returns-2 : tie.Need-returns-2
 returns-2 c =
-    let at-match = c .before .before .before .before .before .before .before .before in
+    let at-match = c .before .before .before .before .before .before .before .before .before in
     through-14 _ _ _ _ _ _ _ _ (at-match .match .keys2) (c .before .before .before .before .write-block .ensures)
 
 same-length-7 : tie.Need-same-length-7
@@ -56,7 +56,7 @@ same-length-8 : tie.Need-same-length-8
 same-length-8 c = search needs
 
 returns-3 : tie.Need-returns-3
-returns-3 c = through-15 _ _ _ _ _ _ _ _ (c .before .before .before .before .before .match .keys3) (c .before .before .post .ensures)
+returns-3 c = through-15 _ _ _ _ _ _ _ _ (c .before .before .before .before .before .before .match .keys3) (c .before .before .post .ensures)
 
 same-length-9 : tie.Need-same-length-9
 same-length-9 c = search needs
@@ -76,7 +76,7 @@ same-length-12 : tie.Need-same-length-12
 same-length-12 c = search needs
 
 returns-5 : tie.Need-returns-5
-returns-5 c = through-17 _ _ _ _ _ _ _ _ (c .before .before .before .before .before .match .keys5) (c .before .before .status .ensures)
+returns-5 c = through-17 _ _ _ _ _ _ _ _ (c .before .before .before .before .before .before .match .keys5) (c .before .before .status .ensures)
 
 same-length-13 : tie.Need-same-length-13
 same-length-13 c = search needs

@@ -38,7 +38,7 @@ same-length-2 : tie.Need-same-length-2
 same-length-2 c = search needs
 
 returns-2 : tie.Need-returns-2
-returns-2 c = plain-8 _ _ _ _ _ _ (c .before .before .before .before .match .keys2) (c .before .before .«open» .ensures)
+returns-2 c = plain-8 _ _ _ _ _ _ (c .before .before .before .before .before .match .keys2) (c .before .before .«open» .ensures)
 
 same-length-3 : tie.Need-same-length-3
 same-length-3 c = search needs
@@ -50,13 +50,13 @@ same-length-4 : tie.Need-same-length-4
 same-length-4 c = search needs
 
 returns-4 : tie.Need-returns-4
-returns-4 c = plain-10 _ _ _ _ _ _ (c .before .before .before .before .match .keys4) (c .before .before .link .ensures)
+returns-4 c = plain-10 _ _ _ _ _ _ (c .before .before .before .before .before .match .keys4) (c .before .before .link .ensures)
 
 same-length-5 : tie.Need-same-length-5
 same-length-5 c = search needs
 
 returns-5 : tie.Need-returns-5
-returns-5 c = plain-11 _ _ _ _ _ _ (c .before .before .before .before .match .keys5) (c .before .before .unlink .ensures)
+returns-5 c = plain-11 _ _ _ _ _ _ (c .before .before .before .before .before .match .keys5) (c .before .before .unlink .ensures)
 
 same-length-6 : tie.Need-same-length-6
 same-length-6 c = search needs

@@ -15,7 +15,7 @@ same-length : tie.Need-same-length
 same-length c = search needs
 
 returns : tie.Need-returns
-returns c = plain-19 _ _ _ _ _ _ (c .before .before .before .before .match .keys1) (c .before .before .remap .ensures)
+returns c = plain-19 _ _ _ _ _ _ (c .before .before .before .before .before .match .keys1) (c .before .before .remap .ensures)
 
 same-length-2 : tie.Need-same-length-2
 same-length-2 c = search needs

@@ -41,7 +41,7 @@ same-length-2 : tie.Need-same-length-2
 same-length-2 c = search needs
 
 returns-2 : tie.Need-returns-2
-returns-2 c = plain-2 _ _ _ _ _ _ (c .before .before .before .before .match .keys2) (c .before .before .release-process .ensures)
+returns-2 c = plain-2 _ _ _ _ _ _ (c .before .before .before .before .before .match .keys2) (c .before .before .release-process .ensures)
 
 same-length-3 : tie.Need-same-length-3
 same-length-3 c = search needs
@@ -53,7 +53,7 @@ same-length-4 : tie.Need-same-length-4
 same-length-4 c = search needs
 
 returns-4 : tie.Need-returns-4
-returns-4 c = plain-4 _ _ _ _ _ _ (c .before .before .before .before .match .keys4) (c .before .before .rendezvous .ensures)
+returns-4 c = plain-4 _ _ _ _ _ _ (c .before .before .before .before .before .match .keys4) (c .before .before .rendezvous .ensures)
 
 same-length-5 : tie.Need-same-length-5
 same-length-5 c = search needs

@@ -19,7 +19,7 @@ abbrev seen : tie.After-or-refuse2 → tie.After-look
 seen c = c .before .before .before .before .before
 
 abbrev start : tie.After-or-refuse2 → tie.Start
-start c = seen c .before .before .before
+start c = seen c .before .before .before .before
 
 number : (c : tie.After-or-refuse2) (buffer : List ℕ) → c .or-refuse2 .result ≡ firstRefusal (setBitsOf (configuration (start c .args .t .now))
     (wordsOf (start c .args .t .now)) (start c .args .c .slot) (start c .args .s) (start c .args .b) buffer (kindOf (start c .args .kind)) .refusals)

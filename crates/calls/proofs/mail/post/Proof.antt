@@ -3,22 +3,23 @@ use Rattle.calls.proofs.Posts.{room-told, Posted, posted, post-refused,
 use lib.ListN.{length}
 use mathlib.Core.Logic.{⊎-elim}
 use mathlib.Core.Path.{_≡_, ap, _∙_}
+use Rattle.calls.proofs.Names.{sixteen}
 use borrow.Author.Needs.{needs}
 use Rattle.calls.proofs.mail.post.Statement.{statement}
 use Rattle.calls.proofs.mail.post.Tie as tie
 
 -- what the code has seen, and the number that it has found
-abbrev flowed : tie.After-or-refuse6 → tie.After-may-flow
+abbrev flowed : tie.After-or-refuse6 → tie.After-flow-at
 flowed c = c .before .before .before .before .before .before .before .before
 
 abbrev allowed : tie.After-or-refuse6 → tie.After-may-write
-allowed c = flowed c .before .before .before .before
+allowed c = flowed c .before .before .before .before .before
 
 abbrev seen : tie.After-or-refuse6 → tie.After-look
 seen c = allowed c .before .before .before .before
 
 abbrev start : tie.After-or-refuse6 → tie.Start
-start c = seen c .before .before .before .before .before .before
+start c = seen c .before .before .before .before .before .before .before
 
 abbrev waited : tie.After-or-refuse6 → tie.After-wide
 waited c = allowed c .before
@@ -27,9 +28,9 @@ judged : (c : tie.After-or-refuse6) → Posted (start c .args .t .now) (start c 
     (seen c .look .result)
     (waited c .before .read .result) (waited c .wide .result) (c .or-refuse6 .result)
 judged c =
-    posted (start c .pre .0) (start c .pre .1) _ _ (seen c .before .before .or-self .ensures) (seen c .look .ensures) (waited c .before .read .ensures)
+    posted (start c .pre .0) (start c .pre .1) _ _ (seen c .before .before .before .or-self .ensures) (seen c .look .ensures) (waited c .before .read .ensures)
     (waited c .wide .ensures)
-    (allowed c .may-write .ensures) (flowed c .may-flow .ensures) (flowed c .before .before .before .or-refuse .ensures) (flowed c .before .or-refuse2 .ensures)
+    (allowed c .may-write .ensures) (flowed c .flow-at .ensures) (flowed c .before .before .before .before .or-refuse .ensures) (flowed c .before .before .or-refuse2 .ensures)
     (c .before .before .before .before .before .before .before .or-refuse3 .ensures) (c .before .before .before .before .or-refuse4 .ensures)
     (c .before .before .or-refuse5 .ensures) (c .or-refuse6 .ensures)
 
@@ -54,8 +55,10 @@ or-refuse-requires c κs = search needs
 or-refuse-requires-2 : tie.Need-or-refuse-requires-2
 or-refuse-requires-2 c κs = search needs
 
-may-flow-requires : tie.Need-may-flow-requires
-may-flow-requires c κs = search needs
+flow-at-requires : tie.Need-flow-at-requires
+flow-at-requires c κs =
+    let at-may-write = c .before .before .before .before in let at-look = at-may-write .before .before .before .before in
+    let at-start = at-look .before .before .before .before .before .before .before in sixteen _ (at-start .pre .1)
 
 or-refuse-requires-3 : tie.Need-or-refuse-requires-3
 or-refuse-requires-3 c κs = search needs
@@ -113,7 +116,7 @@ post-spec =
     may-write-requires
     or-refuse-requires
     or-refuse-requires-2
-    may-flow-requires
+    flow-at-requires
     or-refuse-requires-3
     or-refuse-requires-4
     or-refuse-requires-5

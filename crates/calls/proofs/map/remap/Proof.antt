@@ -94,27 +94,27 @@ abbrev looked : tie.After-may-remap → tie.After-look
 looked c = c .before .before .before .before .before .before
 
 abbrev start : tie.After-look → tie.Start
-start c = c .before .before .before .before .before .before .before
+start c = c .before .before .before .before .before .before .before .before
 
 -- the number that was found is the first of the code's tests, and so the rule's
 found : (c : tie.After-may-remap) → (c .may-remap .result) ≡ firstRefusal (remapTests (start (looked c) .args .incoming) (start (looked c) .args .b)
-    (start (looked c) .args .outgoing) (looked c .before .before .before .before .entry-of .result .held) (looked c .before .before .entry-of2 .result .held)
+    (start (looked c) .args .outgoing) (looked c .before .before .before .before .before .entry-of .result .held) (looked c .before .before .before .entry-of2 .result .held)
     (looked c .look .result .present) (c .before .before .before .before .run-of .result) (c .before .before .map-of .result) (c .before .left .result))
 found c = c .may-remap .ensures ∙ refusing-first (remapTests (start (looked c) .args .incoming) (start (looked c) .args .b)
-    (start (looked c) .args .outgoing) (looked c .before .before .before .before .entry-of .result .held) (looked c .before .before .entry-of2 .result .held)
+    (start (looked c) .args .outgoing) (looked c .before .before .before .before .before .entry-of .result .held) (looked c .before .before .before .entry-of2 .result .held)
     (looked c .look .result .present) (c .before .before .before .before .run-of .result) (c .before .before .map-of .result) (c .before .left .result)) refl
 
 -- what the laws above say of the places where it was found
 module _ (c : tie.After-may-remap) (buffer : List ℕ) where
   counted : (c .may-remap .result) ≡ firstRefusal (ruleAt (start (looked c) .args .t .now) (λ h q. remap h q (start (looked c) .args .c .slot)
       (start (looked c) .args .incoming) (start (looked c) .args .b) (start (looked c) .args .outgoing) buffer) .refusals)
-  counted = found c ∙ number (start (looked c) .pre .0) _ _ _ buffer (looked c .before .before .before .before .entry-of .ensures)
-      (looked c .before .before .entry-of2 .ensures) (looked c .look .ensures) (c .before .before .before .before .run-of .ensures)
+  counted = found c ∙ number (start (looked c) .pre .0) _ _ _ buffer (looked c .before .before .before .before .before .entry-of .ensures)
+      (looked c .before .before .before .entry-of2 .ensures) (looked c .look .ensures) (c .before .before .before .before .run-of .ensures)
       (c .before .before .map-of .ensures) (c .before .left .ensures)
 
   clear-low : (c .may-remap .result) ≡ 0 → (start (looked c) .args .incoming) ≤ entries
-  clear-low z = low (start (looked c) .pre .0) _ _ _ buffer (looked c .before .before .before .before .entry-of .ensures)
-      (looked c .before .before .entry-of2 .ensures) (looked c .look .ensures) (c .before .before .before .before .run-of .ensures)
+  clear-low z = low (start (looked c) .pre .0) _ _ _ buffer (looked c .before .before .before .before .before .entry-of .ensures)
+      (looked c .before .before .before .entry-of2 .ensures) (looked c .look .ensures) (c .before .before .before .before .run-of .ensures)
       (c .before .before .map-of .ensures) (c .before .left .ensures) (sym (found c) ∙ z)
 
   written : (c .may-remap .result) ≡ 0 → {to t′ : List ℕ} {w : ℕ} → w ≡ (start (looked c) .args .incoming)
@@ -124,8 +124,8 @@ module _ (c : tie.After-may-remap) (buffer : List ℕ) where
       → t′ ≡ write (configuration (start (looked c) .args .t .now)) (start (looked c) .args .t .now) (ruleAt (start (looked c) .args .t .now)
       (λ h q. remap h q (start (looked c) .args .c .slot) (start (looked c) .args .incoming) (start (looked c) .args .b) (start (looked c) .args .outgoing) buffer)
       .effects .words)
-  written z = done (start (looked c) .pre .0) _ _ _ buffer (looked c .before .before .before .before .entry-of .ensures)
-      (looked c .before .before .entry-of2 .ensures) (looked c .look .ensures) (c .before .before .before .before .run-of .ensures)
+  written z = done (start (looked c) .pre .0) _ _ _ buffer (looked c .before .before .before .before .before .entry-of .ensures)
+      (looked c .before .before .before .entry-of2 .ensures) (looked c .look .ensures) (c .before .before .before .before .run-of .ensures)
       (c .before .before .map-of .ensures) (c .before .left .ensures) (sym (found c) ∙ z)
 
 entry-of-requires : tie.Need-entry-of-requires

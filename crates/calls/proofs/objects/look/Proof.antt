@@ -1,6 +1,6 @@
 -- `objects::look` meets its contract: each field is what the rules say of the slot.
 use Rattle.layout.specs.Kinds.{kindOf}
-use Rattle.calls.proofs.Names.{bits-small, seen}
+use Rattle.calls.proofs.Names.{bits-small, sixteen, seen}
 use Rattle.calls.proofs.Worlds.{see}
 use native.Mathlib.Omega.{arith}
 use borrow.Author.Needs.{needs}
@@ -67,15 +67,17 @@ add-word-7 c = search needs
 word-requires-7 : tie.Need-word-requires-7
 word-requires-7 c κs = search needs
 
-may-flow-requires : tie.Need-may-flow-requires
-may-flow-requires c κs = search needs
+flow-at-requires : tie.Need-flow-at-requires
+flow-at-requires c κs =
+    let at-cell-of = c .before .before .before .before .before .before .before .before .before .before in let at-start = at-cell-of .before .before .before in
+    sixteen _ (at-start .pre .1)
 
 rights-requires : tie.Need-rights-requires
 rights-requires c κs = search needs
 
 returns : tie.Need-returns
 returns c =
-    let at-may-flow = c .before .before .before in let at-word7 = at-may-flow .before in let at-word6 = at-word7 .before in
+    let at-flow = c .before .before .before in let at-word7 = at-flow .before in let at-word6 = at-word7 .before in
     let at-home = at-word6 .before in let at-word5 = at-home .before in let at-bits-word = at-word5 .before in let at-word4 = at-bits-word .before in
     let at-word3 = at-word4 .before in let at-word2 = at-word3 .before in let at-word = at-word2 .before in let at-record-at = at-word .before in
     let at-cell-of = at-record-at .before in let at-name-of = at-cell-of .before in let at-start = at-name-of .before .before in
@@ -83,7 +85,7 @@ returns c =
     seen (at-start .pre .0) (at-start .pre .1) _ _ (at-name-of .name-of .ensures) (at-cell-of .cell-of .ensures) (see known _ _ _ place (at-word .word .ensures))
     (see known _ _ _ place (at-word2 .word2 .ensures)) (see known _ _ _ place (at-word3 .word3 .ensures)) (see known _ _ _ place (at-word4 .word4 .ensures))
     (at-bits-word .bits-word .ensures) (see known _ _ _ place (at-word5 .word5 .ensures)) (see known _ _ _ home (at-word6 .word6 .ensures))
-    (see known _ _ _ home (at-word7 .word7 .ensures)) (at-may-flow .may-flow .ensures) (c .before .before .rights .ensures)
+    (see known _ _ _ home (at-word7 .word7 .ensures)) (at-flow .flow-at .ensures) (c .before .before .rights .ensures)
 
 pub look-spec : {M : Type 1} → statement M
 look-spec =
@@ -108,6 +110,6 @@ look-spec =
     word-requires-6
     add-word-7
     word-requires-7
-    may-flow-requires
+    flow-at-requires
     rights-requires
     returns)

@@ -62,7 +62,7 @@ module _ {t : List ℕ} {n : Header} {c : Caller} (sound : Sound t n c) (a : ℕ
     words buffer done = done ∙ rw (slot-is (sound .known) (c .slot) process s seen form, self)
 
 abbrev start : tie.After-own → tie.Start
-start c = c .before .before .before .before .before .before
+start c = c .before .before .before .before .before .before .before
 
 abbrev judged : tie.After-drop-entries2 → tie.After-own
 judged c = c .before .before .before .before .before .before .before
@@ -72,13 +72,13 @@ found c = (c .own .ensures) ∙ refusing-first (ownTests (c .before .look .resul
 
 counted : (c : tie.After-own) (buffer : List ℕ) → (c .own .result) ≡ firstRefusal (ruleAt (start c .args .t .now) (λ h r. releaseProcess h r
     (start c .args .c .slot) (start c .args .a) buffer) .refusals)
-counted c buffer = found c ∙ number (start c .pre .0) (start c .args .a) (c .before .before .before .or-self .ensures)
+counted c buffer = found c ∙ number (start c .pre .0) (start c .args .a) (c .before .before .before .before .or-self .ensures)
     (c .before .look .ensures) buffer
 
 held : (c : tie.After-drop-entries-arg) (k : Kind) → holdable k ≡ true → Holding (start (c .before .before) .args .t .now) (start
     (c .before .before) .args .n) (start (c .before .before) .args .c) k (c .before .before .before .look .result .slot)
 held c = holding (start (c .before .before) .pre .0) (start (c .before .before) .args .a)
-    (c .before .before .before .before .before .or-self .ensures) (c .before .before .before .look .ensures) (sym (found (c .before .before)) ∙
+    (c .before .before .before .before .before .before .or-self .ensures) (c .before .before .before .look .ensures) (sym (found (c .before .before)) ∙
     (c .before .if1 .left))
 
 or-self-requires : tie.Need-or-self-requires
@@ -126,7 +126,7 @@ returns-2 c = λ buffer. left-done _ (λ h r. releaseProcess h r _ (start (judge
     (c .before .before .before .before .before .before .before .before .before .before .before .before .before .before .if1 .left)
     (c .answered .ensures) (words (start (judged (c .before .before .before .before .before .before .before .before)) .pre .0) (start (judged
     (c .before .before .before .before .before .before .before .before)) .args .a) (judged
-    (c .before .before .before .before .before .before .before .before) .before .before .before .or-self .ensures) (judged
+    (c .before .before .before .before .before .before .before .before) .before .before .before .before .or-self .ensures) (judged
     (c .before .before .before .before .before .before .before .before) .before .look .ensures) (sym (found (judged
     (c .before .before .before .before .before .before .before .before))) ∙
     (c .before .before .before .before .before .before .before .before .before .before .before .before .before .before .if1 .left)) buffer

@@ -17,7 +17,7 @@ abbrev found : tie.After-or-refuse4 → tie.After-read
 found c = used-so c .before
 
 abbrev entry : tie.After-or-refuse4 → tie.After-entry-of
-entry c = found c .before .before .before .before
+entry c = found c .before .before .before .before .before
 
 abbrev start : tie.After-or-refuse4 → tie.Start
 start c = entry c .before .before .before .before .before
@@ -47,7 +47,7 @@ to-read-requires c κs = search needs
 
 add-at-desk : tie.Need-add-at-desk
 add-at-desk c =
-    let begun = c .before .before .before .before .before .before .before .before .before .before .before in
+    let begun = c .before .before .before .before .before .before .before .before .before .before .before .before in
     record { fits = desk-fits (begun .pre .0) }
 
 or-refuse-requires : tie.Need-or-refuse-requires

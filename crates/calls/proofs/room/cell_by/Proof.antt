@@ -1,6 +1,7 @@
 -- `room::cell_by` meets its contract: the cells passed end at or before the slot, so that the first whose run ends past it is its cell.
 use Prim.Native.Nat.{_-_}
 use native.Mathlib.Omega.{arith}
+use mathlib.Core.Path.{refl}
 use borrow.Author.Needs.{needs}
 use Rattle.calls.proofs.Worlds.{Passed, passed-none, at-end, sum-small, found, further}
 use Rattle.calls.proofs.room.cell_by.Statement.{statement}
@@ -13,33 +14,37 @@ abbrev μ-loop : tie.MeasureT-loop
 μ-loop t n k i end₀ c₀ end c = n - c
 
 loop-holds : tie.Need-loop-holds Inv-loop μ-loop
-loop-holds c = passed-none _ _ _ _ (c .before .pre .0)
+loop-holds c = passed-none _ _ _ _ (c .before .pre .0 .0)
 
 wide-requires : tie.Need-wide-requires Inv-loop μ-loop
 wide-requires c κs = search needs
 
-mul-word : tie.Need-mul-word Inv-loop μ-loop
-mul-word c = search needs
-
-add-word : tie.Need-add-word Inv-loop μ-loop
-add-word c = search needs
-
-add-word-2 : tie.Need-add-word-2 Inv-loop μ-loop
-add-word-2 c = search needs
-
-word-requires : tie.Need-word-requires Inv-loop μ-loop
-word-requires c κs = search needs
+mul-end : tie.Need-mul-end Inv-loop μ-loop
+mul-end c = search needs
 
 add-end : tie.Need-add-end Inv-loop μ-loop
-add-end c =
+add-end c = search needs
+
+add-end-2 : tie.Need-add-end-2 Inv-loop μ-loop
+add-end-2 c = search needs
+
+mul-end-2 : tie.Need-mul-end-2 Inv-loop μ-loop
+mul-end-2 c = search needs
+
+shared-slice-read-end : tie.Need-shared-slice-read-end Inv-loop μ-loop
+shared-slice-read-end c =
     let s = c .before .before .before .before .before in
-    omega (arith, sum-small (s .pre .1) (c .before .before .before .loop .inv) (c .before .before .loop-test .taken) (c .before .wide .ensures) (c .word .ensures) (s .pre .2))
+    omega (arith, s .pre .0 .1, s .pre .1, c .before .before .loop-test .taken, c .before .wide .ensures)
+
+add-end-3 : tie.Need-add-end-3 Inv-loop μ-loop
+add-end-3 c =
+    let s = c .before .before .before .before .before in
+    omega (arith, sum-small (s .pre .0 .1) (c .before .before .before .loop .inv) (c .before .before .loop-test .taken) (c .before .wide .ensures) refl (s .pre .0 .2))
 
 returns : tie.Need-returns Inv-loop μ-loop
 returns c =
     let s = c .before .before .before .before .before .before in
-    found (s .pre .1) (c .before .before .before .before .loop .inv) (c .before .before .before .loop-test .taken) (c .before .before .wide .ensures)
-    (c .before .word .ensures) (c .if1 .taken)
+    found (s .pre .0 .1) (c .before .before .before .before .loop .inv) (c .before .before .before .loop-test .taken) (c .before .before .wide .ensures) refl (c .if1 .taken)
 
 add-c : tie.Need-add-c Inv-loop μ-loop
 add-c c = search needs
@@ -50,11 +55,10 @@ loop-less c = search needs
 loop-again : tie.Need-loop-again Inv-loop μ-loop
 loop-again c =
     let s = c .before .before .before .before .before .before in
-    further (s .pre .1) (c .before .before .before .before .loop .inv) (c .before .before .before .loop-test .taken) (c .before .before .wide .ensures)
-    (c .before .word .ensures) (c .if1 .left)
+    further (s .pre .0 .1) (c .before .before .before .before .loop .inv) (c .before .before .before .loop-test .taken) (c .before .before .wide .ensures) refl (c .if1 .left)
 
 returns-2 : tie.Need-returns-2 Inv-loop μ-loop
-returns-2 c = at-end (c .before .before .before .pre .1) (c .before .loop .inv) (c .loop-test .left)
+returns-2 c = at-end (c .before .before .before .pre .0 .1) (c .before .loop .inv) (c .loop-test .left)
 
 pub cell-by-spec : {M : Type 1} → statement M
 cell-by-spec =
@@ -64,11 +68,12 @@ cell-by-spec =
     μ-loop
     loop-holds
     wide-requires
-    mul-word
-    add-word
-    add-word-2
-    word-requires
+    mul-end
     add-end
+    add-end-2
+    mul-end-2
+    shared-slice-read-end
+    add-end-3
     returns
     add-c
     loop-less

@@ -49,30 +49,30 @@ abbrev looked : tie.After-or-refuse3 → tie.After-look
 looked c = c .before .before .before .before .before .before
 
 abbrev start : tie.After-look → tie.Start
-start c = c .before .before .before
+start c = c .before .before .before .before
 
 abbrev judged : tie.After-access → tie.After-or-refuse3
 judged c = c .before .before .before .before .before .before
 
 found : (c : tie.After-or-refuse3) → (c .or-refuse3 .result) ≡ firstRefusal (tests
-    (c .before .before .before .before .before .before .before .before .before .args .a)
-    (c .before .before .before .before .before .before .before .entry-of .result) (c .before .before .before .before .before .before .look .result))
+    (c .before .before .before .before .before .before .before .before .before .before .args .a)
+    (c .before .before .before .before .before .before .before .before .entry-of .result) (c .before .before .before .before .before .before .look .result))
 found c = rw (
   c .or-refuse3 .ensures,
   c .before .before .or-refuse2 .ensures,
   c .before .before .before .before .or-refuse .ensures,
   c .before .before .before .before .before .wide .ensures,
 ) (refusing-first (tests
-    (c .before .before .before .before .before .before .before .before .before .args .a)
-    (c .before .before .before .before .before .before .before .entry-of .result)
+    (c .before .before .before .before .before .before .before .before .before .before .args .a)
+    (c .before .before .before .before .before .before .before .before .entry-of .result)
     (c .before .before .before .before .before .before .look .result)) refl)
 
 counted : (c : tie.After-or-refuse3) (buffer : List ℕ) → (c .or-refuse3 .result) ≡ firstRefusal (ruleAt (start (looked c) .args .t .now)
     (λ h q. accessOf h q (start (looked c) .args .c .slot) (start (looked c) .args .a) buffer) .refusals)
-counted c buffer = found c ∙ number (start (looked c) .pre .0) _ buffer (looked c .before .entry-of .ensures) (looked c .look .ensures)
+counted c buffer = found c ∙ number (start (looked c) .pre .0) _ buffer (looked c .before .before .entry-of .ensures) (looked c .look .ensures)
 
 limits : (c : tie.After-access) → (c .access .result) ≡ limited
-    (c .before .before .before .before .before .before .before .before .before .before .before .before .before .entry-of .result .used)
+    (c .before .before .before .before .before .before .before .before .before .before .before .before .before .before .entry-of .result .used)
     (c .before .before .before .before .before .before .before .before .before .before .before .before .look .result .rights)
 unfolding limited
 limits c = rw (
@@ -85,7 +85,7 @@ limits c = rw (
 
 answer : (c : tie.After-access) (buffer : List ℕ) → (c .access .result) ≡ ruleAt (start (looked (judged c)) .args .t .now) (λ h q. accessOf h q
     (start (looked (judged c)) .args .c .slot) (start (looked (judged c)) .args .a) buffer) .effects .first
-answer c buffer = limits c ∙ result (start (looked (judged c)) .pre .0) _ buffer (looked (judged c) .before .entry-of .ensures) (looked
+answer c buffer = limits c ∙ result (start (looked (judged c)) .pre .0) _ buffer (looked (judged c) .before .before .entry-of .ensures) (looked
     (judged c) .look .ensures) (sym (found (judged c)) ∙ (c .before .before .before .before .before .if1 .left))
 
 entry-of-requires : tie.Need-entry-of-requires

@@ -21,7 +21,7 @@ use Rattle.calls.specs.Left.{said, ruleAt}
 use Rattle.calls.specs.Seen.{nameOf, namedOf, seenAs, findTests}
 use Rattle.calls.specs.Entries.{takenUpAt}
 use Rattle.calls.specs.Refusing.{orRefuse, refusing}
-use Rattle.calls.proofs.Refusals.{refusing-first, clear-of}
+use Rattle.calls.proofs.Refusals.{refusing-first, clear-of, only-then}
 use Rattle.calls.proofs.Looks.{seen-formed, slot-is, own-is, slot-in, find-first, form-past}
 use Rattle.calls.proofs.Leaves.{left-refused, left-done}
 use Rattle.calls.proofs.Holders.{one-fits, taken-told}
@@ -44,12 +44,14 @@ tests r p s b g = (eqb b 0 || not (validAccess b) ⇒ XbParam) ∷ findTests g s
 
 -- what the code finds, test after test
 chained : (r : Addr → ℕ) (p s b : ℕ) (g : Seen) {d w n e₁ e₂ e₃ e₄ e₅ e : ℕ} {may asks reads writes lacking twice : Bool} → d ≡ freeEntry r segment p
-    → n ≡ r (at segment (g .slot) sharable) → twice ≡ alreadyHeld r p s → asks ≡ asksWrite b → may ≡ validAccess b → reads ≡ asksRead b → writes ≡ asksWrite b
+    → n ≡ r (at segment (g .slot) sharable) → twice ≡ eqb e₄ 0 && alreadyHeld r p s → asks ≡ asksWrite b → may ≡ validAccess b → reads ≡ asksRead b → writes ≡ asksWrite b
     → lacking ≡ lacks (g .rights) reads writes → w ≡ d → e₁ ≡ orRefuse 0 (eqb b 0 || not may) XbParam
     → e₂ ≡ refusing e₁ (findTests g segment (not (g .flows) || (asks && not (g .own)))) → e₃ ≡ orRefuse e₂ (eqb n 0) XsgNoAcc → e₄ ≡ orRefuse e₃ lacking XdapViol
     → e₅ ≡ orRefuse e₄ twice XdupSg → e ≡ orRefuse e₅ (leb entries w) XodSpace → e ≡ firstRefusal (tests r p s b g)
-chained r p s b g de ne te ae me re we le wide f₁ f₂ f₃ f₄ f₅ f₆ =
-    rw (f₆, f₅, f₄, f₃, f₂, f₁, le, wide, te, re, we, ae, me, ne, de) (refusing-first (tests r p s b g) refl)
+chained r p s b g {e₄ = e₄} {e₅ = e₅} de ne te ae me re we le wide f₁ f₂ f₃ f₄ f₅ f₆ =
+    let f₅′ : e₅ ≡ orRefuse e₄ (alreadyHeld r p s) XdupSg =
+    f₅ ∙ ap (λ (x : Bool). orRefuse e₄ x XdupSg) te ∙ only-then e₄ (alreadyHeld r p s) XdupSg in
+    rw (f₆, f₅′, f₄, f₃, f₂, f₁, le, wide, re, we, ae, me, ne, de) (refusing-first (tests r p s b g) refl)
 
 -- s is the seid that a stands for, g what is seen of it
 module _ {t : List ℕ} {n : Header} {c : Caller} (sound : Sound t n c) (a b : ℕ) (buffer : List ℕ) {s : ℕ} {g : Seen}
@@ -85,35 +87,35 @@ module _ {t : List ℕ} {n : Header} {c : Caller} (sound : Sound t n c) (a b : �
         (own-is (sound .known) (c .slot) segment s seen form) entry object)
 
 abbrev tried : tie.After-or-refuse5 → tie.After-or-refuse
-tried c = c .before .before .before .before .before .before .before .before .before
+tried c = c .before .before .before .before .before .before .before .before .before .before .before
 
 abbrev looked : tie.After-or-refuse → tie.After-look
-looked c = c .before .before .before .before .before .before .before .before .before .before .before
+looked c = c .before .before .before .before .before .before .before .before .before
 
 abbrev start : tie.After-look → tie.Start
-start c = c .before .before .before .before .before
+start c = c .before .before .before .before .before .before
 
 abbrev judged : tie.After-take-up → tie.After-or-refuse5
 judged c = c .before .before .before .before .before
 
 found : (c : tie.After-or-refuse5) → (c .or-refuse5 .result) ≡ firstRefusal (tests (wordsOf (start (looked (tried c)) .args .t .now)) (start (looked
-    (tried c)) .args .c .slot) (looked (tried c) .before .before .or-self .result) (start (looked (tried c)) .args .b) (looked
+    (tried c)) .args .c .slot) (looked (tried c) .before .before .before .or-self .result) (start (looked (tried c)) .args .b) (looked
     (tried c) .look .result))
 found c = chained _ _ _ _ (looked (tried c) .look .result)
-    (tried c .before .before .before .before .before .before .before .before .before .free-entry .ensures)
-    (tried c .before .before .before .before .before .before .before .read .ensures)
-    (tried c .before .before .before .before .before .already-held .ensures) (tried c .before .before .before .asks-write .ensures)
-    (tried c .before .valid-access .ensures) (c .before .before .before .before .before .before .asks-read .ensures)
-    (c .before .before .before .before .before .asks-write2 .ensures) (c .before .before .before .before .lacks .ensures) (c .before .wide .ensures)
-    (tried c .or-refuse .ensures) (c .before .before .before .before .before .before .before .before .find .ensures)
-    (c .before .before .before .before .before .before .before .or-refuse2 .ensures) (c .before .before .before .or-refuse3 .ensures)
+    (tried c .before .before .before .before .before .before .before .free-entry .ensures)
+    (tried c .before .before .before .before .before .read .ensures)
+    (c .before .before .before .twice .ensures) (tried c .before .before .before .asks-write .ensures)
+    (tried c .before .valid-access .ensures) (c .before .before .before .before .before .before .before .before .asks-read .ensures)
+    (c .before .before .before .before .before .before .before .asks-write2 .ensures) (c .before .before .before .before .before .before .lacks .ensures) (c .before .wide .ensures)
+    (tried c .or-refuse .ensures) (c .before .before .before .before .before .before .before .before .before .before .find .ensures)
+    (c .before .before .before .before .before .before .before .before .before .or-refuse2 .ensures) (c .before .before .before .before .before .or-refuse3 .ensures)
     (c .before .before .or-refuse4 .ensures) (c .or-refuse5 .ensures)
 
 counted : (c : tie.After-or-refuse5) (buffer : List ℕ) → (c .or-refuse5 .result) ≡ firstRefusal (ruleAt (start (looked (tried c)) .args .t .now)
     (λ h q. rendezvous h q (start (looked (tried c)) .args .c .slot) (start (looked (tried c)) .args .a) (start (looked
     (tried c)) .args .b) buffer) .refusals)
 counted c buffer = found c ∙ number (start (looked (tried c)) .pre .0) (start (looked (tried c)) .args .a) _ buffer (looked
-    (tried c) .before .before .or-self .ensures) (looked (tried c) .look .ensures)
+    (tried c) .before .before .before .or-self .ensures) (looked (tried c) .look .ensures)
 
 or-self-requires : tie.Need-or-self-requires
 or-self-requires c κs = search needs
@@ -126,9 +128,6 @@ free-entry-requires c κs = search needs
 
 read-requires : tie.Need-read-requires
 read-requires c κs = search needs
-
-already-held-requires : tie.Need-already-held-requires
-already-held-requires c κs = search needs
 
 asks-write-requires : tie.Need-asks-write-requires
 asks-write-requires c κs = search needs
@@ -156,6 +155,10 @@ lacks-requires c κs = search needs
 
 or-refuse-requires-3 : tie.Need-or-refuse-requires-3
 or-refuse-requires-3 c κs = search needs
+
+twice-requires : tie.Need-twice-requires
+twice-requires c κs =
+    let at-or-refuse = c .before .before .before .before .before .before .before in start (looked at-or-refuse) .pre .0 .known
 
 or-refuse-requires-4 : tie.Need-or-refuse-requires-4
 or-refuse-requires-4 c κs = search needs
@@ -191,7 +194,7 @@ take-up-requires c κs = (
         (c .before .before .before .before))) .pre .0) segment (looked (tried (c .before .before .before .before)) .look .result .slot) refl (within
         (start (looked (tried (c .before .before .before .before))) .pre .0) (start (looked (tried (c .before .before .before .before))) .args .a)
         (start (looked (tried (c .before .before .before .before))) .args .b) [] (looked (tried
-        (c .before .before .before .before)) .before .before .or-self .ensures) (looked (tried (c .before .before .before .before)) .look .ensures) (sym
+        (c .before .before .before .before)) .before .before .before .or-self .ensures) (looked (tried (c .before .before .before .before)) .look .ensures) (sym
         (found (c .before .before .before .before)) ∙ (c .before .before .before .if1 .left))) (c .before .record-at .ensures .0),
   ),
 )
@@ -207,13 +210,13 @@ unfolding rendezvous
 returns-2 c = λ buffer. left-done _ (λ h q. rendezvous h q _ (start (looked (tried (judged (c .before .before .before)))) .args .a) (start (looked
     (tried (judged (c .before .before .before)))) .args .b) buffer) (counted (judged (c .before .before .before)) buffer)
     (c .before .before .before .before .before .before .before .if1 .left) ((c .answered .ensures) ∙ ap (λ (x : ℕ). said 0 x 0) (tried (judged
-    (c .before .before .before)) .before .before .before .before .before .before .before .before .before .free-entry .ensures))
+    (c .before .before .before)) .before .before .before .before .before .before .before .free-entry .ensures))
     ((c .before .before .before .take-up .ensures) ∙ words (start (looked (tried (judged (c .before .before .before)))) .pre .0) (start (looked
     (tried (judged (c .before .before .before)))) .args .a) (start (looked (tried (judged (c .before .before .before)))) .args .b) buffer (looked
-    (tried (judged (c .before .before .before))) .before .before .or-self .ensures) (looked (tried (judged
+    (tried (judged (c .before .before .before))) .before .before .before .or-self .ensures) (looked (tried (judged
     (c .before .before .before))) .look .ensures) (sym (found (judged (c .before .before .before))) ∙
     (c .before .before .before .before .before .before .before .if1 .left)) (tried (judged
-    (c .before .before .before)) .before .before .before .before .before .before .before .before .before .free-entry .ensures)
+    (c .before .before .before)) .before .before .before .before .before .before .before .free-entry .ensures)
     (c .before .before .before .before .before .before .entry-at .ensures .0) (c .before .before .before .before .before .record-at .ensures .0))
 
 pub rendezvous-spec : {M : Type 1} → statement M
@@ -224,7 +227,6 @@ rendezvous-spec =
     look-requires
     free-entry-requires
     read-requires
-    already-held-requires
     asks-write-requires
     valid-access-requires
     or-refuse-requires
@@ -234,6 +236,7 @@ rendezvous-spec =
     asks-write-requires-2
     lacks-requires
     or-refuse-requires-3
+    twice-requires
     or-refuse-requires-4
     wide-requires
     or-refuse-requires-5

@@ -67,11 +67,11 @@ abbrev looked : tie.After-or-refuse3 → tie.After-look
 looked c = c .before .before .before .before .before .before
 
 abbrev start : tie.After-look → tie.Start
-start c = c .before .before .before .before .before
+start c = c .before .before .before .before .before .before
 
 found : (c : tie.After-or-refuse6) → (c .or-refuse6 .result) ≡ firstRefusal (tests (start (looked (tried c)) .args .a) (start (looked
-    (tried c)) .args .b) (looked (tried c) .before .before .entry-of .result) (looked (tried c) .look .result))
-found c = chained _ _ (looked (tried c) .before .before .entry-of .result) (looked (tried c) .look .result)
+    (tried c)) .args .b) (looked (tried c) .before .before .before .entry-of .result) (looked (tried c) .look .result))
+found c = chained _ _ (looked (tried c) .before .before .before .entry-of .result) (looked (tried c) .look .result)
     (tried c .before .before .before .before .before .valid-access .ensures) (tried c .before .before .before .wide .ensures)
     (c .before .before .before .before .before .before .asks-write .ensures) (c .before .before .before .asks-read .ensures)
     (c .before .before .asks-write2 .ensures) (c .before .lacks .ensures) (tried c .before .before .before .before .or-refuse .ensures)
@@ -82,7 +82,7 @@ found c = chained _ _ (looked (tried c) .before .before .entry-of .result) (look
 counted : (c : tie.After-or-refuse6) (buffer : List ℕ) → (c .or-refuse6 .result) ≡ firstRefusal (ruleAt (start (looked (tried c)) .args .t .now)
     (λ h q. setAccess h q (start (looked (tried c)) .args .c .slot) (start (looked (tried c)) .args .a) (start (looked
     (tried c)) .args .b) buffer) .refusals)
-counted c buffer = found c ∙ number (start (looked (tried c)) .pre .0) _ _ buffer (looked (tried c) .before .before .entry-of .ensures) (looked
+counted c buffer = found c ∙ number (start (looked (tried c)) .pre .0) _ _ buffer (looked (tried c) .before .before .before .entry-of .ensures) (looked
     (tried c) .look .ensures)
 
 entry-of-requires : tie.Need-entry-of-requires

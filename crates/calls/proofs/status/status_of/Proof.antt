@@ -12,7 +12,7 @@ abbrev seen : tie.After-find → tie.After-look
 seen c = c .before .before .before
 
 abbrev start : tie.After-find → tie.Start
-start c = seen c .before .before .before
+start c = seen c .before .before .before .before
 
 judged : (c : tie.After-find) → Judged (start c .args .t .now) (start c .args .n) (start c .args .c) (kindOf (start c .args .kind)) (start c .args .s)
     (start c .args .buffer .now)
