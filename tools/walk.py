@@ -56,9 +56,9 @@ class Places:
     def keep(self, items, base):
         return " ∷ ".join(str(x) for x in items + list(range(base, base + 2 * (self.n + 1)))) + " ∷ []"
 
-    def placed(self, before, k, cell, base):
+    def placed(self, before, k, cell, base, indent):
         """The cell that stands at `cell` is put before what is left of local k; before the locals stand the items `before`, in this order."""
-        return " ∷ ".join(str(x) for x in before + list(range(base, base + 2 * (self.n - k))) + [cell]) + " ∷ []"
+        return joined([str(x) for x in before + list(range(base, base + 2 * (self.n - k))) + [cell]], 24, indent)
 
     def relend(self, slot, pointer, slice_, room, indent):
         """A slice that is lent again: its pointer, and the slice made of it."""
@@ -233,8 +233,8 @@ def tray():
     env = joined(['(%s, %s)' % (TY[k][1:-1] if TY[k].startswith('(') else TY[k], l(k)) for k in range(P.n + 1)], 6, I12)
     ls = ' '.join(l(k) for k in range(P.n + 1))
     keep = P.keep([0, 11, 7, 10, 6, 8, 4, 1, 2, 3], 12)
-    lent_out = P.placed(list(range(3, 13)) + [0, 2], 5, 1, 13)
-    put_back = P.placed(list(range(1, 11)), 5, 0, 11)
+    lent_out = P.placed(list(range(3, 13)) + [0, 2], 5, 1, 13, I10)
+    put_back = P.placed(list(range(1, 11)), 5, 0, 11, I12)
     runargs='(at-list b₀ o₀ δ x, (at-list b₁ o₁ ε u, (at-list b₃ o₃ η y, (at-matrix l₅ μ m, (z, tt)))))'
     runlfts='(α ∷ [], (β ∷ [], (ζ ∷ [], (θ ∷ [], tt))))'
     full='(‵ (flft (α ∷ []) fullShare) ⊛ (‵ (flft (β ∷ []) fullShare) ⊛ (‵ (flft (ζ ∷ []) fullShare) ⊛ (‵ (flft (θ ∷ []) fullShare) ⊛ ‵ ftrue))))'
@@ -247,8 +247,8 @@ def tray():
     TURN='Turn xs ss bs rs m n'
     LESS='Less xs ss bs rs m n'
     return f'''-- `tray` meets its contract: a walk of its MIR, by hand, since a slice of structs is lent. The records' borrow is opened once before the loop and closed once after it; in
--- each turn the table, the store and the bytes are lent again to `run`, each for a lifetime of its own; the matrix is lent once, for a lifetime that begins before the loop
--- and ends after it, and each turn passes a copy of that reference. `Going` says what holds where a turn begins.
+-- each turn the table, the store and the bytes are lent again to `run`, each for a lifetime of its own. The matrix is lent once, for a lifetime from before the loop
+-- to after it, and each turn passes a copy of that reference. `Going` says what holds where a turn begins.
 -- tools/walk.py writes this file: it computes the positions in the context (local k of {P.n} stands at base + 2 * ({P.n} - k)).
 -- Assumes nothing.
 {TRAY_USES}abbrev stayed : Stays (tr.ended .signature .params) (tr.ended .kept)
@@ -522,7 +522,8 @@ module _ {{M : Type 1}} (𝓤 : URA M) (H : Heap 𝓤) (A : Atoms 𝓤) (W : Giv
             {lend(1,'u8','β','ε','u','ss','(g .store-long)',I12)}
             lft-new ! tt (λ ζ. move ! (8 ∷ 9 ∷ []) $
             {lend(3,'u8','ζ','η','y','bs','(g .bytes-long)',I12)}
-            -- [bytes lent; bytes kept; ζ; store lent; store kept; β; table lent; table kept; α; the row; …; the matrix's reference; its token]: the reference is copied
+            -- [bytes lent; bytes kept; ζ; store lent; store kept; β; table lent; table kept; α; the row; …; the matrix's reference; θ; the locals]:
+            -- a copy of the reference is passed, and the reference stays
             move ! (13 ∷ []) $ use1 W (‵ shared-matrix ⊛ ‵ shared-matrix)
             (shr-copy 𝓤 H A W (named 3) (θ ∷ []) Rm .twice (at-matrix l₅ μ m) (vptr l₅ 0 ∷ [])) $ split ! $
             move ! (10 ∷ 7 ∷ 4 ∷ 15 ∷ 8 ∷ 5 ∷ 2 ∷ 0 ∷ []) $ group ! 8 $
@@ -536,7 +537,7 @@ module _ {{M : Type 1}} (𝓤 : URA M) (H : Heap 𝓤) (A : Atoms 𝓤) (W : Giv
             ‵ (lasts run.ended {runlfts} {runargs} ws) ⊛ raw (fact 𝓤 ({RAN})))) (id⊢ 𝓤 _) $ pick ! (λ ws.
             split ! $ move ! (1 ∷ []) $ heard ! ({RAN}) (λ ran. fsplit ! $ fsplit ! $ move ! (1 ∷ []) $ feqL ! (λ lx. move ! (1 ∷ []) $
             fsplit ! $ fsplit ! $ move ! (1 ∷ []) $ feqL ! (λ lu. move ! (1 ∷ []) $ fsplit ! $ fsplit ! $ move ! (1 ∷ []) $ feqL ! (λ ly.
-            -- [the bytes' last list; …; the store's; the table's; the tokens and the result; the matrix's reference; bytes kept; store kept; table kept; the row; …]
+            -- [the bytes' last list; …; the store's; the table's; the tokens and the result; the reference; bytes kept; store kept; table kept; the row; …]
             move ! (4 ∷ []) $ split ! $ move ! (1 ∷ []) $ facts ! R (Is R) (shows 𝓤 H A R) r (w ∷ []) (λ is′.
             let same : w ≡ T′.lowered r = ap only (T′.lowers .val-is r (w ∷ []) is′) in
             land ! (from ! (stop !)) (store ! {Q.at(18,13)} refl (LL.lawful T.the-type T′.the-laws 𝓤 H A W .typed r _ is′ .0)) $
@@ -548,7 +549,7 @@ module _ {{M : Type 1}} (𝓤 : URA M) (H : Heap 𝓤) (A : Atoms 𝓤) (W : Giv
             {back(1,'u8','β','ε','u','ss','(g .store-long)','(ws .1 .0)','lu',I12)}
             move ! (2 ∷ []) $ split ! $ lft-end ! tt $ move ! (0 ∷ 9 ∷ 6 ∷ []) $
             {back(3,'u8','ζ','η','y','bs','(g .bytes-long)','(ws .1 .1 .0)','ly',I12)}
-            -- [the bytes and their token; θ's token; the store's, the table's; …; the matrix's reference; the row; …]: in the order of `I`
+            -- [the bytes, the store and the table, each with its token; θ; …; the matrix's reference; the row; …]: in the order of `I`
             move ! (2 ∷ []) $ split ! $ move ! (1 ∷ 8 ∷ []) $ drop ! $ drop ! $ move ! (8 ∷ 5 ∷ 6 ∷ 3 ∷ 4 ∷ 1 ∷ 2 ∷ 9 ∷ 10 ∷ 11 ∷ 7 ∷ 0 ∷ []) $
             -- the record is stored
             assigns ! (bin ! {look(Q.at(8))} (lit ! tt) (record {{ fits = at-fits }})) (from ! (stop !)) (store ! {Q.at(16)} refl (tt, record {{ fits = at-fits }})) $

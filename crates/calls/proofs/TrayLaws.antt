@@ -7,7 +7,7 @@ use native.Mathlib.Omega.{arith}
 use lib.Dec.{ltb, leb, eqb}
 use lib.ListN.{length, getD, take, drop, replicate}
 use lib.Seq.{sets}
-use borrow.Author.Tests.{lt-ltb, le-ltb, le-leb, lt-leb, eq-eqb, ne-eqb}
+use borrow.Author.Tests.{lt-ltb, le-leb, lt-leb, eq-eqb, ne-eqb}
 use Rattle.rules.specs.Words.{part, tabFrom}
 use Rattle.rules.specs.Claim.{Holds, test}
 use Rattle.rules.specs.Layout.{maxCells, cells, levelOf, flows, configuration, flowMatrix}
@@ -45,14 +45,14 @@ shaped-for t n e =
     and-both (test (configured (configuration t))) _ a b
 
 module _ (t : List ℕ) (n count : ℕ) where
-  pub begun-long : mostRecords < count → noFlow ≡ begun t n count
+  pub begun-long : ltb mostRecords count ≡ true → noFlow ≡ begun t n count
   unfolding begun
-  begun-long l = sym (cond-true (ltb mostRecords count) noFlow _ (lt-ltb mostRecords count l))
+  begun-long l = sym (cond-true (ltb mostRecords count) noFlow _ l)
 
-  module _ (short : count ≤ mostRecords) where
+  module _ (short : ltb mostRecords count ≡ false) where
     begun-short : begun t n count ≡ cond (test (wellFormed t n)) (flowMatrix (configuration t)) noFlow
     unfolding begun
-    begun-short = cond-false (ltb mostRecords count) noFlow _ (le-ltb mostRecords count short)
+    begun-short = cond-false (ltb mostRecords count) noFlow _ short
 
     pub begun-good : {x : Bool} {m : List (List Bool)} (m₀ : List (List Bool)) → x ≡ test (wellFormed t n) → x ≡ true
         → m ≡ cond (test (canSetUp t n)) (flowMatrix (configuration t)) m₀ → m ≡ begun t n count
@@ -69,15 +69,15 @@ abbrev corner : List (List Bool) → Bool
 corner m = getD (getD m 0 []) 0 false
 
 module _ (m : List (List Bool)) (count : ℕ) where
-  pub verdict-long : mostRecords < count → XbParam ≡ verdictOf m count
+  pub verdict-long : ltb mostRecords count ≡ true → XbParam ≡ verdictOf m count
   unfolding verdictOf
-  verdict-long l = sym (cond-true (ltb mostRecords count) XbParam _ (lt-ltb mostRecords count l))
+  verdict-long l = sym (cond-true (ltb mostRecords count) XbParam _ l)
 
-  pub verdict-by : count ≤ mostRecords → {x : Bool} → x ≡ corner m → (b : Bool) → x ≡ b → cond b XOK XbTab ≡ verdictOf m count
+  pub verdict-by : ltb mostRecords count ≡ false → {x : Bool} → x ≡ corner m → (b : Bool) → x ≡ b → cond b XOK XbTab ≡ verdictOf m count
   unfolding verdictOf
   verdict-by l xe b f =
       let e : corner m ≡ b = sym xe ∙ f in
-      ap (λ (b : Bool). cond b XOK XbTab) (sym e) ∙ sym (cond-false (ltb mostRecords count) XbParam _ (le-ltb mostRecords count l))
+      ap (λ (b : Bool). cond b XOK XbTab) (sym e) ∙ sym (cond-false (ltb mostRecords count) XbParam _ l)
 
 -- a well-formed table's first cell flows to itself
 corner-flows : (t : List ℕ) (n : ℕ) → test (wellFormed t n) ≡ true → corner (flowMatrix (configuration t)) ≡ true

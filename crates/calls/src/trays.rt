@@ -2,7 +2,8 @@
 ghost use mathlib.Core.Path.{_≡_};
 ghost use mathlib.Core.Bool.{cond};
 ghost use mathlib.Core.List.{[]};
-ghost use lib.Dec.{eqb};
+ghost use lib.Dec.{eqb, ltb};
+ghost use Rattle.rules.specs.Tray.{mostRecords};
 ghost use Rattle.kept.proofs.Recorded.{outsideNumber};
 ghost use Rattle.calls.specs.World.{Known};
 ghost use Rattle.calls.specs.Left.{said};
@@ -27,6 +28,13 @@ use words::wide;
 
 const MOST_RECORDS: usize = 1024;
 
+// "A tray holds up to 1,024."
+fn too_long(count: usize) -> bool
+    ensures { λ r. ⌜ r ≡ ltb mostRecords «count» ⌝ }
+{
+    MOST_RECORDS < count
+}
+
 // The flow matrix of a table on which a tray of so many records is run. Where none is, a matrix in which no cell flows to any, not even to itself. The table stays.
 pub(crate) fn begin(
     t: &mut [u32],
@@ -36,7 +44,7 @@ pub(crate) fn begin(
     ensures { λ m. ⌜ (m ≡ begun (now (t .entry)) «store_bytes» «count») × (now (t .exit) ≡ now (t .entry)) ⌝ }
 {
     let mut m = [[false; MAX_CELLS]; MAX_CELLS];
-    if MOST_RECORDS < count {
+    if too_long(count) {
         return m;
     }
     if table::judge(t, store_bytes, &mut m) {
@@ -49,7 +57,7 @@ pub(crate) fn begin(
 pub(crate) fn verdict(m: [[bool; MAX_CELLS]; MAX_CELLS], count: usize) -> u32
     ensures { λ v. ⌜ v ≡ verdictOf m «count» ⌝ }
 {
-    if MOST_RECORDS < count {
+    if too_long(count) {
         return XB_PARAM;
     }
     if m[0][0] {

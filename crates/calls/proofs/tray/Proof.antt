@@ -1,6 +1,6 @@
 -- `tray` meets its contract: a walk of its MIR, by hand, since a slice of structs is lent. The records' borrow is opened once before the loop and closed once after it; in
--- each turn the table, the store and the bytes are lent again to `run`, each for a lifetime of its own; the matrix is lent once, for a lifetime that begins before the loop
--- and ends after it, and each turn passes a copy of that reference. `Going` says what holds where a turn begins.
+-- each turn the table, the store and the bytes are lent again to `run`, each for a lifetime of its own. The matrix is lent once, for a lifetime from before the loop
+-- to after it, and each turn passes a copy of that reference. `Going` says what holds where a turn begins.
 -- tools/walk.py writes this file: it computes the positions in the context (local k of 26 stands at base + 2 * (26 - k)).
 -- Assumes nothing.
 use mathlib.Core.Bool.{Bool, true, false, cond}
@@ -420,7 +420,8 @@ module _ {M : Type 1} (𝓤 : URA M) (H : Heap 𝓤) (A : Atoms 𝓤) (W : Given
             ⊛ ‵ (LentAgain u8 κ₃ (ζ ∷ []) q₃ γ₃ b₃ o₃ η y))))
             (lends-by u8 κ₃ (ζ ∷ []) q₃ γ₃ b₃ o₃ 𝓤 H A W (named 3) (named 3) y (length bs) (g .bytes-long)) $
             await ! tt $ pick ! (λ η. split ! $
-            -- [bytes lent; bytes kept; ζ; store lent; store kept; β; table lent; table kept; α; the row; …; the matrix's reference; its token]: the reference is copied
+            -- [bytes lent; bytes kept; ζ; store lent; store kept; β; table lent; table kept; α; the row; …; the matrix's reference; θ; the locals]:
+            -- a copy of the reference is passed, and the reference stays
             move ! (13 ∷ []) $ use1 W (‵ shared-matrix ⊛ ‵ shared-matrix)
             (shr-copy 𝓤 H A W (named 3) (θ ∷ []) Rm .twice (at-matrix l₅ μ m) (vptr l₅ 0 ∷ [])) $ split ! $
             move ! (10 ∷ 7 ∷ 4 ∷ 15 ∷ 8 ∷ 5 ∷ 2 ∷ 0 ∷ []) $ group ! 8 $
@@ -449,7 +450,7 @@ module _ {M : Type 1} (𝓤 : URA M) (H : Heap 𝓤) (A : Atoms 𝓤) (W : Given
             split ! $ move ! (1 ∷ []) $ heard ! (Ran (stateOf x u) y z r (ws .0) (ws .1 .0) (ws .1 .1 .0)) (λ ran. fsplit ! $ fsplit ! $
             move ! (1 ∷ []) $ feqL ! (λ lx. move ! (1 ∷ []) $
             fsplit ! $ fsplit ! $ move ! (1 ∷ []) $ feqL ! (λ lu. move ! (1 ∷ []) $ fsplit ! $ fsplit ! $ move ! (1 ∷ []) $ feqL ! (λ ly.
-            -- [the bytes' last list; …; the store's; the table's; the tokens and the result; the matrix's reference; bytes kept; store kept; table kept; the row; …]
+            -- [the bytes' last list; …; the store's; the table's; the tokens and the result; the reference; bytes kept; store kept; table kept; the row; …]
             move ! (4 ∷ []) $ split ! $ move ! (1 ∷ []) $ facts ! R (Is R) (shows 𝓤 H A R) r (w ∷ []) (λ is′.
             let same : w ≡ T′.lowered r = ap only (T′.lowers .val-is r (w ∷ []) is′) in
             land ! (from ! (stop !)) (store ! 29 refl (LL.lawful T.the-type T′.the-laws 𝓤 H A W .typed r _ is′ .0)) $
@@ -467,7 +468,7 @@ module _ {M : Type 1} (𝓤 : URA M) (H : Heap 𝓤) (A : Atoms 𝓤) (W : Given
             use3 W (later (‵ (own₃ (ws .1 .1 .0)) ⊛ ‵ (flft κ₃ q₃)))
             (back-by u8 κ₃ (ζ ∷ []) q₃ γ₃ b₃ o₃ 𝓤 H A W (named 3) (named 3) y (length bs) (g .bytes-long) η (ws .1 .1 .0) room₃ ly) $
             await ! tt $ split ! $
-            -- [the bytes and their token; θ's token; the store's, the table's; …; the matrix's reference; the row; …]: in the order of `I`
+            -- [the bytes, the store and the table, each with its token; θ; …; the matrix's reference; the row; …]: in the order of `I`
             move ! (2 ∷ []) $ split ! $ move ! (1 ∷ 8 ∷ []) $ drop ! $ drop ! $ move ! (8 ∷ 5 ∷ 6 ∷ 3 ∷ 4 ∷ 1 ∷ 2 ∷ 9 ∷ 10 ∷ 11 ∷ 7 ∷ 0 ∷ []) $
             -- the record is stored
             assigns ! (bin ! (load ! (from ! (stop !)) (look ! 48 refl)) (lit ! tt) (record { fits = at-fits })) (from ! (stop !)) (store ! 32 refl
@@ -511,7 +512,9 @@ module _ {M : Type 1} (𝓤 : URA M) (H : Heap 𝓤) (A : Atoms 𝓤) (W : Given
             move ! (11 ∷ []) $ lft-end ! tt $ move ! (11 ∷ []) $ drop ! $ move ! (0 ∷ 53 ∷ []) $
             use2 W (later (‵ (fat fullShare matrixTy l₅ 0 wm)))
             (regains-by (Array bool 16) 16 (θ ∷ []) m l₅ 𝓤 H A W wm m-is (array-vals (array-vals bool-vals)) matrix-tells) $ await ! tt $
-            move ! (1 ∷ 2 ∷ 3 ∷ 4 ∷ 5 ∷ 6 ∷ 7 ∷ 8 ∷ 9 ∷ 10 ∷ 11 ∷ 12 ∷ 13 ∷ 14 ∷ 15 ∷ 16 ∷ 17 ∷ 18 ∷ 19 ∷ 20 ∷ 21 ∷ 22 ∷ 23 ∷ 24 ∷ 25 ∷ 26 ∷ 27 ∷ 28 ∷ 29 ∷ 30 ∷ 31 ∷ 32 ∷ 33 ∷ 34 ∷ 35 ∷ 36 ∷ 37 ∷ 38 ∷ 39 ∷ 40 ∷ 41 ∷ 42 ∷ 43 ∷ 44 ∷ 45 ∷ 46 ∷ 47 ∷ 48 ∷ 49 ∷ 50 ∷ 51 ∷ 52 ∷ 0 ∷ []) $
+            move ! (1 ∷ 2 ∷ 3 ∷ 4 ∷ 5 ∷ 6 ∷ 7 ∷ 8 ∷ 9 ∷ 10 ∷ 11 ∷ 12 ∷ 13 ∷ 14 ∷ 15 ∷ 16 ∷ 17 ∷ 18 ∷ 19 ∷ 20 ∷ 21 ∷ 22 ∷ 23 ∷ 24
+            ∷ 25 ∷ 26 ∷ 27 ∷ 28 ∷ 29 ∷ 30 ∷ 31 ∷ 32 ∷ 33 ∷ 34 ∷ 35 ∷ 36 ∷ 37 ∷ 38 ∷ 39 ∷ 40 ∷ 41 ∷ 42 ∷ 43 ∷ 44 ∷ 45 ∷ 46 ∷ 47 ∷ 48
+            ∷ 49 ∷ 50 ∷ 51 ∷ 52 ∷ 0 ∷ []) $
             -- the records' borrow is closed
             move ! (0 ∷ 7 ∷ 8 ∷ 9 ∷ []) $ closes-slice ! tt R rs (t .zs) (g .long) b₂ o₂ $
             returns ! (look ! 61 refl) $ forget ! 31 refl $ forget ! 45 refl $ forget ! 47 refl $ forget ! 49 refl $ forget ! 51 refl $
@@ -620,7 +623,9 @@ module _ {M : Type 1} (𝓤 : URA M) (H : Heap 𝓤) (A : Atoms 𝓤) (W : Given
           ⊛ ‵ (LentWhole (Array bool 16) 16 (θ ∷ []) m l₅))))
           (shares-by (Array bool 16) 16 (θ ∷ []) m l₅ 𝓤 H A W wm m-is (named 3) matrix-makes) $ await ! tt $ pick ! (λ μ. split ! $
           -- [the reference; what is kept of the cell; θ; the row; …; the locals]: in the order of `I`
-          move ! (3 ∷ 4 ∷ 5 ∷ 6 ∷ 7 ∷ 8 ∷ 9 ∷ 10 ∷ 11 ∷ 12 ∷ 0 ∷ 2 ∷ 13 ∷ 14 ∷ 15 ∷ 16 ∷ 17 ∷ 18 ∷ 19 ∷ 20 ∷ 21 ∷ 22 ∷ 23 ∷ 24 ∷ 25 ∷ 26 ∷ 27 ∷ 28 ∷ 29 ∷ 30 ∷ 31 ∷ 32 ∷ 33 ∷ 34 ∷ 35 ∷ 36 ∷ 37 ∷ 38 ∷ 39 ∷ 40 ∷ 41 ∷ 42 ∷ 43 ∷ 44 ∷ 45 ∷ 46 ∷ 47 ∷ 48 ∷ 49 ∷ 50 ∷ 51 ∷ 52 ∷ 53 ∷ 54 ∷ 1 ∷ []) $
+          move ! (3 ∷ 4 ∷ 5 ∷ 6 ∷ 7 ∷ 8 ∷ 9 ∷ 10 ∷ 11 ∷ 12 ∷ 0 ∷ 2 ∷ 13 ∷ 14 ∷ 15 ∷ 16 ∷ 17 ∷ 18 ∷ 19 ∷ 20 ∷ 21 ∷ 22 ∷ 23 ∷ 24
+          ∷ 25 ∷ 26 ∷ 27 ∷ 28 ∷ 29 ∷ 30 ∷ 31 ∷ 32 ∷ 33 ∷ 34 ∷ 35 ∷ 36 ∷ 37 ∷ 38 ∷ 39 ∷ 40 ∷ 41 ∷ 42 ∷ 43 ∷ 44 ∷ 45 ∷ 46 ∷ 47 ∷ 48
+          ∷ 49 ∷ 50 ∷ 51 ∷ 52 ∷ 53 ∷ 54 ∷ 1 ∷ []) $
           first ! $ blocks ! $ loops ! 𝓣 (Less xs ss bs rs m n) (less-ends xs ss bs rs m n)
           (I m wm m-is v (answer-is xs ss rs m (told .0) v ve) (v-is .1) n e
           (is .1) l₀ l₁ l₂ l₃ l₄ l₅ l₆ l₇ l₈ l₉ l₁₀ l₁₁ l₁₂ l₁₃ l₁₄ l₁₅ l₁₆ l₁₇ l₁₈ l₁₉ l₂₀ l₂₁ l₂₂ l₂₃ l₂₄ l₂₅ l₂₆ θ μ)
