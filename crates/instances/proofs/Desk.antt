@@ -1,33 +1,19 @@
 -- The premise of CR 9 is met by something: a guard in the high cell regrades a file into the low one, in two runs that differ in all that the low cell may not see, and the
 -- low caller reads the copy. And the premise is not idle: without it the two runs are told apart.
-use mathlib.Core.Path.{_≡_, refl}
-use mathlib.Core.Bool.{true, false}
+use mathlib.Core.Path.{_≡_, refl, ap, _∙_}
+use mathlib.Core.Bool.{false}
 use mathlib.Core.List.{List, [], _∷_, _++_}
 use Prim.Native.Nat.{ℕ}
-use native.Mathlib.Omega.{arith}
-use lib.Dec.{ltb}
-use lib.ListN.{length, replicate}
-use borrow.Author.Tests.{ltb-true}
+use lib.ListN.{replicate}
 use Rattle.rules.specs.Words.{word2}
-use Rattle.rules.specs.Claim.{test}
-use Rattle.rules.specs.Layout.{Kind, process, file, recordWords, live, serial, owner, bits, links, size, slots, configuration, cellOf, at}
-use Rattle.rules.specs.WellFormed.{wellFormed}
-use Rattle.rules.specs.SetUp.{freshTable}
-use Rattle.rules.specs.Rule.{_≔_, bytesAt, Effect, effect, write, store}
 use Rattle.rules.specs.Call14.{blockWritten, writeBlock}
 use Rattle.rules.specs.Call21.{inGuard, contents, carried, regrade}
-use Rattle.rules.specs.Step.{State, Call, Reply, run}
-use Rattle.rules.specs.Observer.{observer, Closed, Agree, remaining, replies}
+use Rattle.rules.specs.Step.{Call, Reply, run}
+use Rattle.rules.specs.Observer.{observer, Agree, remaining, replies}
 use Rattle.rules.specs.Regrade.{into, accepted, Event, remains, refused, brings, event, events, withoutRefused, guardWithin}
 use Rattle.rules.specs.Copy.{copy}
-use Rattle.laws.proofs.Claims.{holds}
-use Rattle.laws.proofs.Written.{AllOf, nil, also}
-use Rattle.kept.proofs.Kept.{Well}
-use Rattle.secrecy.proofs.CellFlow.{flows-trans}
-use Rattle.secrecy.proofs.Shown.{Up, Ups, UpBytes}
-use Rattle.secrecy.proofs.Apply.{Sized, hide-effect}
-use Rattle.secrecy.proofs.Steps.{from-configuration}
 use Rattle.secrecy.proofs.Demand3.{below-guard}
+use Rattle.instances.proofs.Carried.{judged, repliesJudged, replies-judged, eventsJudged, events-judged}
 use Rattle.instances.proofs.Instance.{open-rules, guarded, fresh, other, secret, fresh-formed, other-formed, fresh-configuration, low-closed, agreed}
 
 -- the rules' definitions that the examples compute with
@@ -71,12 +57,12 @@ abbrev after : List (Event Call)
 after = brings (copy 0 1 page 3 256 420) ∷ remains (call 0 8 2164326401 1 0 []) ∷ remains (call 0 13 1 0 0 (replicate 512 0)) ∷ []
 
 pub told : events desk (observer desk 0) (fresh 2) one-run ≡ before ++ after
-unfolding guarded fresh one-run open-more
-told = refl
+unfolding guarded fresh one-run judged eventsJudged open-more
+told = events-judged desk (observer desk 0) (fresh 2) one-run (fresh-formed 2 refl) ∙ refl
 
 pub other-told : events desk (observer desk 0) (other 2) other-run ≡ refused ∷ before ++ after
-unfolding guarded fresh other secret other-run open-more
-other-told = refl
+unfolding guarded fresh other secret other-run judged eventsJudged open-more
+other-told = events-judged desk (observer desk 0) (other 2) other-run (other-formed 2 refl) ∙ refl
 
 same-told : withoutRefused (events desk (observer desk 0) (fresh 2) one-run) ≡ withoutRefused (events desk (observer desk 0) (other 2) other-run)
 unfolding withoutRefused
@@ -104,9 +90,12 @@ abbrev numbers : List Reply → List ℕ
 numbers [] = []
 numbers (v ∷ vs) = v .answered .error ∷ numbers vs
 
+numbered : (ks : List Call) → numbers (replies desk (observer desk 0) (fresh 2) ks) ≡ numbers (repliesJudged desk (observer desk 0) (fresh 2) ks)
+numbered ks = ap (λ (x : List Reply). numbers x) (replies-judged desk (observer desk 0) (fresh 2) ks (fresh-formed 2 refl))
+
 pub told-apart : (numbers (replies desk (observer desk 0) (fresh 2) copied) ≡ 0 ∷ []) × (numbers (replies desk (observer desk 0) (fresh 2) uncopied) ≡ 12 ∷ [])
-unfolding guarded fresh copied uncopied open-more
-told-apart = (refl, refl)
+unfolding guarded fresh copied uncopied judged repliesJudged open-more
+told-apart = (numbered copied ∙ refl, numbered uncopied ∙ refl)
 
 -- nor is its other half: where the guard cell is the low one, a low regrade into the high cell is told of the high cell's room
 abbrev pub low-desk : List ℕ
@@ -121,5 +110,8 @@ firsts (v ∷ vs) = v .answered .first ∷ firsts vs
 
 pub room-told : (firsts (replies low-desk (observer low-desk 0) (fresh 1) upward) ≡ 2164260865 ∷ 2164391937 ∷ [])
     × (firsts (replies low-desk (observer low-desk 0) (other 1) upward) ≡ 2164260865 ∷ 2164457473 ∷ [])
-unfolding guarded fresh other secret upward open-more
-room-told = (refl, refl)
+unfolding guarded fresh other secret upward judged repliesJudged open-more
+room-told = (
+  ap (λ (x : List Reply). firsts x) (replies-judged low-desk (observer low-desk 0) (fresh 1) upward (fresh-formed 1 refl)) ∙ refl,
+  ap (λ (x : List Reply). firsts x) (replies-judged low-desk (observer low-desk 0) (other 1) upward (other-formed 1 refl)) ∙ refl,
+)

@@ -1,14 +1,15 @@
 -- Demand 3 speaks of something: two well-formed tables that differ in the high cell, and document 01's listing run on them. The tables may have a guard cell, for Desk.
-use mathlib.Core.Path.{_≡_, refl}
-use mathlib.Core.Bool.{true, false}
+use mathlib.Core.Path.{_≡_, refl, _∙_}
+use mathlib.Core.Bool.{true, false, _&&_}
 use mathlib.Core.List.{List, [], _∷_, _++_}
-use Prim.Native.Nat.{ℕ, zero, suc, _+_, _*_}
+use Prim.Native.Nat.{ℕ, _+_, _*_}
 use native.Mathlib.Omega.{arith}
-use lib.Dec.{ltb}
+use lib.Dec.{ltb, leb}
 use lib.ListN.{length, replicate}
-use borrow.Author.Tests.{ltb-true}
+use borrow.Author.Tests.{ltb-true, le-leb}
 use Rattle.rules.specs.Words.{sumBelow}
 use Rattle.rules.specs.Layout.{Kind, process, file, recordWords, live, serial, owner, bits, links, size, cells, slots, guard, cellWord, configuration, firstSlot, cellOf, at, rd}
+use Rattle.rules.specs.Claim.{test}
 use Rattle.rules.specs.WellFormed.{wellFormed}
 use Rattle.rules.specs.SetUp.{canSetUp, firstProcesses, freshTable, setUpTable}
 use Rattle.rules.specs.Step.{State, Call, Reply, answer, reply, run}
@@ -23,6 +24,7 @@ use Rattle.secrecy.proofs.Shown.{Up, Ups, UpBytes}
 use Rattle.secrecy.proofs.Apply.{Sized, hide-effect}
 use Rattle.secrecy.proofs.Steps.{from-configuration}
 use Rattle.secrecy.proofs.Demand3.{no-guard}
+use Rattle.instances.proofs.Carried.{judged, repliesJudged, replies-judged}
 
 -- the rules' definitions that the examples compute with: to open this is to open them
 unfoldable pub open-rules : Unit {0}
@@ -55,19 +57,20 @@ differ g = (refl, refl)
 
 -- ---- the premises of demand 3 are met, for an observer in the low cell, whichever cell is the guard's
 
-pub fresh-formed : (g : ℕ) → ltb g 3 ≡ true → Well (fresh g)
+-- of the guard word the definition asks one thing alone: the rest is computed once, for every guard
+fresh-tested : (g : ℕ) → test (wellFormed (fresh g .table) (length (fresh g .store))) ≡ ((leb g 2 && true) && true) && true
 unfolding guarded fresh open-rules
-fresh-formed zero l = holds (wellFormed (fresh 0 .table) (length (fresh 0 .store))) refl
-fresh-formed (suc zero) l = holds (wellFormed (fresh 1 .table) (length (fresh 1 .store))) refl
-fresh-formed (suc (suc zero)) l = holds (wellFormed (fresh 2 .table) (length (fresh 2 .store))) refl
-fresh-formed (suc (suc (suc g))) l = absurd (omega (arith, ltb-true (suc (suc (suc g))) 3 l))
+fresh-tested g = refl
+
+other-tested : (g : ℕ) → test (wellFormed (other g .table) (length (other g .store))) ≡ ((leb g 2 && true) && true) && true
+unfolding other secret guarded fresh open-rules
+other-tested g = refl
+
+pub fresh-formed : (g : ℕ) → ltb g 3 ≡ true → Well (fresh g)
+fresh-formed g l = holds (wellFormed (fresh g .table) (length (fresh g .store))) (fresh-tested g ∙ rw (le-leb g 2 (omega (arith, ltb-true g 3 l))) refl)
 
 pub other-formed : (g : ℕ) → ltb g 3 ≡ true → Well (other g)
-unfolding other secret guarded fresh open-rules
-other-formed zero l = holds (wellFormed (other 0 .table) (length (other 0 .store))) refl
-other-formed (suc zero) l = holds (wellFormed (other 1 .table) (length (other 1 .store))) refl
-other-formed (suc (suc zero)) l = holds (wellFormed (other 2 .table) (length (other 2 .store))) refl
-other-formed (suc (suc (suc g))) l = absurd (omega (arith, ltb-true (suc (suc (suc g))) 3 l))
+other-formed g l = holds (wellFormed (other g .table) (length (other g .store))) (other-tested g ∙ rw (le-leb g 2 (omega (arith, ltb-true g 3 l))) refl)
 
 pub fresh-configuration : (g : ℕ) → configuration (fresh g .table) ≡ guarded g
 unfolding guarded fresh open-rules
@@ -131,8 +134,8 @@ listing =
 
 pub listed : replies hall (λ c. true) (fresh 0) listing
     ≡ said 0 2164260865 0 0 ∷ said 0 0 0 0 ∷ said 0 2164326401 1 0 ∷ said 26 0 0 0 ∷ said 0 0 0 0 ∷ said 12 0 0 512 ∷ said 0 2164260866 0 0 ∷ said 12 0 0 512 ∷ []
-unfolding guarded fresh listing open-rules
-listed = refl
+unfolding guarded fresh listing judged repliesJudged open-rules
+listed = replies-judged hall (λ c. true) (fresh 0) listing (fresh-formed 0 refl) ∙ refl
 
 -- the high calls are others too
 unfoldable pub others : List Call

@@ -1,17 +1,17 @@
 -- Demand 3 of trays with regrades speaks of something: two trays, on the two tables of Desk, that bring the same copy down. And each half of the premise on regrades is
 -- needed: trays that break it, and tell.
-use mathlib.Core.Path.{_≡_, refl, ap}
+use mathlib.Core.Path.{_≡_, refl, ap, _∙_}
 use mathlib.Core.Bool.{Bool}
 use mathlib.Core.List.{List, [], _∷_}
 use Prim.Native.Nat.{ℕ, _≤_}
 use native.Mathlib.Omega.{arith}
 use lib.ListN.{length, replicate}
 use borrow.Author.Tests.{leb-true}
-use Rattle.rules.specs.Copy.{Copy}
 use Rattle.rules.specs.Observer.{observer}
 use Rattle.rules.specs.Regrade.{withoutRefused}
-use Rattle.rules.specs.Tray.{Record, mostRecords, afterTray, remainingIn, asked, Apart, SameParts}
+use Rattle.rules.specs.Tray.{Record, Tray, mostRecords, afterTray, remainingIn, asked, Apart}
 use Rattle.rules.specs.TrayRegrade.{acceptedIn, eventIn, eventsIn}
+use Rattle.promises.proofs.Tray.{tray-runs}
 use Rattle.secrecy.proofs.Tray.{SameTrays, below-guard}
 use Rattle.instances.proofs.TrayInstance.{open-trays, record-of, divided, first-error}
 use Rattle.instances.proofs.Instance.{guarded, fresh, other, secret, fresh-formed, other-formed, fresh-configuration, low-closed, agreed}
@@ -86,7 +86,11 @@ same-remaining = refl
 
 pub regrade-tells : SameTrays desk low one-tray (afterTray (fresh 2) bytes one-tray) (afterTray (fresh 2) bytes uncopied) → ⊥
 unfolding one-tray uncopied guarded fresh bytes open-desk first-error
-regrade-tells same = let z : _≡_ {A = ℕ} 0 12 = ap (λ (rs : List Record). first-error rs) (same .answers) in omega arith
+regrade-tells same =
+    let short : length uncopied ≤ mostRecords = leb-true 2 mostRecords refl in
+    let here = rw (tray-runs (fresh 2) bytes one-tray (fresh-formed 2 refl) one-short, tray-runs (fresh 2) bytes uncopied (fresh-formed 2 refl) short) at same in
+    let z : _≡_ {A = ℕ} 0 12 = ap (λ (rs : List Record). first-error rs) (here .answers) in
+    omega arith
 
 -- where the guard cell is the low one, a low regrade into the high cell is told of the high cell's room: the same tray on two tables that agree
 unfoldable pub upward : List Record
@@ -99,4 +103,8 @@ firsts (r ∷ rs) = r .answer .first ∷ firsts rs
 pub room-told : (firsts (afterTray (fresh 1) bytes upward .records) ≡ 2164260865 ∷ 2164391937 ∷ [])
     × (firsts (afterTray (other 1) bytes upward .records) ≡ 2164260865 ∷ 2164457473 ∷ [])
 unfolding guarded fresh other secret upward bytes open-desk
-room-told = (refl, refl)
+room-told =
+    let short : length upward ≤ mostRecords = leb-true 2 mostRecords refl in (
+      ap (λ (x : Tray). firsts (x .records)) (tray-runs (fresh 1) bytes upward (fresh-formed 1 refl) short) ∙ refl,
+      ap (λ (x : Tray). firsts (x .records)) (tray-runs (other 1) bytes upward (other-formed 1 refl) short) ∙ refl,
+    )

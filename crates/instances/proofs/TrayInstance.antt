@@ -1,21 +1,20 @@
 -- Demand 3 of trays speaks of something: two trays, on the two tables of Instance, whose high records differ. And each of 02's premises is needed: trays that break
 -- one of them, and tell.
 use mathlib.Core.Path.{_≡_, refl, sym, ap, _∙_}
-use mathlib.Core.Bool.{Bool, true, false, cond, _&&_, _||_, not}
+use mathlib.Core.Bool.{Bool, true, false, cond, _&&_, not}
 use mathlib.Core.List.{List, [], _∷_, _++_}
 use Prim.Native.Nat.{ℕ, _+_, _≤_, _<_}
 use native.Mathlib.Omega.{arith}
 use lib.Dec.{leb, ltb, eqb}
 use lib.ListN.{length, getD, replicate}
 use borrow.Author.Tests.{eqb-true, leb-true, ltb-true}
-use Rattle.rules.specs.Words.{bytes2, bytes4}
-use Rattle.rules.specs.Layout.{configuration}
 use Rattle.rules.specs.Call17.{told, status}
-use Rattle.rules.specs.Step.{Answer, answer}
+use Rattle.rules.specs.Step.{answer}
 use Rattle.rules.specs.Observer.{observer}
 use Rattle.rules.specs.Tray.{Record, inside, recordRule, recordStep, Tray, inOrder, mostRecords, trayAnswer, afterTray, staysIn, remainingIn, asked, within, seen, hidden, Apart, SameParts}
 use Rattle.laws.proofs.Tests.{and-left, and-right, or-rest, both-ways, refuted, split, cond-true, cond-false, failed}
 use Rattle.laws.proofs.Below.{all-at}
+use Rattle.promises.proofs.Tray.{tray-runs}
 use Rattle.secrecy.proofs.Tray.{SameTrays, no-guard}
 use Rattle.instances.proofs.Instance.{open-rules, guarded, hall, fresh, other, fresh-formed, other-formed, fresh-configuration, low-closed, agreed, unguarded}
 
@@ -127,20 +126,24 @@ at-work = (rw (fresh-configuration 0) at (no-guard low (fresh 0) (other 0) (fres
       apart′ = night-apart′;
     }) unguarded
 
+-- on a well-formed table the judgement of the table need not be computed
+runs : (x : List ℕ) (rs : List Record) → leb (length rs) mostRecords ≡ true → afterTray (fresh 0) x rs ≡ inOrder (fresh 0) x rs
+runs x rs l = tray-runs (fresh 0) x rs (fresh-formed 0 refl) (leb-true (length rs) mostRecords l)
+
 -- and what it gets: a file and its descriptor; and in its part the status of a process (class 4) of cell 0 at security 1, where the high one finds cell 1 and
 -- security 3 in its own
 pub answered : remainingIn hall low (afterTray (fresh 0) bytes night .records)
     ≡ record { caller = 0; code = 7; a = 420; b = 3; c = 0; offset = 0; length = 0; answer = answer 0 2164260865 0 }
     ∷ record { caller = 0; code = 17; a = 0; b = 0; c = 0; offset = 0; length = 16; answer = answer 0 0 0 } ∷ []
 unfolding night guarded fresh bytes open-trays
-answered = refl
+answered = ap (λ (x : Tray). remainingIn hall low (x .records)) (runs bytes night refl) ∙ refl
 
-abbrev found : ℕ → List ℕ
-found at = let x : List ℕ = afterTray (fresh 0) bytes night .bytes in getD x at 0 ∷ getD x (at + 1) 0 ∷ getD x (at + 8) 0 ∷ []
+abbrev found : Tray → ℕ → List ℕ
+found x at = getD (x .bytes) at 0 ∷ getD (x .bytes) (at + 1) 0 ∷ getD (x .bytes) (at + 8) 0 ∷ []
 
-pub left-in-parts : (found 0 ≡ 4 ∷ 0 ∷ 1 ∷ []) × (found 16 ≡ 4 ∷ 1 ∷ 3 ∷ [])
+pub left-in-parts : (found (afterTray (fresh 0) bytes night) 0 ≡ 4 ∷ 0 ∷ 1 ∷ []) × (found (afterTray (fresh 0) bytes night) 16 ≡ 4 ∷ 1 ∷ 3 ∷ [])
 unfolding night guarded fresh bytes open-trays
-left-in-parts = (refl, refl)
+left-in-parts = (ap (λ (x : Tray). found x 0) (runs bytes night refl) ∙ refl, ap (λ (x : Tray). found x 16) (runs bytes night refl) ∙ refl)
 
 -- ---- why the premises are needed
 
@@ -153,7 +156,7 @@ alone = asks 0 17 0 0 0 16 ∷ []
 
 pub overlapping-tells : SameTrays hall low over (afterTray (fresh 0) bytes over) (afterTray (fresh 0) bytes alone) → ⊥
 unfolding over alone guarded fresh bytes open-trays
-overlapping-tells same = let e : _≡_ {A = ℕ} 1 0 = same .parts 1 refl in omega arith
+overlapping-tells same = let e : _≡_ {A = ℕ} 1 0 = (rw (runs bytes over refl, runs bytes alone refl) at same) .parts 1 refl in omega arith
 
 unfoldable pub first-error : List Record → ℕ
 first-error [] = 0
@@ -162,7 +165,10 @@ first-error (r ∷ rs) = r .answer .error
 -- byte slices of two lengths: one part lies inside, and the other does not
 pub lengths-tell : SameTrays hall low alone (afterTray (fresh 0) bytes alone) (afterTray (fresh 0) (replicate 8 0) alone) → ⊥
 unfolding alone guarded fresh bytes open-trays first-error
-lengths-tell same = let z : _≡_ {A = ℕ} 0 5 = ap (λ (rs : List Record). first-error rs) (same .answers) in omega arith
+lengths-tell same =
+    let here = rw (runs bytes alone refl, runs (replicate 8 0) alone refl) at same in
+    let z : _≡_ {A = ℕ} 0 5 = ap (λ (rs : List Record). first-error rs) (here .answers) in
+    omega arith
 
 -- byte slices that differ in a low part from the start: a call that ignores its buffer leaves them so
 unfoldable pub idle : List Record
@@ -170,7 +176,7 @@ idle = asks 0 7 420 3 0 1 ∷ []
 
 pub bytes-tell : SameTrays hall low idle (afterTray (fresh 0) (0 ∷ []) idle) (afterTray (fresh 0) (1 ∷ []) idle) → ⊥
 unfolding idle guarded fresh open-trays
-bytes-tell same = let e : _≡_ {A = ℕ} 0 1 = same .parts 0 refl in omega arith
+bytes-tell same = let e : _≡_ {A = ℕ} 0 1 = (rw (runs (0 ∷ []) idle refl, runs (1 ∷ []) idle refl) at same) .parts 0 refl in omega arith
 
 -- a tray that is too long: its records are not answered
 unfoldable pub long : List Record
