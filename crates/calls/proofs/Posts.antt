@@ -10,11 +10,10 @@ use borrow.Author.Tests.{leb-true, leb-false, lt-ltb, le-ltb}
 use Rattle.rules.specs.Words.{word4}
 use Rattle.rules.specs.Layout.{process, configuration, cellOf, flows, flowMatrix, Addr, at, offset, queue, messages, messagesAt, messageAt, messageWords}
 use Rattle.rules.specs.Seid.{indexOf, formed, present, seidAt, orSelf}
-use Rattle.rules.specs.Errors.{XbSz, XbPrSd, XnoAcc, XdapViol, XpostEh}
-use Rattle.rules.specs.Rule.{Refusal, _⇒_, write, firstRefusal}
+use Rattle.rules.specs.Rule.{write, firstRefusal}
 use Rattle.rules.specs.Rights.{mayWrite}
 use Rattle.rules.specs.Find.{inOwnCell}
-use Rattle.rules.specs.Call15.{textBytes, queued, mayPost, post}
+use Rattle.rules.specs.Call15.{queued, mayPost, post}
 use Rattle.laws.proofs.Tests.{passed, failed, and-right}
 use Rattle.levels.proofs.Cells.{matrix-any}
 use Rattle.layout.specs.declared.Header.{Header}
@@ -26,7 +25,8 @@ use Rattle.calls.specs.World.{Known, Sound, wordsOf}
 use Rattle.calls.specs.Seen.{nameOf, namedOf, seenAs}
 use Rattle.calls.specs.Entries.{fourAt}
 use Rattle.calls.specs.Left.{said, ruleAt, Left}
-use Rattle.calls.specs.Refusing.{orRefuse}
+use Rattle.calls.specs.Refusing.{refusing}
+use Rattle.calls.specs.Calls.{postTests}
 use Rattle.calls.proofs.Worlds.{spot, shape}
 use Rattle.calls.proofs.Refusals.{refusing-first, clear-of}
 use Rattle.calls.proofs.Looks.{formed-is, seen-formed, slot-is}
@@ -61,12 +61,6 @@ self-zero : (r : Addr → ℕ) (p : ℕ) → orSelf r p 0 ≡ seidAt r process p
 unfolding orSelf
 self-zero r p = refl
 
--- what refuses a post to the process that is seen: flow says whether the caller's level flows to its
-abbrev postTests : Seen → Bool → ℕ → ℕ → List Refusal
-postTests to flow bytes waiting =
-    (not (eqb bytes textBytes) ⇒ XbSz) ∷ (not (to .formed) ⇒ XbPrSd) ∷ (not flow ⇒ XnoAcc) ∷ (to .own && not (to .present) ⇒ XbPrSd)
-    ∷ (to .own && not (mayWrite (to .rights)) ⇒ XdapViol) ∷ (to .own && leb messages waiting ⇒ XpostEh) ∷ []
-
 -- whether the caller's level flows to the receiver's
 abbrev flowsTo : List ℕ → ℕ → Seen → Bool
 flowsTo t p to = flows (configuration t) (cellOf (configuration t) process p) (to .cell)
@@ -77,16 +71,14 @@ pub record Posted (t : List ℕ) (n : Header) (c : Caller) (a : ℕ) (b : List �
   pub seen : to ≡ seenAs (configuration t) (wordsOf t) (c .slot) process (namedOf n process (orSelf (wordsOf t) (c .slot) a))
   pub waits : waiting ≡ wordsOf t (at process (to .slot) queue)
   pub wide : y ≡ waiting
-  pub told : e ≡ firstRefusal (postTests to (flowsTo t (c .slot) to) (length b) y)
+  pub told : e ≡ firstRefusal (postTests to (length b) (flowsTo t (c .slot) to) (mayWrite (to .rights)) (leb messages y))
 
 pub posted : {t : List ℕ} {n : Header} {c : Caller} → Sound t n c → {m : List (List Bool)} → m ≡ flowMatrix (configuration t) → (a : ℕ) (b : List ℕ)
-    {s waiting y e e2 e3 e4 e5 e6 : ℕ} {to : Seen} {flow allowed : Bool} → s ≡ orSelf (wordsOf t) (c .slot) a
+    {s waiting y e : ℕ} {to : Seen} {flow allowed : Bool} → s ≡ orSelf (wordsOf t) (c .slot) a
     → to ≡ seenAs (configuration t) (wordsOf t) (c .slot) process (namedOf n process s) → waiting ≡ wordsOf t (at process (to .slot) queue) → y ≡ waiting
-    → allowed ≡ mayWrite (to .rights) → flow ≡ getD (getD m (c .cell) []) (to .cell) false → e ≡ orRefuse 0 (not (eqb (length b) textBytes)) XbSz
-    → e2 ≡ orRefuse e (not (to .formed)) XbPrSd
-    → e3 ≡ orRefuse e2 (not flow) XnoAcc → e4 ≡ orRefuse e3 (to .own && not (to .present)) XbPrSd → e5 ≡ orRefuse e4 (to .own && not allowed) XdapViol
-    → e6 ≡ orRefuse e5 (to .own && leb messages y) XpostEh → Posted t n c a b to waiting y e6
-posted {t} {n} {c} sound {m} matrix a b {y = y} {to = to} {flow} named seen waits wide may flow-is long form level here bits full =
+    → allowed ≡ mayWrite (to .rights) → flow ≡ getD (getD m (c .cell) []) (to .cell) false
+    → e ≡ refusing 0 (postTests to (length b) flow allowed (leb messages y)) → Posted t n c a b to waiting y e
+posted {t} {n} {c} sound {m} matrix a b {y = y} {to = to} {flow} {allowed} named seen waits wide may flow-is e-is =
     let f : flow ≡ flowsTo t (c .slot) to
     = flow-is ∙ rw (matrix, sound .home) (matrix-any (configuration t) (shape (sound .known) .few-cells) _ _) in
     record {
@@ -94,7 +86,7 @@ posted {t} {n} {c} sound {m} matrix a b {y = y} {to = to} {flow} named seen wait
       seen = rw (← named) seen;
       waits = waits;
       wide = wide;
-      told = rw (← f, full, bits, may, here, level, form, long) (refusing-first (postTests to flow (length b) y) refl);
+      told = rw (← f, ← may) (e-is ∙ refusing-first (postTests to (length b) flow allowed (leb messages y)) refl);
     }
 
 module _ {t : List ℕ} {n : Header} {c : Caller} {a : ℕ} {b : List ℕ} {to : Seen} {waiting y e : ℕ} (p : Posted t n c a b to waiting y e) where
@@ -102,7 +94,7 @@ module _ {t : List ℕ} {n : Header} {c : Caller} {a : ℕ} {b : List ℕ} {to :
   named = orSelf (wordsOf t) (c .slot) a
 
   by-form : (f : Bool) → formed (configuration t) process named ≡ f
-      → firstRefusal (postTests to (flowsTo t (c .slot) to) (length b) y) ≡ firstRefusal (ruleAt t (λ h q. post h q (c .slot) a b) .refusals)
+      → firstRefusal (postTests to (length b) (flowsTo t (c .slot) to) (mayWrite (to .rights)) (leb messages y)) ≡ firstRefusal (ruleAt t (λ h q. post h q (c .slot) a b) .refusals)
   unfolding post present mayPost named
   by-form true f = rw (p .wide, p .waits, seen-formed (p .sound .known) (c .slot) process named (p .seen) f, f)
   by-form false f = rw (formed-is (p .sound .known) (c .slot) process named (p .seen), f)
@@ -118,7 +110,7 @@ module _ {t : List ℕ} {n : Header} {c : Caller} {a : ℕ} {b : List ℕ} {to :
     formed-past : formed (configuration t) process named ≡ true
     unfolding named
     formed-past =
-        let clear = clear-of (postTests to (flowsTo t (c .slot) to) (length b) y) refl (sym (p .told) ∙ none) in
+        let clear = clear-of (postTests to (length b) (flowsTo t (c .slot) to) (mayWrite (to .rights)) (leb messages y)) refl (sym (p .told) ∙ none) in
         passed _ (rw (formed-is (p .sound .known) (c .slot) process named (p .seen)) at (clear .1 .0))
 
     test-is : (to .present && (mayWrite (to .rights) && not (leb messages y)))

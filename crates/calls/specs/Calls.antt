@@ -6,9 +6,10 @@ use lib.Dec.{leb, eqb}
 use Rattle.rules.specs.Layout.{Kind, process, file, Addr, at, entries, heldAt}
 use Rattle.rules.specs.Modes.{validModes, reads, writes}
 use Rattle.rules.specs.Rights.{mayRead, mayWrite, lacks, access}
-use Rattle.rules.specs.Errors.{XbadModes, XdapViol, XbadOd, XnoObj}
+use Rattle.rules.specs.Errors.{XbPrSd, XbSz, XbadModes, XnoAcc, XdapViol, XbadOd, XnoObj, XpostEh}
 use Rattle.rules.specs.Rule.{Refusal, _⇒_, effect, Rule, rule}
 use Rattle.rules.specs.Find.{givenUp}
+use Rattle.rules.specs.Call15.{textBytes}
 use Rattle.calls.specs.declared.objects.Seen.{Seen}
 use Rattle.calls.specs.Seen.{findTests}
 
@@ -28,6 +29,12 @@ openTests f b =
 abbrev pub useTests : ℕ → ℕ → Bool → ℕ → Seen → Bool → Bool → List Refusal
 useTests a s held number f read write =
     (leb entries a ⇒ XbadOd) ∷ (eqb s 0 ⇒ XbadOd) ∷ (not held ⇒ number) ∷ (not (f .present) ⇒ XnoObj) ∷ (lacks (f .rights) read write ⇒ XdapViol) ∷ []
+
+-- call 15, to the process that is seen: the bytes of the text; whether the caller's cell flows to it; whether its bits allow the post; whether its queue is full
+abbrev pub postTests : Seen → ℕ → Bool → Bool → Bool → List Refusal
+postTests to bytes flow allowed full =
+    (not (eqb bytes textBytes) ⇒ XbSz) ∷ (not (to .formed) ⇒ XbPrSd) ∷ (not flow ⇒ XnoAcc) ∷ (to .own && not (to .present) ⇒ XbPrSd)
+    ∷ (to .own && not allowed ⇒ XdapViol) ∷ (to .own && full ⇒ XpostEh) ∷ []
 
 -- call 3: "Access is the owner's read and write bits"
 abbrev pub ownerAccess : ℕ → ℕ

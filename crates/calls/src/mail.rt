@@ -11,6 +11,8 @@ ghost use Rattle.rules.specs.Call15.{queued, post};
 ghost use Rattle.rules.specs.Call16.{receive};
 ghost use Rattle.calls.specs.World.{Known, Sound, wordsOf};
 ghost use Rattle.calls.specs.Left.{Left, ruleAt, bufferOf};
+ghost use Rattle.calls.specs.Refusing.{refusing};
+ghost use Rattle.calls.specs.Calls.{postTests};
 ghost use Rattle.calls.specs.Mail.{shownAt, movedAt};
 use crate::Answer;
 use crate::Caller;
@@ -22,6 +24,7 @@ use crate::base::refused;
 use crate::base::write;
 use crate::entries::clear;
 use crate::entries::put_four;
+use crate::objects::Seen;
 use crate::objects::flow_at;
 use crate::objects::look;
 use crate::objects::or_self;
@@ -131,7 +134,19 @@ fn deliver(t: &mut [u32], n: Header, q: u32, me: u32, waiting: u32, b: &[u8])
     put_four(t, from, me, word_at(b, 0), word_at(b, 4), word_at(b, 8));
 }
 
-// 15. Post. A higher receiver's absence, bits or full queue are not told.
+// What refuses a post to the process that is seen. A higher receiver's absence, bits or full queue are not told.
+fn may_post(to: Seen, bytes: usize, flows: bool, allowed: bool, full: bool) -> u32
+    ensures { λ r. ⌜ r ≡ refusing 0 (postTests to bytes flows allowed full) ⌝ }
+{
+    let e = or_refuse(XOK, bytes != TEXT_BYTES, XB_SZ);
+    let e = or_refuse(e, !to.formed, XB_PR_SD);
+    let e = or_refuse(e, !flows, XNO_ACC);
+    let e = or_refuse(e, to.own & !to.present, XB_PR_SD);
+    let e = or_refuse(e, to.own & !allowed, XDAP_VIOL);
+    or_refuse(e, to.own & full, XPOST_EH)
+}
+
+// 15. Post.
 pub(crate) fn post(
     t: &mut [u32],
     n: Header,
@@ -148,12 +163,8 @@ pub(crate) fn post(
     let waiting = read(t, n, Kind::Process, to.slot, QUEUE);
     let full = MESSAGES <= wide(waiting);
     let allowed = may_write(to.rights);
-    let e = or_refuse(XOK, buffer.len() != TEXT_BYTES, XB_SZ);
-    let e = or_refuse(e, !to.formed, XB_PR_SD);
-    let e = or_refuse(e, !flow_at(&m, c.cell, to.cell), XNO_ACC);
-    let e = or_refuse(e, to.own & !to.present, XB_PR_SD);
-    let e = or_refuse(e, to.own & !allowed, XDAP_VIOL);
-    let e = or_refuse(e, to.own & full, XPOST_EH);
+    let flows = flow_at(&m, c.cell, to.cell);
+    let e = may_post(to, buffer.len(), flows, allowed, full);
     if e != XOK {
         return refused(e);
     }

@@ -9,30 +9,23 @@ use Rattle.calls.proofs.mail.post.Statement.{statement}
 use Rattle.calls.proofs.mail.post.Tie as tie
 
 -- what the code has seen, and the number that it has found
-abbrev flowed : tie.After-or-refuse6 → tie.After-flow-at
-flowed c = c .before .before .before .before .before .before .before .before
+abbrev allowed : tie.After-may-post → tie.After-may-write
+allowed c = c .before .before .before
 
-abbrev allowed : tie.After-or-refuse6 → tie.After-may-write
-allowed c = flowed c .before .before .before .before .before
-
-abbrev seen : tie.After-or-refuse6 → tie.After-look
+abbrev seen : tie.After-may-post → tie.After-look
 seen c = allowed c .before .before .before .before
 
-abbrev start : tie.After-or-refuse6 → tie.Start
+abbrev start : tie.After-may-post → tie.Start
 start c = seen c .before .before .before .before .before .before .before
 
-abbrev waited : tie.After-or-refuse6 → tie.After-wide
+abbrev waited : tie.After-may-post → tie.After-wide
 waited c = allowed c .before
 
-judged : (c : tie.After-or-refuse6) → Posted (start c .args .t .now) (start c .args .n) (start c .args .c) (start c .args .a) (start c .args .buffer .now)
-    (seen c .look .result)
-    (waited c .before .read .result) (waited c .wide .result) (c .or-refuse6 .result)
+judged : (c : tie.After-may-post) → Posted (start c .args .t .now) (start c .args .n) (start c .args .c) (start c .args .a) (start c .args .buffer .now)
+    (seen c .look .result) (waited c .before .read .result) (waited c .wide .result) (c .may-post .result)
 judged c =
     posted (start c .pre .0) (start c .pre .1) _ _ (seen c .before .before .before .or-self .ensures) (seen c .look .ensures) (waited c .before .read .ensures)
-    (waited c .wide .ensures)
-    (allowed c .may-write .ensures) (flowed c .flow-at .ensures) (flowed c .before .before .before .before .or-refuse .ensures) (flowed c .before .before .or-refuse2 .ensures)
-    (c .before .before .before .before .before .before .before .or-refuse3 .ensures) (c .before .before .before .before .or-refuse4 .ensures)
-    (c .before .before .or-refuse5 .ensures) (c .or-refuse6 .ensures)
+    (waited c .wide .ensures) (allowed c .may-write .ensures) (c .before .flow-at .ensures) (c .may-post .ensures)
 
 or-self-requires : tie.Need-or-self-requires
 or-self-requires c κs = search needs
@@ -49,28 +42,13 @@ wide-requires c κs = search needs
 may-write-requires : tie.Need-may-write-requires
 may-write-requires c κs = search needs
 
-or-refuse-requires : tie.Need-or-refuse-requires
-or-refuse-requires c κs = search needs
-
-or-refuse-requires-2 : tie.Need-or-refuse-requires-2
-or-refuse-requires-2 c κs = search needs
-
 flow-at-requires : tie.Need-flow-at-requires
 flow-at-requires c κs =
-    let at-may-write = c .before .before .before .before in let at-look = at-may-write .before .before .before .before in
+    let at-may-write = c .before in let at-look = at-may-write .before .before .before .before in
     let at-start = at-look .before .before .before .before .before .before .before in sixteen _ (at-start .pre .1)
 
-or-refuse-requires-3 : tie.Need-or-refuse-requires-3
-or-refuse-requires-3 c κs = search needs
-
-or-refuse-requires-4 : tie.Need-or-refuse-requires-4
-or-refuse-requires-4 c κs = search needs
-
-or-refuse-requires-5 : tie.Need-or-refuse-requires-5
-or-refuse-requires-5 c κs = search needs
-
-or-refuse-requires-6 : tie.Need-or-refuse-requires-6
-or-refuse-requires-6 c κs = search needs
+may-post-requires : tie.Need-may-post-requires
+may-post-requires c κs = search needs
 
 refused-requires : tie.Need-refused-requires
 refused-requires c κs = search needs
@@ -114,13 +92,8 @@ post-spec =
     read-requires
     wide-requires
     may-write-requires
-    or-refuse-requires
-    or-refuse-requires-2
     flow-at-requires
-    or-refuse-requires-3
-    or-refuse-requires-4
-    or-refuse-requires-5
-    or-refuse-requires-6
+    may-post-requires
     refused-requires
     same-length
     returns
