@@ -7,13 +7,26 @@
 set -uo pipefail
 cd "$(dirname "$0")"
 work=target/stand-in
-export OPT_LEVEL=1 CODEGEN_UNITS=16 TRIAL_CALLS=${TRIAL_CALLS:-400000} TRIAL_RUNS=${TRIAL_RUNS:-3000} TRIAL_SCRIPTS=${TRIAL_SCRIPTS:-800} TRIAL_TRAYS=${TRIAL_TRAYS:-1500}
+# All stand-ins are built at one place, so that rustc compiles anew only what the fault changes in the one before.
+tried=$work/tried
+export STAND_IN_FLAGS="-C opt-level=1 -C codegen-units=16 -C lto=off -C incremental=$work/incremental"
+export TRIAL_CALLS=${TRIAL_CALLS:-400000} TRIAL_RUNS=${TRIAL_RUNS:-3000} TRIAL_SCRIPTS=${TRIAL_SCRIPTS:-800} TRIAL_TRAYS=${TRIAL_TRAYS:-1500}
 
 cargo build --release --offline --locked --quiet --package trial --example try_library || exit 2
 program=${CARGO_TARGET_DIR:-target}/release/examples/try_library
 
-try() { # STAND-IN TRIAL: the trial's status
-    "$program" "$work/$1" "$2" >"$work/$1/$2.log" 2>&1
+build() { # [EDIT]
+    rm -rf "$tried"
+    ./stand-in.sh "$tried" "$@"
+}
+
+try() { # TRIAL: its status
+    "$program" "$tried" "$1" >"$tried/$1.log" 2>&1
+}
+
+keep() { # NAME: the stand-in and what was said of it, to be looked at
+    rm -rf "${work:?}/$1"
+    mv "$tried" "$work/$1"
 }
 
 drawn() { # N NAME..: so many of the names, by the commit
@@ -30,11 +43,11 @@ names=("$@")
 [ $# -gt 0 ] || names=("${all[@]}")
 [ "${1:-}" != --drawn ] || names=($(drawn "$2" "${all[@]}" | sort))
 
-./stand-in.sh "$work/sound" || exit 2
+build || exit 2
 failed=0
 for trial in differential secrecy trays images replay; do
-    TRIAL_CALLS=20000 TRIAL_RUNS=300 TRIAL_SCRIPTS=100 TRIAL_TRAYS=300 TRIAL_IMAGES=20 try sound "$trial"
-    [ $? = 0 ] || { echo "the sound stand-in fails $trial: see host/$work/sound/$trial.log"; exit 1; }
+    TRIAL_CALLS=20000 TRIAL_RUNS=300 TRIAL_SCRIPTS=100 TRIAL_TRAYS=300 TRIAL_IMAGES=20 try "$trial"
+    [ $? = 0 ] || { keep sound; echo "the sound stand-in fails $trial: see host/$work/sound/$trial.log"; exit 1; }
 done
 
 for name in "${names[@]}"; do
@@ -42,13 +55,14 @@ for name in "${names[@]}"; do
     parts=library
     [[ " ${trials[*]} " != *" replay "* ]] || parts="library replay"
     [ "${trials[*]}" != replay ] || parts=replay
-    PARTS=$parts ./stand-in.sh "$work/$name" "faults/$name.edit" || { failed=1; continue; }
+    PARTS=$parts build "faults/$name.edit" || { failed=1; continue; }
     missed=()
     for trial in "${trials[@]}"; do
-        try "$name" "$trial"
+        try "$trial"
         [ $? = 101 ] || missed+=("$trial")
     done
     if [ ${#missed[@]} -gt 0 ]; then
+        keep "$name"
         echo "$name: NOT CAUGHT by ${missed[*]}: see host/$work/$name"
         failed=1
     else

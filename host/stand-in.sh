@@ -4,8 +4,8 @@
 #
 #   stand-in.sh FOLDER [EDIT]     writes FOLDER/libmonitor.so and FOLDER/replay
 #
-# An edit has the lines 'file:', 'old:' and 'new:', and may have 'after:', a text behind which the old line is looked for. OPT_LEVEL is
-# rustc's, 3 by default, and CODEGEN_UNITS too, 1 by default; PARTS says which of 'library' and 'replay' are built, both by default.
+# An edit has the lines 'file:', 'old:' and 'new:', and may have 'after:', a text behind which the old line is looked for.
+# STAND_IN_FLAGS are rustc's, by default those of a release; PARTS says which of 'library' and 'replay' are built, both by default.
 set -euo pipefail
 here=$(cd "$(dirname "$0")" && pwd)
 folder=$1
@@ -25,20 +25,22 @@ field() { # the text after a line's label, spaces and all
 if [ -n "$edit" ]; then
     file="$folder/$(field file)" old=$(field old) new=$(field new) after=$(field after)
     text=$(<"$file")
+    # A text is looked for with %%, which leaves what stands before it: # would take bash a second.
     head=""
     if [ -n "$after" ]; then
-        rest=${text#*"$after"}
-        [ "$rest" != "$text" ] || { echo "$edit: no text '$after'" >&2; exit 2; }
-        head=${text%"$rest"}
-        text=$rest
+        head=${text%%"$after"*}
+        [ "$head" != "$text" ] || { echo "$edit: no text '$after'" >&2; exit 2; }
+        head+=$after
     fi
-    rest=${text#*"$old"}
-    [ "$rest" != "$text" ] || { echo "$edit: no line '$old'" >&2; exit 2; }
-    [ -n "$after" ] || [ "${rest#*"$old"}" = "$rest" ] || { echo "$edit: more than one line '$old'" >&2; exit 2; }
-    printf '%s%s%s%s\n' "$head" "${text%"$old$rest"}" "$new" "$rest" >"$file"
+    rest=${text:${#head}}
+    before=${rest%%"$old"*}
+    [ "$before" != "$rest" ] || { echo "$edit: no line '$old'" >&2; exit 2; }
+    rest=${rest:${#before}+${#old}}
+    [ -n "$after" ] || [[ $rest != *"$old"* ]] || { echo "$edit: more than one line '$old'" >&2; exit 2; }
+    printf '%s%s%s%s\n' "$head" "$before" "$new" "$rest" >"$file"
 fi
 
-compile() { rustc --edition 2024 -A warnings -C opt-level="${OPT_LEVEL:-3}" -C codegen-units="${CODEGEN_UNITS:-1}" "$@"; }
+compile() { rustc --edition 2024 -A warnings ${STAND_IN_FLAGS:--C opt-level=3 -C codegen-units=1} "$@"; }
 for part in ${PARTS:-library replay}; do
     case $part in
     library) compile --crate-type cdylib --crate-name monitor -o "$folder/libmonitor.so" "$folder/src/library.rs" ;;
