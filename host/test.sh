@@ -6,12 +6,24 @@
 #
 #   test.sh [FOLDER]     with FOLDER, its library and its programs are tested instead: a stand-in's, say, which has no logcheck
 set -euo pipefail
+folder=${1:+$(cd "$1" && pwd)}
 cd "$(dirname "$0")"
 unset MONITOR_LIB_DIR MONITOR_REPLAY MONITOR_LOGCHECK
-if [ $# -gt 0 ]; then
-    folder=$(cd "$1" && pwd)
+if [ -n "$folder" ]; then
     export MONITOR_LIB_DIR=$folder MONITOR_REPLAY=$folder/replay MONITOR_LOGCHECK=$folder/logcheck LD_LIBRARY_PATH=$folder
 fi
+# Cargo passes over a test in src/, and over a file of tests that main.rs does not name.
+if grep -rn '#\[test\]' src plain/src trial/src; then
+    echo "host: a test in src/ is not run: it belongs in tests/" >&2
+    exit 1
+fi
+for file in {.,plain,trial}/tests/all/*.rs; do
+    name=$(basename "$file" .rs)
+    if [ "$name" != main ] && ! grep -qx "mod $name;" "$(dirname "$file")/main.rs"; then
+        echo "host: $file is not run: main.rs does not name it" >&2
+        exit 1
+    fi
+done
 cargo test --release --offline --locked
 for example in night_log sunday; do
     cargo run --release --offline --locked --quiet --example "$example" | diff - "examples/$example.txt"

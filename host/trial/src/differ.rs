@@ -11,15 +11,15 @@ use plain::table::*;
 use plain::{Kind, Request, Shape};
 use std::collections::BTreeMap;
 
-pub struct Differ<'a, M> {
-    pub monitor: &'a M,
+pub struct Differ<'a> {
+    pub monitor: &'a dyn Monitor,
     pub rng: Rng,
     pub tally: Tally,
     pub calls: u64,
 }
 
-impl<'a, M: Monitor> Differ<'a, M> {
-    pub fn new(monitor: &'a M, rng: Rng) -> Self {
+impl<'a> Differ<'a> {
+    pub fn new(monitor: &'a dyn Monitor, rng: Rng) -> Self {
         Differ { monitor, rng, tally: Tally::default(), calls: 0 }
     }
 
@@ -195,7 +195,7 @@ impl<'a, M: Monitor> Differ<'a, M> {
     }
 }
 
-fn same_setup(monitor: &impl Monitor, world: World) {
+fn same_setup(monitor: &dyn Monitor, world: World) {
     let right = world.store.len();
     // Other lengths of the store too, some of which are right only modulo 2^32.
     for store_bytes in [right, right + 512, right + (1 << 32), usize::MAX, 0] {
@@ -217,7 +217,7 @@ pub struct Agreed {
 
 /// Makes one call with the monitor on one world and with the plain monitor on the other, and compares all that is left: the answer
 /// of both, or in what they differ. Before it, the same process has a view by the call's first two arguments.
-pub fn same_call(monitor: &impl Monitor, ours: &mut World, theirs: &mut World, call: &Call) -> Result<Agreed, String> {
+pub fn same_call(monitor: &dyn Monitor, ours: &mut World, theirs: &mut World, call: &Call) -> Result<Agreed, String> {
     let view = same_view(monitor, ours, theirs, &call.request)?;
     let (mut our_buffer, mut their_buffer) = (call.buffer.clone(), call.buffer.clone());
     let answer = monitor.call(&mut ours.table, &mut ours.store, &call.request, &mut our_buffer);
@@ -236,7 +236,7 @@ pub fn same_call(monitor: &impl Monitor, ours: &mut World, theirs: &mut World, c
 }
 
 /// A view by the monitor on one world, against a read by the plain monitor on the other: number, place and bytes. Its number.
-fn same_view(monitor: &impl Monitor, ours: &World, theirs: &mut World, request: &Request) -> Result<u32, String> {
+fn same_view(monitor: &dyn Monitor, ours: &World, theirs: &mut World, request: &Request) -> Result<u32, String> {
     let &Request { caller, a, b, .. } = request;
     let (error, from, count) = monitor.view(&ours.table, &ours.store, caller, a, b);
     let mut block = [0; BLOCK_BYTES];

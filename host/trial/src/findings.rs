@@ -2,7 +2,7 @@
 //! or lines flipped, cut, doubled, dropped, moved or added.
 
 use crate::rng::Rng;
-use crate::{scripts, tables};
+use crate::{scripts, tables, write_anew};
 use std::fs::{self, File};
 use std::io::Write;
 use std::path::{Path, PathBuf};
@@ -113,8 +113,8 @@ impl Checker {
     /// What is said where both stand in files.
     pub fn says(&self, input: &[u8], recorded: &[u8]) -> String {
         let (one, other) = (self.folder.join("input"), self.folder.join("recorded"));
-        fs::write(&one, input).expect("the input can be written");
-        fs::write(&other, recorded).expect("the listing can be written");
+        write_anew(&one, input);
+        write_anew(&other, recorded);
         let recorded = File::open(&other).expect("the listing is there");
         ended(Command::new(&self.program).arg(one).stdin(recorded).output().expect("the program runs"))
     }

@@ -12,8 +12,8 @@ use std::fmt;
 const SMALL: usize = 1_500;
 const SOME: usize = 40;
 
-pub struct Images<'a, M> {
-    pub monitor: &'a M,
+pub struct Images<'a> {
+    pub monitor: &'a dyn Monitor,
     pub rng: Rng,
     pub met: Met,
 }
@@ -56,9 +56,8 @@ impl fmt::Display for Met {
     }
 }
 
-/// A number in seven-bit groups; with `longer`, one group too many.
-fn number(value: u32, longer: bool) -> Vec<u8> {
-    let mut bytes = Vec::new();
+/// Puts down a number in seven-bit groups; with `longer`, one group too many.
+fn number(bytes: &mut Vec<u8>, value: u32, longer: bool) {
     let mut rest = value;
     while rest > 127 {
         bytes.push((rest & 127 | 128) as u8);
@@ -69,24 +68,27 @@ fn number(value: u32, longer: bool) -> Vec<u8> {
         *bytes.last_mut().expect("there is a group") |= 128;
         bytes.push(0);
     }
-    bytes
 }
 
 /// The bytes of any table and store, with something done to the number at one place.
-fn bytes(world: &World, at: usize, number_there: impl Fn(u32) -> Vec<u8>) -> Vec<u8> {
-    let words = world.table.iter().enumerate();
-    let mut all: Vec<u8> =
-        words.flat_map(|(i, &word)| if i == at { number_there(word) } else { number(word, false) }).collect();
-    all.extend(&world.store);
+fn bytes(world: &World, at: usize, number_there: impl Fn(&mut Vec<u8>, u32)) -> Vec<u8> {
+    let mut all = Vec::with_capacity(5 * world.table.len() + world.store.len());
+    for (i, &word) in world.table.iter().enumerate() {
+        match i == at {
+            true => number_there(&mut all, word),
+            false => number(&mut all, word, false),
+        }
+    }
+    all.extend_from_slice(&world.store);
     all
 }
 
 fn plain_bytes(world: &World) -> Vec<u8> {
-    bytes(world, usize::MAX, |word| number(word, false))
+    bytes(world, usize::MAX, |all, word| number(all, word, false))
 }
 
-impl<'a, M: Monitor> Images<'a, M> {
-    pub fn new(monitor: &'a M, rng: Rng) -> Self {
+impl<'a> Images<'a> {
+    pub fn new(monitor: &'a dyn Monitor, rng: Rng) -> Self {
         Images { monitor, rng, met: Met::default() }
     }
 
@@ -203,13 +205,13 @@ impl<'a, M: Monitor> Images<'a, M> {
     /// Numbers in another form, and numbers that make no well-formed table.
     fn damaged_numbers(&mut self, world: &World) {
         for at in self.places(world.table.len()) {
-            let mut longer = bytes(world, at, |word| number(word, true));
+            let mut longer = bytes(world, at, |all, word| number(all, word, true));
             self.reload("a longer form", world, &longer);
             if longer.pop().is_some() && !world.store.is_empty() {
                 self.reload("a longer form, and a byte less", world, &longer);
             }
             let last = self.rng.between(16, 127) as u8;
-            let large = bytes(world, at, |_| vec![128, 128, 128, 128, last]);
+            let large = bytes(world, at, |all, _| all.extend([128, 128, 128, 128, last]));
             self.reload("a number too large", world, &large);
         }
         let shape = world.shape();

@@ -1,5 +1,6 @@
 //! Random well-formed tables, damaged ones, random calls and replay scripts; and the trials made with them: one monitor against
-//! another, the invariants, what an observer may learn. A trial takes any `Monitor`, so the plain one is tried as the proved one is.
+//! another, the invariants, what an observer may learn. A trial takes any `Monitor`, so the plain one is tried as the proved one is;
+//! behind a pointer, so that each trial is compiled once and not for every monitor anew.
 
 pub mod calls;
 pub mod damage;
@@ -18,6 +19,9 @@ pub mod trays;
 pub use calls::Call;
 pub use rng::Rng;
 pub use tables::World;
+
+use std::fs;
+use std::path::Path;
 
 /// A monitor under trial, with the shape of the C functions.
 pub trait Monitor {
@@ -91,6 +95,13 @@ pub fn shown(store: &[u8], part: Result<&[u8], u32>) -> (u32, usize, usize) {
         Ok(part) => (0, part.as_ptr().addr() - store.as_ptr().addr(), part.len()),
         Err(error) => (error, 0, 0),
     }
+}
+
+/// Writes a file that may stand there already. It is taken away first: some file systems bring a file that is cut and written again to
+/// the disk at once, and a trial would wait for that more than for anything else.
+pub(crate) fn write_anew(path: &Path, bytes: &[u8]) {
+    drop(fs::remove_file(path));
+    fs::write(path, bytes).expect("the file can be written");
 }
 
 /// A number from the environment, or the one given.

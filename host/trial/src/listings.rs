@@ -1,7 +1,7 @@
 //! A replay program against the plain replay.
 
 use crate::rng::Rng;
-use crate::{Monitor, scripts, tables};
+use crate::{Monitor, scripts, tables, write_anew};
 use std::fs::{self, File};
 use std::io::Write;
 use std::path::PathBuf;
@@ -9,19 +9,19 @@ use std::process::{Command, Output, Stdio};
 use std::thread;
 
 /// A replay program under trial.
-pub struct Program<'a, M> {
+pub struct Program<'a> {
     pub program: PathBuf,
     /// Where inputs may be written; no other trial writes there at the same time.
     pub folder: PathBuf,
     /// For the names in a report.
-    pub names: &'a M,
+    pub names: &'a dyn Monitor,
 }
 
-impl<M: Monitor> Program<'_, M> {
+impl Program<'_> {
     /// The listing of an input that stands in a file.
     fn listing(&self, input: &[u8]) -> Vec<u8> {
         let path = self.folder.join("replay-input");
-        fs::write(&path, input).expect("the input can be written");
+        write_anew(&path, input);
         let input = File::open(&path).expect("the input is there");
         ended(Command::new(&self.program).stdin(input).output().expect("the program runs"))
     }

@@ -207,7 +207,7 @@ pub fn shrunk(input: &[u8], mut differs: impl FnMut(&[u8]) -> bool) -> Vec<u8> {
 }
 
 /// An input as text: tools/script.py makes the same bytes of it again.
-pub fn text(input: &[u8], monitor: &impl Monitor) -> String {
+pub fn text(input: &[u8], monitor: &dyn Monitor) -> String {
     let mut text = String::new();
     let line = |text: &mut String, name: &str, words: &[u32]| {
         let words: Vec<String> = words.iter().map(u32::to_string).collect();
@@ -229,7 +229,7 @@ pub fn text(input: &[u8], monitor: &impl Monitor) -> String {
     text
 }
 
-fn call_text(call: &Call, monitor: &impl Monitor) -> String {
+fn call_text(call: &Call, monitor: &dyn Monitor) -> String {
     let Request { caller, code, a, b, c } = call.request;
     let name = monitor.name(code).unwrap_or_else(|| code.to_string());
     let mut arguments = vec![a, b, c];

@@ -14,6 +14,7 @@ use crate::tables::{self, Limits, World};
 use crate::{Monitor, Plain};
 use plain::table::*;
 use plain::{Kind, Request, Seid, Shape};
+use std::fmt;
 
 /// What a trial has met. All of it must be met, or the trial says little.
 #[derive(Debug, Default)]
@@ -107,14 +108,14 @@ pub(crate) fn view(world: &World, shape: &Shape, seen: &Seen) -> (Vec<u32>, Vec<
     (words, bytes)
 }
 
-struct Run<'a, M> {
-    monitor: &'a M,
+struct Run<'a> {
+    monitor: &'a dyn Monitor,
     shape: &'a Shape,
     seen: &'a Seen,
     world: World,
 }
 
-impl<M: Monitor> Run<'_, M> {
+impl Run<'_> {
     fn make(&mut self, call: &Call) -> ([u32; 3], Vec<u8>) {
         let mut buffer = call.buffer.clone();
         let answer = self.monitor.call(&mut self.world.table, &mut self.world.store, &call.request, &mut buffer);
@@ -293,19 +294,19 @@ pub(crate) fn choose<T: Copy>(rng: &mut Rng, from: impl Iterator<Item = T>) -> O
 
 /// Two runs at their start, if the configuration drawn hides anything from the observer drawn: what is seen is equal, all else is drawn
 /// apart, but that some hidden files have the same blocks.
-fn two_runs<'a, M: Monitor>(
-    monitor: &'a M,
+fn two_runs<'a>(
+    monitor: &'a dyn Monitor,
     rng: &mut Rng,
     world: &World,
     shape: &'a Shape,
     seen: &'a Seen,
-) -> [Run<'a, M>; 2] {
+) -> [Run<'a>; 2] {
     let one = Run { monitor, shape, seen, world: world.clone() };
     let mut other = Run { monitor, shape, seen, world: world.clone() };
     tables::fill(rng, &mut other.world, shape, |cell| !seen[cell]);
     share_blocks(rng, &one.world, &mut other.world, shape, seen);
     assert!(plain::check(&other.world.table, other.world.store.len()).is_some(), "the second table is well formed");
-    compare(&one, &other, "at the start");
+    compare(&one, &other, format_args!("at the start"));
     [one, other]
 }
 
@@ -323,7 +324,7 @@ pub(crate) fn share_blocks(rng: &mut Rng, one: &World, other: &mut World, shape:
 }
 
 /// A regrade into a cell that is seen, by the hidden guard of each run, with the same blocks; if there are two sources for it.
-fn paired_regrade<M: Monitor>(one: &mut Run<M>, other: &mut Run<M>, rng: &mut Rng, met: &mut Met) {
+fn paired_regrade(one: &mut Run, other: &mut Run, rng: &mut Rng, met: &mut Met) {
     let cell = match rng.chance(7, 8) {
         true => one.seen_room(rng),
         false => some_cell(rng, one.shape, one.seen, true),
@@ -337,7 +338,7 @@ fn paired_regrade<M: Monitor>(one: &mut Run<M>, other: &mut Run<M>, rng: &mut Rn
     let (answer, _) = one.make(&call);
     let (other_answer, _) = other.make(&same_of(&call, twin));
     assert_eq!(answer[0], other_answer[0], "regrades of the same, {source:?} and {twin:?}: {call:?}");
-    compare(one, other, &format!("after regrades of {source:?} and {twin:?}: {call:?}"));
+    compare(one, other, format_args!("after regrades of {source:?} and {twin:?}: {call:?}"));
     match answer[0] {
         0 => met.paired_regrades += 1,
         _ => met.paired_refused += 1,
@@ -369,7 +370,7 @@ impl Told {
 }
 
 /// Two runs that break the premise: what the observer is told differs.
-pub fn broken_premise(monitor: &impl Monitor, rng: &mut Rng, limits: Limits, told: &mut Told) {
+pub fn broken_premise(monitor: &dyn Monitor, rng: &mut Rng, limits: Limits, told: &mut Told) {
     let world = tables::well_formed(rng, limits);
     let shape = world.shape();
     let seen = seen_by(&shape, &[rng.below(shape.cells)]);
@@ -377,7 +378,7 @@ pub fn broken_premise(monitor: &impl Monitor, rng: &mut Rng, limits: Limits, tol
     let [mut one, mut other] = two_runs(monitor, rng, &world, &shape, &seen);
     let sources = [&one, &other].map(|run| choose(rng, run.sources().into_iter()));
     let [Some(source), Some(twin)] = sources else { return };
-    let differ = |one: &Run<_>, other: &Run<_>| view(&one.world, &shape, &seen) != view(&other.world, &shape, &seen);
+    let differ = |one: &Run, other: &Run| view(&one.world, &shape, &seen) != view(&other.world, &shape, &seen);
     if seen[guard] {
         // What the guard has open is seen, so that both can be asked for the same.
         let call = regrade(rng, source, hidden);
@@ -416,7 +417,7 @@ pub fn broken_premise(monitor: &impl Monitor, rng: &mut Rng, limits: Limits, tol
 }
 
 /// One pair of runs, if the configuration drawn hides anything from the observer drawn.
-pub fn pair_of_runs(monitor: &impl Monitor, rng: &mut Rng, limits: Limits, steps: usize, met: &mut Met) {
+pub fn pair_of_runs(monitor: &dyn Monitor, rng: &mut Rng, limits: Limits, steps: usize, met: &mut Met) {
     let world = match rng.chance(1, 4) {
         true => tables::fresh(rng, limits),
         false => tables::well_formed(rng, limits),
@@ -469,7 +470,7 @@ pub fn pair_of_runs(monitor: &impl Monitor, rng: &mut Rng, limits: Limits, steps
     }
 }
 
-fn visible_call<M: Monitor>(one: &mut Run<M>, other: &mut Run<M>, call: &Call, met: &mut Met) {
+fn visible_call(one: &mut Run, other: &mut Run, call: &Call, met: &mut Met) {
     let receiver = call.request.a;
     let fits = Seid::of(receiver).fits(Kind::Process, one.shape.count(Kind::Process));
     let up = call.request.code == 15 && fits && !one.seen[one.shape.cell(Kind::Process, Seid::of(receiver).index)];
@@ -485,7 +486,7 @@ fn visible_call<M: Monitor>(one: &mut Run<M>, other: &mut Run<M>, call: &Call, m
     let (other_answer, other_buffer) = other.make(call);
     assert_eq!(answer, other_answer, "answers to {call:?}");
     assert_eq!(buffer, other_buffer, "buffers of {call:?}");
-    compare(one, other, &format!("after {call:?}"));
+    compare(one, other, format_args!("after {call:?}"));
 
     match answer[0] {
         0 => met.visible_done += 1,
@@ -504,7 +505,8 @@ fn visible_call<M: Monitor>(one: &mut Run<M>, other: &mut Run<M>, call: &Call, m
     }
 }
 
-fn compare<M: Monitor>(one: &Run<M>, other: &Run<M>, when: &str) {
+/// What is seen must be the same. The words are put together only where it is not.
+fn compare(one: &Run, other: &Run, when: fmt::Arguments) {
     let (first, second) = (view(&one.world, one.shape, one.seen), view(&other.world, one.shape, one.seen));
     if first != second {
         panic!("what is seen differs {when}; all differences:\n{}", difference(one.shape, &one.world, &other.world));

@@ -42,13 +42,13 @@ pub struct Found {
 }
 
 /// The number of calls up to the first at which the two differ, and in what.
-fn first_difference(monitor: &impl Monitor, start: &World, calls: &[Call]) -> Option<(usize, String)> {
+fn first_difference(monitor: &dyn Monitor, start: &World, calls: &[Call]) -> Option<(usize, String)> {
     let (mut ours, mut theirs) = (start.clone(), start.clone());
     (1..).zip(calls).find_map(|(made, call)| Some((made, same_call(monitor, &mut ours, &mut theirs, call).err()?)))
 }
 
 /// Shrinks a list of calls at which the two differ, and the table that it starts from.
-pub fn found(monitor: &impl Monitor, start: &World, calls: &[Call]) -> Found {
+pub fn found(monitor: &dyn Monitor, start: &World, calls: &[Call]) -> Found {
     let differs = |start: &World, calls: &[Call]| first_difference(monitor, start, calls).is_some();
     let mut calls = calls.to_vec();
     if let Some((made, _)) = first_difference(monitor, start, &calls) {
@@ -176,7 +176,7 @@ impl Found {
     }
 
     /// The whole report.
-    pub fn report(&self, monitor: &impl Monitor) -> String {
+    pub fn report(&self, monitor: &dyn Monitor) -> String {
         let mut report = format!("the two differ at the last of these calls.\n{}\n\n", self.difference);
         match self.from_setup {
             true => report += "As a script (tools/script.py makes the bytes that replay takes):\n\n",

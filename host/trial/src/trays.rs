@@ -75,7 +75,7 @@ impl Met {
 }
 
 /// All trials, with so many trays and so many pairs of them.
-pub fn everything(monitor: &impl Monitor, rng: &mut Rng, trays: u64, met: &mut Met) {
+pub fn everything(monitor: &dyn Monitor, rng: &mut Rng, trays: u64, met: &mut Met) {
     for count in [0, 1, MOST_RECORDS - 1, MOST_RECORDS, MOST_RECORDS + 1, 2 * MOST_RECORDS] {
         of_length(monitor, rng, count, met);
     }
@@ -96,7 +96,7 @@ struct Hall {
 }
 
 impl Hall {
-    fn run(&mut self, monitor: &impl Monitor) -> u32 {
+    fn run(&mut self, monitor: &dyn Monitor) -> u32 {
         monitor.tray(&mut self.world.table, &mut self.world.store, &mut self.records, &mut self.bytes)
     }
 
@@ -155,7 +155,7 @@ fn place(rng: &mut Rng, length: u32, bytes: u32) -> (u32, u32) {
 }
 
 /// A tray whose records are drawn on the table as it stands when they are run, against the calls made singly.
-fn as_singly(monitor: &impl Monitor, rng: &mut Rng, limits: Limits, met: &mut Met) {
+fn as_singly(monitor: &dyn Monitor, rng: &mut Rng, limits: Limits, met: &mut Met) {
     let world = match rng.chance(1, 4) {
         true => tables::fresh(rng, limits),
         false => tables::well_formed(rng, limits),
@@ -218,7 +218,7 @@ fn same(shape: &Shape, start: &Hall, ours: &Hall, theirs: &Hall) {
 
 /// A tray of so many records, on a good table and on a bad one. Too long it is refused with 4, then a bad table with 1, and then nothing
 /// is changed.
-fn of_length(monitor: &impl Monitor, rng: &mut Rng, count: usize, met: &mut Met) {
+fn of_length(monitor: &dyn Monitor, rng: &mut Rng, count: usize, met: &mut Met) {
     let world = tables::well_formed(rng, tables::MIDDLE);
     let shape = world.shape();
     let mut start = Hall { world, bytes: vec![0; 1_024], records: Vec::new() };
@@ -331,7 +331,7 @@ fn paired_regrade(rng: &mut Rng, runs: &mut [Run; 2], shape: &Shape, seen: &Seen
 
 /// Two trays under 02's premises: the tables agree on what flows to the observers, the bytes on the parts of the remaining records, and
 /// these lie apart from the others'. Regrades keep to the premise of the trials of calls (secrecy).
-fn pair_of_trays(monitor: &impl Monitor, rng: &mut Rng, limits: Limits, met: &mut Met) {
+fn pair_of_trays(monitor: &dyn Monitor, rng: &mut Rng, limits: Limits, met: &mut Met) {
     let world = match rng.chance(1, 4) {
         true => tables::fresh(rng, limits),
         false => tables::well_formed(rng, limits),

@@ -1,8 +1,7 @@
 //! Calls by the tray in the proved archive: against the plain monitor's calls made singly, and in pairs of trays that an observer must
 //! not be able to tell apart.
 
-mod common;
-use common::Archive;
+use crate::archive::Archive;
 use trial::{Rng, trays};
 
 #[test]

@@ -8,7 +8,7 @@ use std::alloc::{GlobalAlloc, Layout, System};
 use std::cell::Cell;
 use trial::{Call, Rng, calls, tables};
 
-/// Counts what each thread allocates.
+/// Counts what each thread allocates. It serves the other tests too: a program has one allocator.
 struct Counting;
 
 thread_local! {
@@ -21,6 +21,18 @@ unsafe impl GlobalAlloc for Counting {
         ALLOCATED.set(ALLOCATED.get() + 1);
         // SAFETY: as asked of this function.
         unsafe { System.alloc(layout) }
+    }
+
+    unsafe fn alloc_zeroed(&self, layout: Layout) -> *mut u8 {
+        ALLOCATED.set(ALLOCATED.get() + 1);
+        // SAFETY: as asked of this function.
+        unsafe { System.alloc_zeroed(layout) }
+    }
+
+    unsafe fn realloc(&self, pointer: *mut u8, layout: Layout, size: usize) -> *mut u8 {
+        ALLOCATED.set(ALLOCATED.get() + 1);
+        // SAFETY: as asked of this function.
+        unsafe { System.realloc(pointer, layout, size) }
     }
 
     unsafe fn dealloc(&self, pointer: *mut u8, layout: Layout) {

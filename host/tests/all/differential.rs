@@ -1,7 +1,6 @@
 //! The proved archive against the plain monitor, on calls that are drawn at random: a million by default, or TRIAL_CALLS.
 
-mod common;
-use common::Archive;
+use crate::archive::Archive;
 use std::time::Instant;
 use trial::Rng;
 use trial::differ::Differ;

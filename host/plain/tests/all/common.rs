@@ -1,5 +1,4 @@
 //! A table and a store to try calls on, with literal places and numbers: nothing here leans on the monitor's own layout.
-#![allow(dead_code)]
 
 use plain::{Answer, Error, Request, call, setup};
 

@@ -1,7 +1,6 @@
 //! The proved archive's image and reload against the plain one's: whole images and damaged ones, of as many halls as TRIAL_IMAGES says.
 
-mod common;
-use common::Archive;
+use crate::archive::Archive;
 use monitor::{Bits, Caller, Cell, Error, Hall, Modes, Monitor};
 use trial::Rng;
 use trial::images::Images;

@@ -1,7 +1,6 @@
 //! The readings of document 02, by their numbers: what each says that a call can show.
 
-mod common;
-use common::*;
+use crate::common::*;
 use plain::Error::*;
 
 #[test]

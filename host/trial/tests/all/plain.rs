@@ -22,10 +22,10 @@ fn calls_keep_tables_well_formed() {
         };
         let shape = world.shape();
         assert_eq!(Plain.check(&world.table, world.store.len()), 0, "the table drawn is well formed");
+        let mut before = world.clone();
         for _ in 0..200 {
             let call = calls::any(&mut rng, &world, &shape);
-            let before = world.clone();
-            tally.viewed(view_is_a_read(&world, &call));
+            tally.viewed(view_is_a_read(&before, &mut world, &call));
             let mut buffer = call.buffer.clone();
             let answer = Plain.call(&mut world.table, &mut world.store, &call.request, &mut buffer);
             tally.note(&before, &shape, &call, answer);
@@ -51,6 +51,10 @@ fn calls_keep_tables_well_formed() {
                 assert!(!fixed || word(&world, BITS) == word(&before, BITS), "a sharable segment's bits: {call:?}");
             }
             assert_eq!(Plain.check(&world.table, world.store.len()), 0, "left a bad table: {call:?}");
+            if answer[0] == 0 {
+                before.table.copy_from_slice(&world.table);
+                before.store.copy_from_slice(&world.store);
+            }
             made += 1;
         }
     }
@@ -59,14 +63,14 @@ fn calls_keep_tables_well_formed() {
 }
 
 /// A view by the call's process, of its first two arguments, shows what a read copies: the block's place in its file's stretch, and its
-/// bytes. Its number.
-fn view_is_a_read(world: &World, call: &Call) -> u32 {
+/// bytes. The read leaves the world as it was before. Its number.
+fn view_is_a_read(before: &World, world: &mut World, call: &Call) -> u32 {
     let plain::Request { caller, a, b, .. } = call.request;
-    let mut copy = world.clone();
     let mut block = [0; BLOCK_BYTES];
     let read = plain::Request { caller, code: 13, a, b, c: 0 };
-    let [error, ..] = Plain.call(&mut copy.table, &mut copy.store, &read, &mut block);
     let shown = Plain.view(&world.table, &world.store, caller, a, b);
+    let [error, ..] = Plain.call(&mut world.table, &mut world.store, &read, &mut block);
+    assert!(world == before, "a read changed something: {call:?}");
     if error == 0 {
         let from = world.block_at(&world.shape(), caller, a, b);
         assert_eq!((shown, &world.store[from..from + BLOCK_BYTES]), ((0, from, BLOCK_BYTES), &block[..]));

@@ -1,14 +1,13 @@
 //! The proved replay program against the plain replay. MONITOR_REPLAY names the program; without it, the one that the proofs leave
 //! in target/bin, or, where the machine is not x86-64, the one in target/native that runs it.
 
-mod common;
-use common::Archive;
+use crate::archive::Archive;
 use std::path::PathBuf;
 use trial::Rng;
 use trial::listings::Program;
 
 /// The program, with a folder of the test's own.
-fn program(test: &str) -> Program<'static, Archive> {
+fn program(test: &str) -> Program<'static> {
     let here = PathBuf::from(env!("CARGO_MANIFEST_DIR"));
     let made = here.join(if cfg!(target_arch = "x86_64") { "../target/bin/replay" } else { "../target/native/replay" });
     let program = std::env::var_os("MONITOR_REPLAY").map_or(made, PathBuf::from);

@@ -1,7 +1,6 @@
 //! The vectors of document 01: the listing, the error table, the edges, the faults it calls tempting.
 
-mod common;
-use common::*;
+use crate::common::*;
 use plain::Error::*;
 use plain::{Error, Level, clash, granted, number, replay, valid_modes};
 

@@ -1,7 +1,6 @@
 //! Nothing flows down in the proved archive: pairs of runs that an observer must not be able to tell apart.
 
-mod common;
-use common::Archive;
+use crate::archive::Archive;
 use trial::{Rng, secrecy, tables};
 
 #[test]

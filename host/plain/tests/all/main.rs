@@ -1,0 +1,6 @@
+//! The plain monitor's tests as one program.
+
+mod common;
+mod edges;
+mod readings;
+mod requests;

@@ -1,0 +1,4 @@
+//! The trials' own tests as one program.
+
+mod plain;
+mod shrink;
