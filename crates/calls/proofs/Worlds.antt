@@ -1,17 +1,18 @@
 -- The header's numbers are the configuration's: places, readings and cells by the one are those of the other.
 use mathlib.Core.Path.{_≡_, refl, sym, ap, _∙_}
-use mathlib.Core.Bool.{Bool, true, false, _&&_}
+use mathlib.Core.Bool.{Bool, true, false, _&&_, cond}
 use mathlib.Core.List.{List}
 use Prim.Native.Nat.{ℕ, _+_, _*_, _≤_, _<_}
 use native.Mathlib.Omega.{arith}
 use native.Mathlib.Decide.{ℕ-discrete}
-use lib.Dec.{ltb, eqb}
+use lib.Dec.{leb, ltb, eqb}
 use lib.ListN.{getD}
-use borrow.Author.Tests.{lt-ltb, le-ltb, eq-eqb, ne-eqb}
+use borrow.Author.Tests.{lt-ltb, le-ltb, leb-true, leb-false, eq-eqb, ne-eqb}
 use Rattle.rules.specs.Words.{sumBelow}
 use Rattle.rules.specs.Layout.{maxSlots, maxSerial, Kind, process, segment, file, headerWords, cellWords, recordWords, cells, slots, slotsWord, blocks, guard, cellWord, cellSlotsWord, configuration, firstSlot, cellOf, Addr, at, base, offset, rd, live}
 use Rattle.laws.proofs.Below.{sum-more, sum-grows}
 use Rattle.laws.proofs.Search.{lowest-is, lowest-none}
+use Rattle.laws.proofs.Tests.{cond-true, cond-false, split}
 use Rattle.laws.proofs.Places.{conf-cells, conf-slots, conf-blocks, conf-cell}
 use Rattle.laws.proofs.Shape.{Shape, shape-of}
 use Rattle.layout.specs.declared.Header.{Header}
@@ -82,23 +83,40 @@ pub first-bound : (h : List ℕ) (k c n : ℕ) → c ≤ n → firstBy h k c ≤
 unfolding firstBy
 first-bound h k c n l = sum-grows (λ c. cellWord h c k) c n l
 
--- what the search for a slot's cell has passed: c cells, whose runs end at `end`, none past slot i
-pub record Passed (t : List ℕ) (k i n end c : ℕ) : Type 0 where
+-- whether the run of cell c ends past slot i
+abbrev pastSlot : List ℕ → ℕ → ℕ → ℕ → Bool
+pastSlot h k i c = ltb i (firstBy h k c + cellWord h c k)
+
+-- c cells whose runs end at `end`, and the slot's cell as far as they tell: no cell before it ends past slot i, and where it is one of them, it does
+pub record Passed (t : List ℕ) (k i n end cell c : ℕ) : Type 0 where
   pub count : n ≡ cells (configuration t)
   pub upto : c ≤ n
   pub sum : end ≡ firstBy (configuration t) k c
-  pub none : (j : ℕ) → 0 ≤ j → j < c → ltb i (firstBy (configuration t) k j + cellWord (configuration t) j k) ≡ false
+  pub within : cell ≤ c
+  pub none : (j : ℕ) → 0 ≤ j → j < cell → pastSlot (configuration t) k i j ≡ false
+  pub hit : cell < c → (pastSlot (configuration t) k i cell ≡ true) × (i < end)
 
-pub passed-none : (t : List ℕ) (k i n : ℕ) → n ≡ cells (configuration t) → Passed t k i n 0 0
-passed-none t k i n e = record { count = e; upto = omega arith; sum = first-none (configuration t) k; none = λ j a b. absurd (omega arith) }
+pub passed-none : (t : List ℕ) (k i n : ℕ) → n ≡ cells (configuration t) → Passed t k i n 0 0 0
+passed-none t k i n e = record {
+  count = e;
+  upto = omega arith;
+  sum = first-none (configuration t) k;
+  within = omega arith;
+  none = λ j a b. absurd (omega arith);
+  hit = λ l. absurd (omega arith);
+}
 
-module _ {t : List ℕ} {k i n end c : ℕ} (kl : k < cellWords) (p : Passed t k i n end c) where
-  pub at-end : n ≤ c → c ≡ cellBy (configuration t) k i
+module _ {t : List ℕ} {k i n end cell c : ℕ} (kl : k < cellWords) (p : Passed t k i n end cell c) where
+  pub at-end : n ≤ c → cell ≡ cellBy (configuration t) k i
   unfolding cellBy
   at-end l =
       let e : cells (configuration t) ≡ c = omega (arith, p .count, p .upto) in
-      let z = lowest-none (λ c. ltb i (firstBy (configuration t) k c + cellWord (configuration t) c k)) (cells (configuration t)) 0 (λ j a b. p .none j a (omega arith)) in
-      sym (z ∙ omega arith)
+      elim (ℕ-discrete cell c) [
+        | yes f ↦ sym (lowest-none (pastSlot (configuration t) k i) (cells (configuration t)) 0 (λ j a b. p .none j a (omega arith)) ∙ omega arith)
+        | no ne ↦
+            let h : cell < c = omega (arith, p .within) in
+            sym (lowest-is (pastSlot (configuration t) k i) (cells (configuration t)) 0 cell (omega arith) (omega arith) (p .hit h .0) (p .none))
+      ]
 
   -- the next cell: x is its word, read at the number y of the cell
   module _ (l : c < n) {x y : ℕ} (yc : y ≡ c) (e : x ≡ getD t (headerWords + cellWords * y + k) 0) where
@@ -114,22 +132,48 @@ module _ {t : List ℕ} {k i n end c : ℕ} (kl : k < cellWords) (p : Passed t k
     pub sum-small : firstBy (configuration t) k (cells (configuration t)) ≤ maxSlots → end + x ≤ maxSlots
     sum-small b = omega (arith, next-sum, first-bound (configuration t) k (c + 1) (cells (configuration t)) (omega (arith, p .count)))
 
-    pub found : i < end + x → c ≡ cellBy (configuration t) k i
-    unfolding cellBy
-    found q =
-        sym (lowest-is (λ c. ltb i (firstBy (configuration t) k c + cellWord (configuration t) c k)) (cells (configuration t)) 0 c (omega arith) (omega (arith, p .count))
-        (lt-ltb i _ (rw end-is at q)) (p .none))
+    -- its run ends before the slot, and so do those before it
+    beyond : end + x ≤ i → {w : ℕ} → w ≡ cell + 1 → Passed t k i n (end + x) w (c + 1)
+    beyond q we =
+        let f : cell ≡ c = elim (ℕ-discrete cell c) [
+          | yes f ↦ f
+          | no ne ↦ absurd (omega (arith, p .hit (omega (arith, p .within)) .1))
+        ] in
+        record {
+          count = p .count;
+          upto = omega arith;
+          sum = next-sum;
+          within = omega arith;
+          none = λ j a b. elim (ℕ-discrete j c) [
+            | yes g ↦ rw g (le-ltb i _ (rw end-is at q))
+            | no ne ↦ p .none j a (omega arith)
+          ];
+          hit = λ h. absurd (omega arith);
+        }
 
-    pub further : end + x ≤ i → Passed t k i n (end + x) (c + 1)
-    further q = record {
+    -- its run ends past the slot: it is the slot's cell, if none before it was
+    there : i < end + x → {w : ℕ} → w ≡ cell → Passed t k i n (end + x) w (c + 1)
+    there q we = record {
       count = p .count;
       upto = omega arith;
       sum = next-sum;
-      none = λ j a b. elim (ℕ-discrete j c) [
-        | yes e ↦ rw e (le-ltb i _ (rw end-is at q))
-        | no ne ↦ p .none j a (omega arith)
-      ];
+      within = omega (arith, p .within);
+      none = λ j a b. p .none j a (omega arith);
+      hit = λ h. rw we (elim (ℕ-discrete cell c) [
+        | yes f ↦ (rw f (lt-ltb i _ (rw end-is at q)), q)
+        | no ne ↦ (p .hit (omega arith) .0, q)
+      ]);
     }
+
+    -- r is 1 where its run ends before the slot, else 0
+    module _ {r : ℕ} (g : r ≡ cond (leb (end + x) i) 1 0) where
+      pub further : Passed t k i n (end + x) (cell + r) (c + 1)
+      further = split (Passed t k i n (end + x) (cell + r) (c + 1)) (leb (end + x) i)
+          (λ h. beyond (leb-true _ _ h) (omega (arith, g ∙ cond-true {A = ℕ} _ 1 0 h)))
+          (λ h. there (leb-false _ _ h) (omega (arith, g ∙ cond-false {A = ℕ} _ 1 0 h)))
+
+      pub cell-small : cell + r ≤ n
+      cell-small = omega (arith, further .within)
 
 -- ---- what the searches ask, in the words that the code has read: y is the place, x and z the words there
 

@@ -3,7 +3,7 @@ ghost use mathlib.Core.Path.{_≡_};
 ghost use mathlib.Core.Bool.{true};
 ghost use Prim.Native.Nat.{_+_, _*_, _≤_, _<_, _^_};
 ghost use lib.ListN.{length};
-ghost use Rattle.rules.specs.Layout.{process, cells, maxSlots, headerWords, cellWords, recordWords, cellWord, configuration, cellOf};
+ghost use Rattle.rules.specs.Layout.{process, cells, maxSlots, cellWords, recordWords, cellWord, configuration, configurationWords, cellOf};
 ghost use Rattle.rules.specs.Find.{freeEntry};
 ghost use Rattle.layout.specs.Kinds.{kindOf};
 ghost use Rattle.calls.specs.World.{Known, wordsOf, firstBy, cellBy, freeAt, emptyAt, holdable};
@@ -20,22 +20,22 @@ use words::first;
 use words::wide;
 use words::word;
 
-// The cell, of n, whose run of slots of a kind holds slot i, or n where none does. k is the word of a cell's record that counts these slots.
+// The cell, of n, whose run of slots of a kind holds slot i, or n where none does. k is the word of a cell's record that counts these slots. The runs of all cells are
+// summed: a loop that leaves at the slot's cell ends where a processor can't foresee it, which takes longer than sixteen sums.
 pub(crate) fn cell_by(t: &[u32], n: u32, k: usize, i: u32) -> u32
     requires { ⌜ (n ≡ cells (configuration (now t))) × (k < cellWords) × (firstBy (configuration (now t)) k (cells (configuration (now t))) ≤ maxSlots) ⌝ }
-    requires { ⌜ headerWords + cellWords * n ≤ length (now t) ⌝ }
+    requires { ⌜ configurationWords (configuration (now t)) ≤ length (now t) ⌝ }
     ensures { λ r. ⌜ r ≡ cellBy (configuration (now (t .entry))) k i ⌝ }
 {
     let mut end: u32 = 0;
+    let mut cell: u32 = 0;
     let mut c: u32 = 0;
     while c < n {
         end += t[HEADER_WORDS + CELL_WORDS * wide(c) + k];
-        if i < end {
-            return c;
-        }
+        cell += first(end <= i, 1, 0);
         c += 1;
     }
-    c
+    cell
 }
 
 pub(crate) fn cell_of(t: &[u32], n: Header, kind: Kind, i: u32) -> u32

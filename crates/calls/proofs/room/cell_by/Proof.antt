@@ -1,17 +1,17 @@
--- `room::cell_by` meets its contract: the cells passed end at or before the slot, so that the first whose run ends past it is its cell.
+-- `room::cell_by` meets its contract: of the cells passed, those before the slot's own end at or before the slot.
 use Prim.Native.Nat.{_-_}
 use native.Mathlib.Omega.{arith}
 use mathlib.Core.Path.{refl}
 use borrow.Author.Needs.{needs}
-use Rattle.calls.proofs.Worlds.{Passed, passed-none, at-end, sum-small, found, further}
+use Rattle.calls.proofs.Worlds.{Passed, passed-none, at-end, sum-small, cell-small, further}
 use Rattle.calls.proofs.room.cell_by.Statement.{statement}
 use Rattle.calls.proofs.room.cell_by.Tie as tie
 
 abbrev Inv-loop : tie.InvT-loop
-Inv-loop t n k i end₀ c₀ end c = Passed t k i n end c
+Inv-loop t n k i end₀ cell₀ c₀ end cell c = Passed t k i n end cell c
 
 abbrev μ-loop : tie.MeasureT-loop
-μ-loop t n k i end₀ c₀ end c = n - c
+μ-loop t n k i end₀ cell₀ c₀ end cell c = n - c
 
 loop-holds : tie.Need-loop-holds Inv-loop μ-loop
 loop-holds c = passed-none _ _ _ _ (c .before .pre .0 .0)
@@ -34,17 +34,20 @@ mul-end-2 c = search needs
 shared-slice-read-end : tie.Need-shared-slice-read-end Inv-loop μ-loop
 shared-slice-read-end c =
     let s = c .before .before .before .before .before in
-    omega (arith, s .pre .0 .1, s .pre .1, c .before .before .loop-test .taken, c .before .wide .ensures)
+    omega (arith, s .pre .0 .0, s .pre .0 .1, s .pre .1, c .before .before .loop-test .taken, c .before .wide .ensures)
 
 add-end-3 : tie.Need-add-end-3 Inv-loop μ-loop
 add-end-3 c =
     let s = c .before .before .before .before .before in
     omega (arith, sum-small (s .pre .0 .1) (c .before .before .before .loop .inv) (c .before .before .loop-test .taken) (c .before .wide .ensures) refl (s .pre .0 .2))
 
-returns : tie.Need-returns Inv-loop μ-loop
-returns c =
+first-requires : tie.Need-first-requires Inv-loop μ-loop
+first-requires c κs = search needs
+
+add-cell : tie.Need-add-cell Inv-loop μ-loop
+add-cell c =
     let s = c .before .before .before .before .before .before in
-    found (s .pre .0 .1) (c .before .before .before .before .loop .inv) (c .before .before .before .loop-test .taken) (c .before .before .wide .ensures) refl (c .if1 .taken)
+    omega (arith, cell-small (s .pre .0 .1) (c .before .before .before .before .loop .inv) (c .before .before .before .loop-test .taken) (c .before .before .wide .ensures) refl (c .first .ensures))
 
 add-c : tie.Need-add-c Inv-loop μ-loop
 add-c c = search needs
@@ -55,10 +58,10 @@ loop-less c = search needs
 loop-again : tie.Need-loop-again Inv-loop μ-loop
 loop-again c =
     let s = c .before .before .before .before .before .before in
-    further (s .pre .0 .1) (c .before .before .before .before .loop .inv) (c .before .before .before .loop-test .taken) (c .before .before .wide .ensures) refl (c .if1 .left)
+    further (s .pre .0 .1) (c .before .before .before .before .loop .inv) (c .before .before .before .loop-test .taken) (c .before .before .wide .ensures) refl (c .first .ensures)
 
-returns-2 : tie.Need-returns-2 Inv-loop μ-loop
-returns-2 c = at-end (c .before .before .before .pre .0 .1) (c .before .loop .inv) (c .loop-test .left)
+returns : tie.Need-returns Inv-loop μ-loop
+returns c = at-end (c .before .before .before .pre .0 .1) (c .before .loop .inv) (c .loop-test .left)
 
 pub cell-by-spec : {M : Type 1} → statement M
 cell-by-spec =
@@ -74,8 +77,9 @@ cell-by-spec =
     mul-end-2
     shared-slice-read-end
     add-end-3
-    returns
+    first-requires
+    add-cell
     add-c
     loop-less
     loop-again
-    returns-2)
+    returns)

@@ -13,7 +13,7 @@ cell-word-requires c κs = search needs
 cell-by-requires : tie.Need-cell-by-requires
 cell-by-requires c κs =
     let s = c .before .before in
-    let w = kind-word (s .pre) (kindOf (s .args .kind)) (c .cell-word .ensures .0) in ((cells-is (s .pre), w .0, w .1), rw (cells-is (s .pre)) (s .pre .long))
+    let w = kind-word (s .pre) (kindOf (s .args .kind)) (c .cell-word .ensures .0) in ((cells-is (s .pre), w .0, w .1), s .pre .long)
 
 returns : tie.Need-returns
 returns c = c .cell-by .ensures ∙ rw (c .before .cell-word .ensures .0) (by-kind _ _ _)
