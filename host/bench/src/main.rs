@@ -76,6 +76,10 @@ fn main() {
         for (name, world) in &tables {
             line(&format!("{name} table"), tray(world, Night::proved, Night::plain));
         }
+        heading("The same beyond the check");
+        for (name, world) in &tables {
+            line(&format!("{name} table"), tray_beyond(world));
+        }
         heading("A tray of 1,024 mixed calls, to 1,024 single calls of the same monitor (the last column is theirs)");
         for (name, world) in &tables {
             line(&format!("proved, {name} table"), tray(world, Night::proved, Night::proved_singly));
@@ -603,21 +607,29 @@ impl Night {
     }
 }
 
-/// A repetition starts on a copy of the table, which is made outside the time measured.
+/// Trays on copies of one night, which are made outside the time measured.
+fn trays(night: &Night, run: fn(&mut Night)) -> impl Fn(u32) -> Duration {
+    move |n| {
+        (0..n)
+            .map(|_| {
+                let mut night = night.clone();
+                timed(1, || run(std::hint::black_box(&mut night)))
+            })
+            .sum()
+    }
+}
+
 fn tray(world: &World, one: fn(&mut Night), other: fn(&mut Night)) -> Ratio {
     let night = Night::new(world);
-    let action = |run: fn(&mut Night)| {
-        let night = night.clone();
-        move |n| {
-            (0..n)
-                .map(|_| {
-                    let mut night = night.clone();
-                    timed(1, || run(std::hint::black_box(&mut night)))
-                })
-                .sum()
-        }
-    };
-    ratio(ROUNDS, 1, action(one), action(other))
+    ratio(ROUNDS, 1, trays(&night, one), trays(&night, other))
+}
+
+/// A tray beyond its check, which each monitor makes once: in each round its time is taken off, of each side its own.
+fn tray_beyond(world: &World) -> Ratio {
+    let (night, worlds) = (Night::new(world), std::slice::from_ref(world));
+    let (proved, plain) = (trays(&night, Night::proved), trays(&night, Night::plain));
+    let (proved_check, plain_check) = (checks(worlds, monitor::well_formed), checks(worlds, plainly_well_formed));
+    ratio(ROUNDS, 1, |n| over(proved(n), proved_check(n)), |n| over(plain(n), plain_check(n)))
 }
 
 // Replay, as whole programs.
