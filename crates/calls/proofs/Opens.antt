@@ -3,13 +3,14 @@
 use mathlib.Core.Path.{_≡_, refl, sym, ap, _∙_}
 use mathlib.Core.Bool.{Bool, true, false, cond}
 use mathlib.Core.List.{List}
-use Prim.Native.Nat.{ℕ, _+_, _-_, _≤_, _<_}
+use Prim.Native.Nat.{ℕ, _+_, _-_, _*_, _≤_, _<_}
 use native.Mathlib.Omega.{arith}
 use native.Mathlib.Decide.{ℕ-discrete, decLt}
 use lib.Dec.{eqb}
+use lib.ListN.{length}
 use borrow.Author.Tests.{eqb-true, eq-eqb}
 use Rattle.rules.specs.Words.{someBelow, sumBelow, countBelow}
-use Rattle.rules.specs.Layout.{process, file, configuration, slots, cellWord, cellSlots, cellSlotsWord, firstSlot, cellOf, at, entries, heldAt, opens}
+use Rattle.rules.specs.Layout.{process, file, configuration, slots, cellWord, cellSlots, cellSlotsWord, firstSlot, cellOf, at, entries, heldAt, usedAt, opens}
 use Rattle.rules.specs.Seid.{class, classOf, indexOf}
 use Rattle.rules.specs.WellFormed.{ownEntry, ownEntries}
 use Rattle.rules.specs.Call08.{clashesAt}
@@ -17,16 +18,19 @@ use Rattle.laws.proofs.Tests.{and-left, and-both, both-ways, refuted}
 use Rattle.laws.proofs.Below.{some-none, sum-more, sum-grows, count-more, count-some}
 use Rattle.laws.proofs.Seids.{is-formed}
 use Rattle.laws.proofs.Cells.{cell-run}
+use Rattle.laws.proofs.Places.{offset-lt}
 use Rattle.laws.proofs.Shape.{opens-counted}
 use Rattle.modes.specs.Clash.{clashOf}
 use Rattle.layout.specs.declared.Header.{Header}
+use Rattle.layout.specs.Header.{recordOf}
 use Rattle.calls.specs.declared.Caller.{Caller}
 use Rattle.calls.specs.declared.objects.Seen.{Seen}
 use Rattle.calls.specs.declared.entries.Entry.{Entry}
 use Rattle.calls.specs.World.{Sound, wordsOf, Clashable, firstBy}
 use Rattle.calls.specs.Seen.{namedOf, seenAs}
-use Rattle.calls.specs.Entries.{entryOf}
-use Rattle.calls.proofs.Worlds.{cells-is, first-by-kind}
+use Rattle.calls.specs.Entries.{entryOf, entryFrom}
+use Rattle.calls.proofs.Worlds.{spot, cells-is, first-by-kind}
+use Rattle.calls.proofs.Given.{entry-read}
 use Rattle.calls.proofs.Searches.{home-in, run-slots}
 use Rattle.calls.proofs.Looks.{own-is}
 use Rattle.calls.proofs.FilesLaws.{clash-none, clash-held}
@@ -118,6 +122,16 @@ module _ {t : List ℕ} {n : Header} {c : Caller} (sound : Sound t n c) {s b : �
 
   in-table : (k : ℕ) → k < m → from + k < slots (configuration t) process
   in-table k l = omega (arith, run-slots sound process refl fe me)
+
+  -- the descriptors of process p begin at a place: the table has them all, and what is read there is the entry
+  module _ (p : ℕ) (lp : p < m) {first : ℕ} (there : first ≡ recordOf n process (from + p) + heldAt file 0) where
+    pub all-there : first + 2 * entries ≤ length t
+    all-there =
+        let last = at process (from + p) (usedAt file 15) in
+        omega (arith, there, spot (sound .known) last, offset-lt (configuration t) last (in-table p lp, omega arith), sound .words)
+
+    pub entry-there : (d : ℕ) {x : Entry} → x ≡ entryFrom t first d → x ≡ entryOf (wordsOf t) file (from + p) d
+    entry-there d e = e ∙ entry-read (sound .known) file (from + p) d refl (omega (arith, there)) refl refl
 
   -- an entry that holds the file is one that its opens count
   counted : (k d : ℕ) → k < m → wordsOf t (at process (from + k) (heldAt file d)) ≡ s → countedAt t s (from + k) d ≡ true

@@ -1,7 +1,7 @@
 -- Entries and the records of the objects that they hold, in the table's words: taken up, given up, made, freed.
 use mathlib.Core.Bool.{Bool, _&&_, not, cond}
 use mathlib.Core.List.{List}
-use Prim.Native.Nat.{ℕ, _+_, _-_}
+use Prim.Native.Nat.{ℕ, _+_, _-_, _*_}
 use lib.Dec.{eqb}
 use lib.ListN.{getD, set, replicate}
 use lib.Seq.{sets}
@@ -11,6 +11,10 @@ use Rattle.calls.specs.declared.entries.Entry.{Entry}
 -- the two words of entry d of process p
 abbrev pub entryOf : (Addr → ℕ) → Kind → ℕ → ℕ → Entry
 entryOf r k p d = record { held = r (at process p (heldAt k d)); used = r (at process p (usedAt k d)) }
+
+-- those of entry d of the entries that begin at a place
+abbrev pub entryFrom : List ℕ → ℕ → ℕ → Entry
+entryFrom t first d = record { held = getD t (first + 2 * d) 0; used = getD t (first + 2 * d + 1) 0 }
 
 -- the record of n words that begins at a place is zero but for its serial
 unfoldable pub freedAt : List ℕ → ℕ → ℕ → List ℕ

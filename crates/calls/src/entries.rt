@@ -1,15 +1,15 @@
 // Entries, and the records of the objects that they hold: taken up, given up, made, freed.
 ghost use mathlib.Core.Path.{_≡_};
 ghost use mathlib.Core.Bool.{true};
-ghost use Prim.Native.Nat.{_+_, _≤_, _<_, _^_};
-ghost use lib.ListN.{getD, set, replicate};
+ghost use Prim.Native.Nat.{_+_, _*_, _≤_, _<_, _^_};
+ghost use lib.ListN.{length, getD, set, replicate};
 ghost use lib.Seq.{sets};
-ghost use Rattle.rules.specs.Layout.{process, file, recordWords, configuration, cellOf, holders};
+ghost use Rattle.rules.specs.Layout.{process, file, recordWords, configuration, cellOf, entries, holders};
 ghost use Rattle.rules.specs.Rule.{write};
 ghost use Rattle.rules.specs.Find.{givenUp, kept};
 ghost use Rattle.layout.specs.Kinds.{kindOf};
 ghost use Rattle.calls.specs.World.{Known, wordsOf, holdable};
-ghost use Rattle.calls.specs.Entries.{entryOf, freedAt, lessAt, givenUpAt, takenUpAt, fourAt, madeAt};
+ghost use Rattle.calls.specs.Entries.{entryOf, entryFrom, freedAt, lessAt, givenUpAt, takenUpAt, fourAt, madeAt};
 use crate::Caller;
 use crate::base::one_less;
 use crate::base::read;
@@ -39,6 +39,17 @@ pub(crate) fn entry_of(t: &[u32], n: Header, kind: Kind, p: u32, d: u32) -> Entr
     let at = n.entry_at(kind, p, d);
     let held = word(t, at);
     let used = word(t, at + 1);
+    Entry { held, used }
+}
+
+// Entry d of the entries that begin at a place. Its words are read without a test: a search reads every entry of a cell.
+pub(crate) fn entry_from(t: &[u32], first: usize, d: usize) -> Entry
+    requires { ⌜ (d < entries) × (first + 2 * entries ≤ length (now t)) ⌝ }
+    ensures { λ r. ⌜ r ≡ entryFrom (now (t .entry)) first d ⌝ }
+{
+    let at = first + 2 * d;
+    let held = t[at];
+    let used = t[at + 1];
     Entry { held, used }
 }
 

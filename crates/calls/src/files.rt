@@ -28,6 +28,7 @@ use crate::base::read;
 use crate::base::refused;
 use crate::base::write;
 use crate::entries::enter;
+use crate::entries::entry_from;
 use crate::entries::entry_of;
 use crate::entries::free_record;
 use crate::entries::give_up_entry;
@@ -149,9 +150,10 @@ fn any_clash(t: &[u32], n: Header, c: Caller, s: u32, b: u32) -> bool
     let mut found = false;
     let mut p: u32 = 0;
     'search: while p < count {
-        let mut d: u32 = 0;
-        while wide(d) < ENTRIES {
-            let x = entry_of(t, n, Kind::File, from + p, d);
+        let first = n.entry_at(Kind::File, from + p, 0);
+        let mut d = 0;
+        while d < ENTRIES {
+            let x = entry_from(t, first, d);
             if x.held == s {
                 if clash(x.used, b) {
                     found = true;
