@@ -33,7 +33,27 @@ use crate::segments::set_access;
 use crate::status::status;
 use layout::Header;
 use layout::Kind;
+use rules::ACCESS_CODE;
+use rules::BUILD_SEGMENT_CODE;
+use rules::CLOSE_CODE;
+use rules::CREATE_CODE;
+use rules::LINK_CODE;
 use rules::MAX_CELLS;
+use rules::OPEN_CODE;
+use rules::PAGE_ACCESS_CODE;
+use rules::POST_CODE;
+use rules::READ_BLOCK_CODE;
+use rules::RECEIVE_CODE;
+use rules::RELEASE_PROCESS_CODE;
+use rules::RELEASE_SEGMENT_CODE;
+use rules::REMAP_CODE;
+use rules::RENDEZVOUS_CODE;
+use rules::SET_ACCESS_CODE;
+use rules::SET_BITS_CODE;
+use rules::SPAWN_CODE;
+use rules::STATUS_CODE;
+use rules::UNLINK_CODE;
+use rules::WRITE_BLOCK_CODE;
 use rules::XB_SG_DES;
 use rules::XBAD_OD;
 use rules::XN_SG_DES;
@@ -53,17 +73,17 @@ fn on_processes_and_segments(
     ensures { λ r. ⌜ ((s buffer : List ℕ) → Plain (now (t .entry)) (me .slot) code a b c r (now (t .exit)) s buffer) ⌝ }
 {
     match code {
-        1 => {
+        SPAWN_CODE => {
             let q = free_slot(t, n, Kind::Process, me.cell);
             spawn(t, n, me, q, a, b, c)
         }
-        2 => release_process(t, n, *m, me, a),
-        3 => {
+        RELEASE_PROCESS_CODE => release_process(t, n, *m, me, a),
+        BUILD_SEGMENT_CODE => {
             let g = free_slot(t, n, Kind::Segment, me.cell);
             build_segment(t, n, me, g, a, b, c)
         }
-        4 => rendezvous(t, n, *m, me, a, b),
-        5 => give_up(t, n, me, Kind::Segment, a, XN_SG_DES, XB_SG_DES),
+        RENDEZVOUS_CODE => rendezvous(t, n, *m, me, a, b),
+        RELEASE_SEGMENT_CODE => give_up(t, n, me, Kind::Segment, a, XN_SG_DES, XB_SG_DES),
         _ => set_access(t, n, *m, me, a, b),
     }
 }
@@ -83,14 +103,14 @@ fn on_files(
     ensures { λ r. ⌜ ((s buffer : List ℕ) → Plain (now (t .entry)) (me .slot) code a b c r (now (t .exit)) s buffer) ⌝ }
 {
     match code {
-        7 => {
+        CREATE_CODE => {
             let f = free_slot(t, n, Kind::File, me.cell);
             create(t, n, me, f, a, b)
         }
-        8 => open(t, n, *m, me, a, b),
-        9 => give_up(t, n, me, Kind::File, a, XBAD_OD, XBAD_OD),
-        10 => link(t, n, *m, me, a),
-        11 => unlink(t, n, *m, me, a),
+        OPEN_CODE => open(t, n, *m, me, a, b),
+        CLOSE_CODE => give_up(t, n, me, Kind::File, a, XBAD_OD, XBAD_OD),
+        LINK_CODE => link(t, n, *m, me, a),
+        UNLINK_CODE => unlink(t, n, *m, me, a),
         _ => set_bits(t, n, *m, me, a, b),
     }
 }
@@ -112,11 +132,11 @@ fn on_contents(
     ensures { λ r. ⌜ Through (now (t .entry)) (now (store .entry)) (now (buffer .entry)) (ruleIn (now (t .entry)) (now (store .entry)) (me .slot) code a b c (now (buffer .entry))) r (now (t .exit)) (now (store .exit)) (now (buffer .exit)) ⌝ }
 {
     match code {
-        13 => read_block(t, n, *m, me, store, a, b, buffer),
-        14 => write_block(t, n, *m, me, store, a, b, buffer),
-        15 => post(t, n, *m, me, a, buffer),
-        16 => receive(t, n, me, buffer),
-        17 => status(t, n, *m, me, a, buffer),
+        READ_BLOCK_CODE => read_block(t, n, *m, me, store, a, b, buffer),
+        WRITE_BLOCK_CODE => write_block(t, n, *m, me, store, a, b, buffer),
+        POST_CODE => post(t, n, *m, me, a, buffer),
+        RECEIVE_CODE => receive(t, n, me, buffer),
+        STATUS_CODE => status(t, n, *m, me, a, buffer),
         _ => access_of(t, n, *m, me, a),
     }
 }
@@ -136,7 +156,7 @@ fn on_map(
     ensures { λ r. ⌜ ((s buffer : List ℕ) → Plain (now (t .entry)) (me .slot) code a b c r (now (t .exit)) s buffer) ⌝ }
 {
     match code {
-        19 => remap(t, n, *m, me, a, b, c),
+        REMAP_CODE => remap(t, n, *m, me, a, b, c),
         _ => page_access(t, n, *m, me, a),
     }
 }
@@ -157,16 +177,16 @@ pub(crate) fn carry_out(
     requires { ⌜ Sound (now t) n me × (now m ≡ flowMatrix (configuration (now t))) × (length (now store) ≡ storeBytes (configuration (now t))) × (1 ≤ code) × (code ≤ lastCode) ⌝ }
     ensures { λ r. ⌜ Through (now (t .entry)) (now (store .entry)) (now (buffer .entry)) (ruleIn (now (t .entry)) (now (store .entry)) (me .slot) code a b c (now (buffer .entry))) r (now (t .exit)) (now (store .exit)) (now (buffer .exit)) ⌝ }
 {
-    if code <= 6 {
+    if code <= SET_ACCESS_CODE {
         return on_processes_and_segments(t, n, m, me, code, a, b, c);
     }
-    if code <= 12 {
+    if code <= SET_BITS_CODE {
         return on_files(t, n, m, me, code, a, b, c);
     }
-    if code <= 18 {
+    if code <= ACCESS_CODE {
         return on_contents(t, store, n, m, me, code, a, b, c, buffer);
     }
-    if code <= 20 {
+    if code <= PAGE_ACCESS_CODE {
         return on_map(t, n, m, me, code, a, b, c);
     }
     let g = slot_in(t, n, b);

@@ -25,6 +25,7 @@ use layout::Kind;
 use layout::header_of;
 use rules::LIVE;
 use rules::MAX_CELLS;
+use rules::REGRADE_CODE;
 use rules::XB_PR_SD;
 use rules::XB_TAB;
 use rules::XBD_KCL;
@@ -45,8 +46,6 @@ mod room;
 mod segments;
 mod status;
 mod trays;
-
-const LAST_CODE: u32 = 21;
 
 // "An answer is the number and two words." A host in C takes it as it stands.
 #[repr(C)]
@@ -96,7 +95,7 @@ pub(crate) fn bad_caller(t: &[u32], n: Header, p: u32) -> bool
 pub(crate) fn bad_code(code: u32) -> bool
     ensures { λ r. ⌜ r ≡ badCode code ⌝ }
 {
-    (code == 0) | (LAST_CODE < code)
+    (code == 0) | (REGRADE_CODE < code)
 }
 
 // One call on a judged table: the caller, then the code, then the call's own list. It reads the header from the table: handed on by value, it would be written to memory

@@ -9,6 +9,9 @@ ghost use Rattle.rules.specs.Step.{answer};
 ghost use Rattle.rules.specs.Replay.{decimalIn, decimal, hexDigit, hex, space, showsBuffer, line};
 ghost use Rattle.output.specs.Wrote.{Wrote};
 ghost use Rattle.text.specs.Names.{errors, padded};
+use rules::READ_BLOCK_CODE;
+use rules::RECEIVE_CODE;
+use rules::STATUS_CODE;
 use rules::XOK;
 
 const ERRORS: usize = 35;
@@ -164,7 +167,8 @@ pub fn put_hex(out: &mut [u8], at: usize, s: &[u8]) -> usize
 fn shows_buffer(code: u32, error: u32) -> bool
     ensures { λ r. ⌜ r ≡ showsBuffer code error ⌝ }
 {
-    (error == XOK) & ((code == 13) | ((code == 16) | (code == 17)))
+    let fills = (code == READ_BLOCK_CODE) | ((code == RECEIVE_CODE) | (code == STATUS_CODE));
+    (error == XOK) & fills
 }
 
 fn put_front(out: &mut [u8], at: usize, n: u64, error: u32) -> usize
