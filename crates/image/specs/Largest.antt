@@ -1,6 +1,6 @@
 -- How many words the largest table has.
-use Prim.Native.Nat.{ℕ, _+_, _*_}
-use Rattle.rules.specs.Layout.{maxCells, maxSlots, process, segment, file, recordWords, headerWords, cellWords}
+use Prim.Native.Nat.{ℕ}
+use Rattle.rules.specs.Layout.{maxSlots, wordsAtMost}
 
 abbrev pub mostWords : ℕ
-mostWords = headerWords + cellWords * maxCells + recordWords process * maxSlots + recordWords segment * maxSlots + recordWords file * maxSlots
+mostWords = wordsAtMost maxSlots

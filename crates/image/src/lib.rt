@@ -11,24 +11,16 @@ ghost use Rattle.image.specs.Largest.{mostWords};
 ghost use Rattle.image.specs.Reading.{ReadIn};
 use numerals::Fed;
 use numerals::Part;
-use rules::CELL_WORDS;
-use rules::FILE_WORDS;
-use rules::HEADER_WORDS;
-use rules::MAX_CELLS;
+use rules::MAX_CONFIGURATION_WORDS;
 use rules::MAX_SLOTS;
-use rules::PROCESS_WORDS;
-use rules::SEGMENT_WORDS;
+use rules::SLOT_WORDS;
 use rules::XB_PARAM;
 use rules::XB_SZ;
 use rules::XB_TAB;
 use rules::XOK;
 
 // The words of the largest table.
-const MOST_WORDS: usize = HEADER_WORDS
-    + CELL_WORDS * MAX_CELLS
-    + PROCESS_WORDS * MAX_SLOTS
-    + SEGMENT_WORDS * MAX_SLOTS
-    + FILE_WORDS * MAX_SLOTS;
+const MOST_WORDS: usize = MAX_CONFIGURATION_WORDS + SLOT_WORDS * MAX_SLOTS;
 
 // Whether the words of an image were read, and the place past them.
 struct Read {

@@ -9,23 +9,15 @@ ghost use Rattle.player.specs.Went.{Came, Pieced, Went, Replayed};
 use libc::STDIN_FILENO;
 use libc::STDOUT_FILENO;
 use rules::BLOCK_BYTES;
-use rules::CELL_WORDS;
-use rules::FILE_WORDS;
-use rules::HEADER_WORDS;
-use rules::MAX_CELLS;
-use rules::PROCESS_WORDS;
-use rules::SEGMENT_WORDS;
+use rules::MAX_CONFIGURATION_WORDS;
+use rules::SLOT_WORDS;
 use session::MAX_BUFFER;
 use session::MAX_REPLAY_BLOCKS;
 use session::MAX_REPLAY_SLOTS;
 use session::Session;
 
 // Room for the largest table that replay takes, for its store, and for the bytes of a call.
-pub const TABLE_WORDS: usize = HEADER_WORDS
-    + CELL_WORDS * MAX_CELLS
-    + PROCESS_WORDS * MAX_REPLAY_SLOTS
-    + SEGMENT_WORDS * MAX_REPLAY_SLOTS
-    + FILE_WORDS * MAX_REPLAY_SLOTS;
+pub const TABLE_WORDS: usize = MAX_CONFIGURATION_WORDS + SLOT_WORDS * MAX_REPLAY_SLOTS;
 
 pub const STORE_BYTES: usize = MAX_REPLAY_BLOCKS * BLOCK_BYTES;
 

@@ -8,7 +8,7 @@ use native.Mathlib.Nat.{mul-assoc}
 use lib.ListN.{length, getD, take, replicate, length-append, length-replicate, length-take}
 use lib.Seq.{getD-take, take-take, take-all, length-take-le, length-sets}
 use Rattle.rules.specs.Claim.{_&_, Holds, test}
-use Rattle.rules.specs.Layout.{maxCells, blockBytes, process, segment, file, headerWords, cellWords, recordWords, cells, slots, blocks, configuration, tableWords, storeBytes}
+use Rattle.rules.specs.Layout.{maxCells, blockBytes, process, segment, file, headerWords, cellWords, cells, slots, blocks, configuration, tableWords, wordsAtMost, storeBytes}
 use Rattle.rules.specs.WellFormed.{configured, lengthsExact}
 use Rattle.rules.specs.SetUp.{canSetUp, firstProcesses, freshTable, setUpAnswer, setUpTable}
 use Rattle.rules.specs.Step.{State}
@@ -23,9 +23,7 @@ use Rattle.session.specs.Turn.{wordsAsked, wordsOf, bytesOf, accepts, ta
 
 -- room for the largest table and store that replay takes
 abbrev pub mostWords : ℕ
-mostWords =
-    headerWords + cellWords * maxCells + recordWords process * maxReplaySlots + recordWords segment * maxReplaySlots
-    + recordWords file * maxReplaySlots
+mostWords = wordsAtMost maxReplaySlots
 
 abbrev pub mostBytes : ℕ
 mostBytes = maxReplayBlocks * blockBytes
