@@ -22,6 +22,9 @@ use rules::XOK;
 // The words of the largest table.
 const MOST_WORDS: usize = MAX_CONFIGURATION_WORDS + SLOT_WORDS * MAX_SLOTS;
 
+// Room for a table of some few slots: a small reload clears no more.
+const FEW_WORDS: usize = 2048;
+
 // Whether the words of an image were read, and the place past them.
 struct Read {
     right: bool,
@@ -185,6 +188,10 @@ pub fn reload(t: &mut [u32], store: &mut [u8], image: &[u8]) -> u32
     ensures { λ _. ⌜ now (store .exit) ≡ reloadStore (now (t .entry)) (now (store .entry)) (now (image .entry)) ⌝ }
 {
     let n = t.len();
+    if n <= FEW_WORDS {
+        let mut words = [0u32; FEW_WORDS];
+        return reload_by(t, store, image, &mut words[..n]);
+    }
     if MOST_WORDS < n {
         return XB_PARAM;
     }
