@@ -23,6 +23,7 @@ use Rattle.calls.specs.declared.entries.Entry.{Entry}
 use Rattle.calls.specs.World.{Known, wordsOf, holdable}
 use Rattle.calls.specs.Entries.{entryOf, freedAt}
 use Rattle.calls.specs.Holding.{HoldingAt, Holding}
+use Rattle.calls.proofs.Searches.{record-some}
 use Rattle.calls.proofs.Given.{begins, freed-is}
 use Rattle.calls.proofs.MapLaws.{pages-same}
 
@@ -50,11 +51,6 @@ holders-in : (k : Kind) → holdable k ≡ true → holders k < recordWords k
 holders-in process th = both-ways false th refl
 holders-in segment th = omega arith
 holders-in file th = omega arith
-
-record-some : (k : Kind) → 2 < recordWords k
-record-some process = omega arith
-record-some segment = omega arith
-record-some file = omega arith
 
 no-process : (k : Kind) → holdable k ≡ true → class process ≡ class k → ⊥
 no-process process th e = both-ways false th refl

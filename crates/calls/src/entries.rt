@@ -4,7 +4,7 @@ ghost use mathlib.Core.Bool.{true};
 ghost use Prim.Native.Nat.{_+_, _*_, _≤_, _<_, _^_};
 ghost use lib.ListN.{length, getD, set, replicate};
 ghost use lib.Seq.{sets};
-ghost use Rattle.rules.specs.Layout.{process, file, recordWords, configuration, cellOf, entries, holders};
+ghost use Rattle.rules.specs.Layout.{process, recordWords, configuration, cellOf, owner, entries, holders};
 ghost use Rattle.rules.specs.Rule.{write};
 ghost use Rattle.rules.specs.Find.{givenUp, kept};
 ghost use Rattle.layout.specs.Kinds.{kindOf};
@@ -67,7 +67,7 @@ pub(crate) fn clear(t: &mut [u32], from: usize, n: usize)
 
 // The record of n words that begins at a place becomes zero but for its serial.
 pub(crate) fn free_record(t: &mut [u32], from: usize, n: usize)
-    requires { ⌜ (from < 2 ^ 44) × (recordWords file ≤ n) × (n ≤ recordWords process) ⌝ }
+    requires { ⌜ (from < 2 ^ 44) × (owner < n) × (n ≤ recordWords process) ⌝ }
     ensures { λ _. ⌜ now (t .exit) ≡ freedAt (now (t .entry)) from n ⌝ }
 {
     put(t, from + LIVE, 0);

@@ -1,5 +1,5 @@
-use Rattle.calls.proofs.Whole.{caller-told}
 -- `bad_caller` meets its contract.
+use Rattle.calls.proofs.Whole.{caller-told}
 use borrow.Author.Needs.{needs}
 use Rattle.calls.proofs.bad_caller.Statement.{statement}
 use Rattle.calls.proofs.bad_caller.Tie as tie

@@ -1,6 +1,6 @@
+-- `call` meets its contract: refused where the table is bad, and else the call on the judged table.
 use Rattle.laws.proofs.Tests.{passed, failed}
 use Rattle.calls.proofs.Whole.{no-table, ready-by}
--- `call` meets its contract: refused where the table is bad, and else the call on the judged table.
 use borrow.Author.Needs.{needs}
 use Rattle.calls.proofs.call.Statement.{statement}
 use Rattle.calls.proofs.call.Tie as tie

@@ -1,8 +1,8 @@
+-- `dispatch::on_files` meets its contract: each code has its rule, and create takes the slot that the search finds.
 use Rattle.calls.proofs.Codes.{plain-7, plain-8, plain-9, plain-10, plain-11, plain-12}
 use Rattle.calls.proofs.Searches.{home-in}
 use native.Mathlib.Omega.{arith}
 use mathlib.Core.Path.{refl}
--- `dispatch::on_files` meets its contract: each code has its rule, and create takes the slot that the search finds.
 use borrow.Author.Needs.{needs}
 use Rattle.calls.proofs.dispatch.on_files.Statement.{statement}
 use Rattle.calls.proofs.dispatch.on_files.Tie as tie

@@ -1,8 +1,8 @@
+-- `dispatch::on_processes_and_segments` meets its contract: each code has its rule, and creating calls take the slot that the search finds.
 use Rattle.calls.proofs.Codes.{plain-1, plain-2, plain-3, plain-4, plain-5, plain-6}
 use Rattle.calls.proofs.Searches.{home-in}
 use native.Mathlib.Omega.{arith}
 use mathlib.Core.Path.{refl}
--- `dispatch::on_processes_and_segments` meets its contract: each code has its rule, and creating calls take the slot that the search finds.
 use borrow.Author.Needs.{needs}
 use Rattle.calls.proofs.dispatch.on_processes_and_segments.Statement.{statement}
 use Rattle.calls.proofs.dispatch.on_processes_and_segments.Tie as tie
