@@ -9,7 +9,7 @@ use lib.Dec.{leb, ltb, eqb}
 use lib.ListN.{getD}
 use borrow.Author.Tests.{lt-ltb, le-ltb, leb-true, leb-false, eq-eqb, ne-eqb}
 use Rattle.rules.specs.Words.{sumBelow}
-use Rattle.rules.specs.Layout.{maxSlots, maxSerial, Kind, process, segment, file, headerWords, cellWords, recordWords, cells, slots, slotsWord, blocks, guard, cellWord, cellSlotsWord, configuration, firstSlot, cellOf, Addr, at, base, offset, rd, live}
+use Rattle.rules.specs.Layout.{maxSlots, maxSerial, Kind, process, segment, file, cellWords, recordWords, cells, slots, slotsWord, blocks, guard, cellWord, cellSlotsWord, configuration, firstSlot, cellOf, Addr, at, base, offset, rd, live, cellAt}
 use Rattle.laws.proofs.Below.{sum-more, sum-grows}
 use Rattle.laws.proofs.Search.{lowest-is, lowest-none}
 use Rattle.laws.proofs.Tests.{cond-true, cond-false, split}
@@ -63,7 +63,7 @@ unfolding firstBy firstSlot
 first-by-kind h k c = refl
 
 -- word k of cell c, read at the number y of the cell
-pub cell-word : (t : List ℕ) {c k x y : ℕ} → c < cells (configuration t) → k < cellWords → y ≡ c → x ≡ getD t (headerWords + cellWords * y + k) 0
+pub cell-word : (t : List ℕ) {c k x y : ℕ} → c < cells (configuration t) → k < cellWords → y ≡ c → x ≡ getD t (cellAt y k) 0
     → x ≡ cellWord (configuration t) c k
 unfolding cellWord
 cell-word t {c} {k} l m ye xe =
@@ -119,7 +119,7 @@ module _ {t : List ℕ} {k i n end cell c : ℕ} (kl : k < cellWords) (p : Passe
       ]
 
   -- the next cell: x is its word, read at the number y of the cell
-  module _ (l : c < n) {x y : ℕ} (yc : y ≡ c) (e : x ≡ getD t (headerWords + cellWords * y + k) 0) where
+  module _ (l : c < n) {x y : ℕ} (yc : y ≡ c) (e : x ≡ getD t (cellAt y k) 0) where
     word-is : x ≡ cellWord (configuration t) c k
     word-is = cell-word t (omega (arith, p .count)) kl yc e
 

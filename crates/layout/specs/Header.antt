@@ -22,11 +22,15 @@ slotsOf n process = n .processes
 slotsOf n segment = n .segments
 slotsOf n file = n .files
 
+-- how many words the configuration has
+abbrev pub configurationOf : Header → ℕ
+configurationOf n = headerWords + cellWords * n .cells
+
 -- where the records of a kind begin, a record begins, and a word of one lies
 abbrev pub baseOf : Header → Kind → ℕ
-baseOf n process = headerWords + cellWords * n .cells
-baseOf n segment = headerWords + cellWords * n .cells + recordWords process * n .processes
-baseOf n file = headerWords + cellWords * n .cells + recordWords process * n .processes + recordWords segment * n .segments
+baseOf n process = configurationOf n
+baseOf n segment = configurationOf n + recordWords process * n .processes
+baseOf n file = configurationOf n + recordWords process * n .processes + recordWords segment * n .segments
 
 abbrev pub recordOf : Header → Kind → ℕ → ℕ
 recordOf n k i = baseOf n k + recordWords k * i

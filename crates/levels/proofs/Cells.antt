@@ -11,7 +11,7 @@ use lib.Seq.{getD-set-same, set-getD, set-set}
 use borrow.Author.Tests.{lt-ltb, le-ltb, ltb-true, ltb-false}
 use Rattle.rules.specs.Words.{tabFrom}
 use Rattle.rules.specs.Level.{level, flowsTo}
-use Rattle.rules.specs.Layout.{maxCells, headerWords, cellWords, configurationWords, cells, cellWord, levelOf, configuration, flows, flowMatrix}
+use Rattle.rules.specs.Layout.{maxCells, headerWords, cellWords, configurationWords, cells, cellWord, levelOf, configuration, flows, flowMatrix, cellAt}
 use Rattle.laws.proofs.Tests.{same-test, split}
 use Rattle.laws.proofs.Tab.{length-tab, getD-tab2}
 use Rattle.laws.proofs.Fill.{tab-at, tab-past, tab-any, tab-same, upTo, upTo-more, upTo-all}
@@ -29,12 +29,12 @@ cell-past t c k h =
 
 -- n is the table's first word, as the code read it
 module _ (t : List ℕ) (n c : ℕ) (count : n ≡ getD t 0 0) where
-  cell-in : (k x : ℕ) → c < n → k < cellWords → x ≡ getD t (headerWords + cellWords * c + k) 0 → x ≡ cellWord (configuration t) c k
+  cell-in : (k x : ℕ) → c < n → k < cellWords → x ≡ getD t (cellAt c k) 0 → x ≡ cellWord (configuration t) c k
   unfolding cellWord cells
   cell-in k x h l e = e ∙ sym (conf-cell t c k (omega arith) l)
 
-  pub level-in : c < n → (s i m : ℕ) → s ≡ getD t (headerWords + cellWords * c) 0 → i ≡ getD t (headerWords + cellWords * c + 1) 0
-      → m ≡ getD t (headerWords + cellWords * c + 2) 0
+  pub level-in : c < n → (s i m : ℕ) → s ≡ getD t (headerWords + cellWords * c) 0 → i ≡ getD t (cellAt c 1) 0
+      → m ≡ getD t (cellAt c 2) 0
       → level s i m ≡ levelOf (configuration t) c
   unfolding levelOf
   level-in h s i m p q r =

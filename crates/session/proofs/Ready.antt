@@ -8,7 +8,7 @@ use native.Mathlib.Nat.{mul-assoc}
 use lib.ListN.{length, getD, take, replicate, length-append, length-replicate, length-take}
 use lib.Seq.{getD-take, take-take, take-all, length-take-le, length-sets}
 use Rattle.rules.specs.Claim.{_&_, Holds, test}
-use Rattle.rules.specs.Layout.{maxCells, blockBytes, process, segment, file, headerWords, cellWords, cells, slots, blocks, configuration, tableWords, wordsAtMost, storeBytes}
+use Rattle.rules.specs.Layout.{maxCells, blockBytes, process, segment, file, headerWords, cellWords, cells, slots, blocks, configuration, tableWords, wordsAtMost, storeBytes, configurationWords}
 use Rattle.rules.specs.WellFormed.{configured, lengthsExact}
 use Rattle.rules.specs.SetUp.{canSetUp, firstProcesses, freshTable, setUpAnswer, setUpTable}
 use Rattle.rules.specs.Step.{State}
@@ -132,7 +132,7 @@ module _ (t st : List ℕ) (few : getD t 0 0 ≤ maxCells) (long : mostWords ≤
   -- and then the table and the store are those that the rules begin with
   short : length h ≤ tableWords h
   unfolding configuration
-  short = let n = length-take (headerWords + cellWords * cells t) t in let c = conf-cells t in omega arith
+  short = let n = length-take (configurationWords t) t in let c = conf-cells t in omega arith
 
   length-fresh : length (freshTable h) ≡ tableWords h
   unfolding freshTable

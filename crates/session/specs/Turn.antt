@@ -7,7 +7,7 @@ use Prim.Native.Nat.{ℕ, _+_, _*_, _%_, _^_, _≤_, min}
 use lib.Dec.{eqb}
 use lib.ListN.{length, getD, take, replicate}
 use lib.Seq.{sets}
-use Rattle.rules.specs.Layout.{blockBytes, process, segment, file, headerWords, cellWords, recordWords, cells, slots, blocks}
+use Rattle.rules.specs.Layout.{blockBytes, process, segment, file, recordWords, slots, blocks, configurationWords}
 use Rattle.rules.specs.Errors.{XOK}
 use Rattle.rules.specs.SetUp.{setUpAnswer, setUpTable}
 use Rattle.rules.specs.Step.{Outcome, step}
@@ -61,7 +61,7 @@ pub record Turn : Type 0 where
 -- (02, CR 5: "the replay program keeps its own limit of 64 slots of each kind": no more of the table is asked for, so that set-up, which wants the length exact, refuses a larger hall)
 abbrev pub wordsAsked : List ℕ → ℕ
 wordsAsked t =
-    headerWords + cellWords * cells t + recordWords process * min (slots t process) maxReplaySlots + recordWords segment * min (slots t segment) maxReplaySlots
+    configurationWords t + recordWords process * min (slots t process) maxReplaySlots + recordWords segment * min (slots t segment) maxReplaySlots
     + recordWords file * min (slots t file) maxReplaySlots
 
 abbrev pub wordsOf : List ℕ → ℕ

@@ -9,7 +9,7 @@ use lib.ListN.{length, getD, set, take, replicate, length-set, length-append, le
 use lib.Seq.{length-take-le, take-suc-set, take-length, take-at, getD-take}
 use Rattle.rules.specs.Words.{sumBelow}
 use Rattle.rules.specs.Claim.{Holds, test}
-use Rattle.rules.specs.Layout.{maxSlots, process, segment, file, headerWords, cellWords, recordWords, cells, cellWord, configuration, firstSlot, tableWords, live, serial, owner, group, bits}
+use Rattle.rules.specs.Layout.{maxSlots, process, segment, file, headerWords, cellWords, recordWords, cells, cellWord, configuration, firstSlot, tableWords, live, serial, owner, group, bits, cellAt, configurationWords}
 use Rattle.rules.specs.Errors.{XOK, XbParam}
 use Rattle.rules.specs.Rule.{write}
 use Rattle.rules.specs.WellFormed.{configured}
@@ -101,7 +101,7 @@ module _ (t₀ : List ℕ) (base end : ℕ) (t : List ℕ) (slot c : ℕ) (b : B
   begun-low = omega (arith, begun-long, b .exact, shape .few-cells, shape .few process, shape .few segment, shape .few file)
 
   module _ (l : c < end) where
-    pub cell-in : headerWords + cellWords * c + cellWords ≤ length t
+    pub cell-in : cellAt c cellWords ≤ length t
     cell-in = omega (arith, begun-long, b .exact, b .count)
 
     pub record-in : base + recordWords process * slot + recordWords process ≤ length t
@@ -109,19 +109,19 @@ module _ (t₀ : List ℕ) (base end : ℕ) (t : List ℕ) (slot c : ℕ) (b : B
         let m : c < cells (configuration t₀) = omega (arith, b .count) in
         omega (arith, begun-long, b .exact, b .count, b .base-is, b .next, run-end (configuration t₀) process c m, shape .own-process c m, shape .sums process)
 
-    word-is : (k x : ℕ) → k < cellWords → x ≡ getD t (headerWords + cellWords * c + k) 0 → x ≡ cellWord (configuration t₀) c k
+    word-is : (k x : ℕ) → k < cellWords → x ≡ getD t (cellAt c k) 0 → x ≡ cellWord (configuration t₀) c k
     unfolding cells
     word-is k x m e =
         let q : cells t ≡ end = sym (conf-cells t) ∙ ap cells same-configuration ∙ sym (b .count) in
         e ∙ sym (cell-word t c k (omega (arith, q)) m) ∙ ap (λ (h : List ℕ). cellWord h c k) same-configuration
 
-    pub slot-in : (x : ℕ) → x ≡ getD t (headerWords + cellWords * c + 3) 0 → slot + x ≤ maxSlots
+    pub slot-in : (x : ℕ) → x ≡ getD t (cellAt c 3) 0 → slot + x ≤ maxSlots
     slot-in x e =
         let m : c < cells (configuration t₀) = omega (arith, b .count) in
         omega (arith, b .next, word-is 3 x (omega arith) e, run-end (configuration t₀) process c m, shape .sums process, shape .few process)
 
     pub begun-more : (x first-owner first-group : ℕ) (t′ : List ℕ)
-        → x ≡ getD t (headerWords + cellWords * c + 3) 0 → first-owner ≡ getD t (headerWords + cellWords * c + 6) 0 → first-group ≡ getD t (headerWords + cellWords * c + 7) 0
+        → x ≡ getD t (cellAt c 3) 0 → first-owner ≡ getD t (cellAt c 6) 0 → first-group ≡ getD t (cellAt c 7) 0
         → t′ ≡ set (set (set (set (set t (base + recordWords process * slot + live) 1) (base + recordWords process * slot + serial) 1)
         (base + recordWords process * slot + owner) first-owner)
         (base + recordWords process * slot + group) first-group) (base + recordWords process * slot + bits process) firstBits
@@ -149,7 +149,7 @@ module _ (t₀ : List ℕ) (base end : ℕ) (t : List ℕ) (slot c : ℕ) (b : B
 -- ---- the two together
 
 module _ (t : List ℕ) (n : Header) (f : Framed t n) where
-  from-is : headerWords + cellWords * cells t ≡ baseOf n process
+  from-is : configurationWords t ≡ baseOf n process
   from-is = ap (λ (k : ℕ). headerWords + cellWords * k) (sym (conf-cells t) ∙ cells-read t n (f .header))
 
   from-in : baseOf n process ≤ length t

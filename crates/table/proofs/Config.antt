@@ -7,7 +7,7 @@ use native.Mathlib.Omega.{arith}
 use lib.ListN.{length, getD}
 use borrow.Author.Tests.{ne-eqb}
 use Rattle.rules.specs.Claim.{test, _&_, each}
-use Rattle.rules.specs.Layout.{maxSlots, headerWords, cellWords, Kind, process, segment, file, cells, slots, blocks, guard, cellWord, configuration, base, tableWords}
+use Rattle.rules.specs.Layout.{maxSlots, headerWords, cellWords, Kind, process, segment, file, cells, slots, blocks, guard, cellWord, configuration, base, tableWords, cellAt}
 use Rattle.rules.specs.WellFormed.{headerOk, cellOk, levelsDistinct, sumsMatch, configured, lengthsExact}
 use Rattle.rules.specs.SetUp.{canSetUp}
 use Rattle.laws.proofs.Claims.{holds}
@@ -21,9 +21,9 @@ pub head-word : (t : List ℕ) (i : ℕ) → i < headerWords → getD (configura
 head-word t i l = conf-word t i (omega arith)
 
 -- a word of a cell
-pub cell-word : (t : List ℕ) (c k : ℕ) → c < getD t 0 0 → k < cellWords → cellWord (configuration t) c k ≡ getD t (headerWords + cellWords * c + k) 0
+pub cell-word : (t : List ℕ) (c k : ℕ) → c < getD t 0 0 → k < cellWords → cellWord (configuration t) c k ≡ getD t (cellAt c k) 0
 unfolding cellWord cells
-cell-word t c k l m = conf-word t (headerWords + cellWords * c + k) (omega arith)
+cell-word t c k l m = conf-word t (cellAt c k) (omega arith)
 
 -- the header that layout reads has the table's words
 pub header-read : (t : List ℕ) (n : Header) → n ≡ headerOf t → IsHeader t n

@@ -7,7 +7,7 @@ use native.Mathlib.Omega.{arith}
 use borrow.Author.Count.{below-more}
 use lib.ListN.{length, getD, set}
 use lib.Seq.{getD-set-same, getD-set-other}
-use Rattle.rules.specs.Layout.{maxSlots, Kind, cellWords, headerWords, cells, slots, cellWord, cellSlots, cellSlotsWord, firstSlot, cellOf, configuration}
+use Rattle.rules.specs.Layout.{maxSlots, Kind, cellWords, cells, slots, cellWord, cellSlots, cellSlotsWord, firstSlot, cellOf, configuration, cellAt}
 use Rattle.laws.proofs.Cells.{first-next, first-grows, cell-run}
 use Rattle.layout.specs.declared.Header.{Header}
 use Rattle.table.specs.Shape.{Shaped}
@@ -29,7 +29,7 @@ module _ (t : List ℕ) (n : Header) (s : Shaped t n) (k : Kind) where
       )
 
   -- the run of a cell ends where its words say
-  pub run-next : (c w x : ℕ) → c < getD t 0 0 → w < cellWords → cellSlotsWord k ≡ w → x ≡ getD t (headerWords + cellWords * c + w) 0
+  pub run-next : (c w x : ℕ) → c < getD t 0 0 → w < cellWords → cellSlotsWord k ≡ w → x ≡ getD t (cellAt c w) 0
       → firstSlot (configuration t) k c + x ≡ firstSlot (configuration t) k (c + 1)
   run-next c w x l m e q =
       rw add-one

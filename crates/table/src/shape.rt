@@ -4,7 +4,7 @@ ghost use Prim.Native.Nat.{_+_, _*_, _≤_, _<_};
 ghost use lib.ListN.{length, getD};
 ghost use Rattle.rules.specs.Words.{sumBelow};
 ghost use Rattle.rules.specs.Claim.{test, each, _&_};
-ghost use Rattle.rules.specs.Layout.{headerWords, cellWords, cells, cellWord, configuration};
+ghost use Rattle.rules.specs.Layout.{headerWords, cellWords, cells, cellWord, configuration, cellAt};
 ghost use Rattle.rules.specs.WellFormed.{headerOk, cellOk, levelsDistinct, sumsMatch, lengthsExact};
 ghost use Rattle.rules.specs.SetUp.{canSetUp};
 ghost use Rattle.table.specs.Shape.{IsHeader, Small, Framed};
@@ -49,7 +49,7 @@ fn lengths_exact(t: &[u32], n: Header, store_bytes: usize) -> bool
 }
 
 fn cell_ok(t: &[u32], c: usize) -> bool
-    requires { ⌜ (c < getD (now t) 0 0) × (headerWords + cellWords * c + cellWords ≤ length (now t)) ⌝ }
+    requires { ⌜ (c < getD (now t) 0 0) × (cellAt c cellWords ≤ length (now t)) ⌝ }
     ensures { λ r. ⌜ r ≡ test (cellOk (configuration (now (t .entry))) c) ⌝ }
 {
     let at = HEADER_WORDS + CELL_WORDS * c;

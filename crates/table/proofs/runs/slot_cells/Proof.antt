@@ -4,7 +4,7 @@ use mathlib.Core.Path.{_≡_, sym, ap, _∙_}
 use Prim.Native.Nat.{_+_, _*_, _-_, _≤_, _<_}
 use borrow.Author.Count.{below-none}
 use lib.ListN.{length, length-set}
-use Rattle.rules.specs.Layout.{maxSlots, Kind, headerWords, cellWords, cells, cellSlotsWord, firstSlot, configuration}
+use Rattle.rules.specs.Layout.{maxSlots, Kind, cells, cellSlotsWord, firstSlot, configuration, cellAt}
 use Rattle.layout.specs.Kinds.{kindOf}
 use Rattle.table.proofs.Loops.{sum-first}
 use Rattle.table.proofs.Config.{cells-read}
@@ -86,7 +86,7 @@ add-end c =
       arith,
       c .wide2 .ensures,
       c .before .before .before .loop .inv .3,
-      c .before .shared-slice-known2 .given (headerWords + cellWords * c .before .before .before .loop .c + s .cell-word .result),
+      c .before .shared-slice-known2 .given (cellAt (c .before .before .before .loop .c) (s .cell-word .result)),
     )
 
 loop2-holds : tie.Need-loop2-holds Inv-loop2 μ-loop2 Inv-loop μ-loop

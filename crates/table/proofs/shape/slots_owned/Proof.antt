@@ -3,7 +3,7 @@ use native.Mathlib.Omega.{arith}
 use mathlib.Core.Path.{_≡_, sym, _∙_}
 use Prim.Native.Nat.{_≤_, _-_, _+_, _*_}
 use Rattle.rules.specs.Words.{sumBelow}
-use Rattle.rules.specs.Layout.{headerWords, cellWords, cells, cellWord, configuration}
+use Rattle.rules.specs.Layout.{cells, cellWord, configuration, cellAt}
 use Rattle.table.proofs.Loops.{sum-first, sum-next, sum-last}
 use Rattle.table.proofs.Config.{cells-read, cell-word}
 use borrow.Author.Needs.{needs}
@@ -57,7 +57,7 @@ add-sum c =
       c .before .before .before .before .wide .ensures,
       c .before .before .loop-test .taken,
       s .pre .0 .small .few-cells,
-      c .before .shared-slice-known2 .given (headerWords + cellWords * c .before .before .before .loop .c + s .args .k),
+      c .before .shared-slice-known2 .given (cellAt (c .before .before .before .loop .c) (s .args .k)),
     )
 
 add-c : tie.Need-add-c Inv-loop μ-loop
@@ -74,7 +74,7 @@ loop-again c =
       search needs,
       sum-next _ (l .inv .2) (c .wide2 .ensures ∙ sym (cell-word (s .args .t .now) (l .c) (s .args .k)
           (omega (arith, c .before .before .before .before .wide .ensures, c .before .before .loop-test .taken, s .pre .0 .header .cells-is)) (s .pre .1))),
-      omega (arith, c .wide2 .ensures, l .inv .3, c .before .shared-slice-known2 .given (headerWords + cellWords * l .c + s .args .k)),
+      omega (arith, c .wide2 .ensures, l .inv .3, c .before .shared-slice-known2 .given (cellAt (l .c) (s .args .k))),
     )
 
 returns : tie.Need-returns Inv-loop μ-loop
