@@ -32,7 +32,7 @@ use Rattle.calls.specs.declared.Part.{Part}
 use Rattle.calls.specs.declared.entries.Entry.{Entry}
 use Rattle.calls.specs.declared.objects.Seen.{Seen}
 use Rattle.calls.specs.World.{Known, Sound, wordsOf}
-use Rattle.calls.specs.Seen.{namedOf, seenAs}
+use Rattle.calls.specs.Seen.{namedOf, seenOf}
 use Rattle.calls.specs.Entries.{entryOf}
 use Rattle.calls.specs.Calls.{useTests}
 use Rattle.calls.specs.Refusing.{orRefuse, refusing}
@@ -99,7 +99,7 @@ ruleTests r p a s held number read write rest =
 pub record Used (t : List ℕ) (n : Header) (c : Caller) (a : ℕ) (d : Entry) (f : Seen) (z : ℕ) : Type 0 where
   pub sound : Sound t n c
   pub entry : d ≡ entryOf (wordsOf t) file (c .slot) a
-  pub seen : f ≡ seenAs (configuration t) (wordsOf t) (c .slot) file (namedOf n file (d .held))
+  pub seen : f ≡ seenOf (configuration t) (wordsOf t) (c .slot) file (namedOf n file (d .held))
   pub sized : z ≡ wordsOf t (at file (f .slot) size)
 
 module _ {t : List ℕ} {n : Header} {c : Caller} {a : ℕ} {d : Entry} {f : Seen} {z : ℕ} (u : Used t n c a d f z) where

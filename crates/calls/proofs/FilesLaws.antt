@@ -34,7 +34,7 @@ use Rattle.calls.specs.declared.objects.Seen.{Seen}
 use Rattle.calls.specs.World.{Known, Sound, wordsOf, Clashable, firstBy}
 use Rattle.calls.specs.Left.{ruleAt}
 use Rattle.calls.specs.Refusing.{orRefuse, refusing}
-use Rattle.calls.specs.Seen.{namedOf, seenAs, findTests, ownTests, slotFound}
+use Rattle.calls.specs.Seen.{namedOf, seenOf, findTests, ownTests, slotFound}
 use Rattle.calls.specs.declared.room.Slot.{Slot}
 use Rattle.ids.specs.Seid.{seidOf}
 use Rattle.calls.specs.Calls.{giveUpRule, openTests}
@@ -60,7 +60,7 @@ give-up-number h r k p a beyond empty buffer lb le xe ze ee₁ ee₂ =
 -- ---- 10 and 11: link and unlink. s is the seid, f what is seen of it, m its links
 
 module _ {t : List ℕ} {n : Header} {c : Caller} (sound : Sound t n c) (a : ℕ) (buffer : List ℕ) {s m e₁ e₂ : ℕ} {f : Seen} (self : s ≡ orSelf (wordsOf t) (c .slot) a)
-    (seen : f ≡ seenAs (configuration t) (wordsOf t) (c .slot) file (namedOf n file s)) (count : m ≡ wordsOf t (at file (f .slot) links))
+    (seen : f ≡ seenOf (configuration t) (wordsOf t) (c .slot) file (namedOf n file s)) (count : m ≡ wordsOf t (at file (f .slot) links))
     (found : e₁ ≡ refusing 0 (ownTests f file)) where
   module _ (last : e₂ ≡ orRefuse e₁ (eqb m maxLinks) XbadLink) where
     pub link-number : e₂ ≡ firstRefusal (ruleAt t (λ h q. link h q (c .slot) a buffer) .refusals)
@@ -129,7 +129,7 @@ module _ {t : List ℕ} {n : Header} (known : Known t n) (i : ℕ) {m held : ℕ
 -- ---- 12: set bits, of a kind
 
 module _ {t : List ℕ} {n : Header} {c : Caller} (sound : Sound t n c) (k : Kind) (s b : ℕ) (buffer : List ℕ) {e₁ e₂ e₃ : ℕ} {x : Seen} {fixed : Bool}
-    (seen : x ≡ seenAs (configuration t) (wordsOf t) (c .slot) k (namedOf n k s)) (shared : fixed ≡ isShared (wordsOf t) k (x .slot))
+    (seen : x ≡ seenOf (configuration t) (wordsOf t) (c .slot) k (namedOf n k s)) (shared : fixed ≡ isShared (wordsOf t) k (x .slot))
     (first : e₁ ≡ orRefuse 0 (ltb maxBits b) XbParam) (second : e₂ ≡ refusing e₁ (ownTests x k)) (last : e₃ ≡ orRefuse e₂ fixed XshSg) where
   -- the code's tests
   abbrev tests : List Refusal
@@ -256,7 +256,7 @@ module _ (t : List ℕ) (cell s b : ℕ) {from m : ℕ} (fe : from ≡ firstBy (
 
 -- the refusals: s is the seid, f what is seen of it, d the descriptor that was found
 module _ {t : List ℕ} {n : Header} {c : Caller} (sound : Sound t n c) (a b : ℕ) (buffer : List ℕ) {s d e₁ : ℕ} {f : Seen} (self : s ≡ orSelf (wordsOf t) (c .slot) a)
-    (seen : f ≡ seenAs (configuration t) (wordsOf t) (c .slot) file (namedOf n file s)) (entry : d ≡ freeEntry (wordsOf t) file (c .slot))
+    (seen : f ≡ seenOf (configuration t) (wordsOf t) (c .slot) file (namedOf n file s)) (entry : d ≡ freeEntry (wordsOf t) file (c .slot))
     (first : e₁ ≡ refusing 0 (openTests f b)) where
   -- past the first stage the search may be made
   pub may-clash : e₁ ≡ 0 → Clashable t n s b

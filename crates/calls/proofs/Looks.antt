@@ -17,7 +17,7 @@ use Rattle.layout.specs.Header.{slotsOf}
 use Rattle.calls.specs.declared.objects.Seen.{Seen}
 use Rattle.calls.specs.World.{Known, wordsOf}
 use Rattle.calls.specs.Refusing.{refusing}
-use Rattle.calls.specs.Seen.{nameOf, noName, namedOf, seenAs, findTests, ownTests}
+use Rattle.calls.specs.Seen.{nameOf, namedOf, seenAs, unseen, seenOf, findTests, ownTests}
 use Rattle.calls.proofs.Worlds.{slots-is}
 use Rattle.calls.proofs.Refusals.{numbered, past}
 
@@ -33,7 +33,7 @@ own-numbered x segment ys n = n
 own-numbered x file ys n = n
 
 -- what process p sees of the seid s
-module _ {t : List ℕ} {n : Header} (known : Known t n) (p : ℕ) (k : Kind) (s : ℕ) {x : Seen} (seen : x ≡ seenAs (configuration t) (wordsOf t) p k (namedOf n k s)) where
+module _ {t : List ℕ} {n : Header} (known : Known t n) (p : ℕ) (k : Kind) (s : ℕ) {x : Seen} (seen : x ≡ seenOf (configuration t) (wordsOf t) p k (namedOf n k s)) where
   by-form : (b : Bool) → formed (configuration t) k s ≡ b → (x .formed ≡ b) × (b ≡ true → x ≡ seenAs (configuration t) (wordsOf t) p k (nameOf s))
   unfolding namedOf
   by-form true e =
@@ -42,7 +42,7 @@ module _ {t : List ℕ} {n : Header} (known : Known t n) (p : ℕ) (k : Kind) (s
       (ap (λ (y : Seen). y .formed) q, λ _. q)
   by-form false e =
       let f : isSeid (class k) (slotsOf n k) s ≡ false = rw (slots-is known k) e in
-      let q : x ≡ seenAs (configuration t) (wordsOf t) p k noName = rw f at seen in
+      let q : x ≡ unseen = rw f at seen in
       (ap (λ (y : Seen). y .formed) q, λ z. absurd (let w : _≡_ {A = ℕ} 0 1 = cc in omega arith))
 
   pub formed-is : x .formed ≡ formed (configuration t) k s

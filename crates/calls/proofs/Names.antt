@@ -7,7 +7,7 @@ use native.Mathlib.Omega.{arith}
 use lib.Dec.{eqb, ltb}
 use lib.ListN.{length, getD}
 use borrow.Author.Tests.{ltb-true, ltb-false}
-use Rattle.rules.specs.Layout.{maxSerial, maxCells, Kind, process, segment, file, configuration, cellOf, flows, flowMatrix, at, live, serial, owner, group, bits}
+use Rattle.rules.specs.Layout.{maxSerial, maxCells, Kind, process, segment, file, configuration, cellOf, flows, flowMatrix, Addr, at, live, serial, owner, group, bits}
 use Rattle.rules.specs.Seid.{class, indexOf, serialOf, isSeid, seidAt, orSelf}
 use Rattle.rules.specs.Rights.{rights}
 use Rattle.rules.specs.Find.{rightsAt}
@@ -25,7 +25,7 @@ use Rattle.calls.specs.declared.Caller.{Caller}
 use Rattle.calls.specs.declared.objects.Named.{Named}
 use Rattle.calls.specs.declared.objects.Seen.{Seen}
 use Rattle.calls.specs.World.{Known, Sound, wordsOf}
-use Rattle.calls.specs.Seen.{nameOf, noName, namedOf, Sixteen, seenAs}
+use Rattle.calls.specs.Seen.{nameOf, noName, namedOf, Sixteen, unseen, seenOf}
 use Rattle.calls.proofs.Worlds.{shape}
 
 module _ (n : Header) (k : Kind) (s : ℕ) where
@@ -69,7 +69,13 @@ bits-small process e = omega arith
 bits-small segment e = omega arith
 bits-small file e = omega arith
 
--- ---- what is seen, field by field
+-- ---- what is seen: nothing, where the word names nothing
+
+pub not-seen : (h : List ℕ) (r : Addr → ℕ) (n : Header) (p : ℕ) (k : Kind) (s : ℕ) {name : Named} {x : Seen} → name ≡ namedOf n k s → name .formed ≡ false → x ≡ unseen
+    → x ≡ seenOf h r p k (namedOf n k s)
+not-seen h r n p k s e none xe = rw (← e, none, xe)
+
+-- and else field by field
 
 module _ {t : List ℕ} {n : Header} {c : Caller} (sound : Sound t n c) {m : List (List Bool)} (matrix : m ≡ flowMatrix (configuration t)) (k : Kind)
     (s : ℕ) {name : Named} {cell live-word serial-word owner-word group-word bits-at bits-word mine my-group x : ℕ} {f : Bool} (name-is : name ≡ namedOf n k s)
@@ -79,7 +85,7 @@ module _ {t : List ℕ} {n : Header} {c : Caller} (sound : Sound t n c) {m : Lis
     (bits-is : bits-word ≡ wordsOf t (at k (name .slot) bits-at)) (mine-is : mine ≡ wordsOf t (at process (c .slot) owner))
     (my-group-is : my-group ≡ wordsOf t (at process (c .slot) group))
     (flow-is : f ≡ getD (getD m cell []) (c .cell) false) (rights-is : x ≡ rights mine my-group owner-word group-word bits-word) where
-  pub seen : _≡_ {A = Seen} (record {
+  pub seen : name .formed ≡ true → _≡_ {A = Seen} (record {
     formed = name .formed;
     slot = name .slot;
     cell = cell;
@@ -88,8 +94,8 @@ module _ {t : List ℕ} {n : Header} {c : Caller} (sound : Sound t n c) {m : Lis
     present = eqb live-word 1 && eqb serial-word (name .serial);
     mine = eqb owner-word mine;
     rights = x;
-  }) (seenAs (configuration t) (wordsOf t) (c .slot) k (namedOf n k s))
+  }) (seenOf (configuration t) (wordsOf t) (c .slot) k (namedOf n k s))
   unfolding rightsAt
-  seen =
-      rw (← name-is, rights-is, flow-is, bits-is, bits-at-is, live-is, serial-is, owner-is, group-is, mine-is, my-group-is, matrix, cell-is, sound .home)
+  seen some =
+      rw (← name-is, some, rights-is, flow-is, bits-is, bits-at-is, live-is, serial-is, owner-is, group-is, mine-is, my-group-is, matrix, cell-is, sound .home)
       (rw (matrix-any (configuration t) (shape (sound .known) .few-cells) _ _))

@@ -27,7 +27,7 @@ use Rattle.calls.specs.declared.Caller.{Caller}
 use Rattle.calls.specs.declared.objects.Seen.{Seen}
 use Rattle.calls.specs.declared.entries.Entry.{Entry}
 use Rattle.calls.specs.World.{Sound, wordsOf, Clashable, firstBy}
-use Rattle.calls.specs.Seen.{namedOf, seenAs}
+use Rattle.calls.specs.Seen.{namedOf, seenOf}
 use Rattle.calls.specs.Entries.{entryOf, entryFrom}
 use Rattle.calls.proofs.Worlds.{spot, cells-is, first-by-kind}
 use Rattle.calls.proofs.Given.{entry-read}
@@ -188,6 +188,6 @@ module _ {t : List ℕ} {n : Header} {c : Caller} (sound : Sound t n c) {s b : �
 
 -- what the caller sees as its own is of its cell
 pub own-cell : {t : List ℕ} {n : Header} {c : Caller} → Sound t n c → {s b : ℕ} → Clashable t n s b → {f : Seen}
-    → f ≡ seenAs (configuration t) (wordsOf t) (c .slot) file (namedOf n file s)
+    → f ≡ seenOf (configuration t) (wordsOf t) (c .slot) file (namedOf n file s)
     → f .own ≡ true → cellOf (configuration t) file (indexOf s) ≡ c .cell
 own-cell {c = c} sound {s} good seen o = eqb-true _ _ (sym (own-is (sound .known) (c .slot) file s seen (good .form)) ∙ o) ∙ sym (sound .home)

@@ -22,7 +22,7 @@ use Rattle.calls.specs.declared.Answer.{Answer}
 use Rattle.calls.specs.declared.Caller.{Caller}
 use Rattle.calls.specs.declared.objects.Seen.{Seen}
 use Rattle.calls.specs.World.{Known, Sound, wordsOf}
-use Rattle.calls.specs.Seen.{nameOf, namedOf, seenAs}
+use Rattle.calls.specs.Seen.{nameOf, namedOf, seenOf}
 use Rattle.calls.specs.Entries.{fourAt}
 use Rattle.calls.specs.Left.{said, ruleAt, Left}
 use Rattle.calls.specs.Refusing.{refusing}
@@ -68,14 +68,14 @@ flowsTo t p to = flows (configuration t) (cellOf (configuration t) process p) (t
 -- a post past its last test: what the code has found of the receiver and of what waits there, and the number that refuses
 pub record Posted (t : List ℕ) (n : Header) (c : Caller) (a : ℕ) (b : List ℕ) (to : Seen) (waiting y e : ℕ) : Type 0 where
   pub sound : Sound t n c
-  pub seen : to ≡ seenAs (configuration t) (wordsOf t) (c .slot) process (namedOf n process (orSelf (wordsOf t) (c .slot) a))
+  pub seen : to ≡ seenOf (configuration t) (wordsOf t) (c .slot) process (namedOf n process (orSelf (wordsOf t) (c .slot) a))
   pub waits : waiting ≡ wordsOf t (at process (to .slot) queue)
   pub wide : y ≡ waiting
   pub told : e ≡ firstRefusal (postTests to (length b) (flowsTo t (c .slot) to) (mayWrite (to .rights)) (leb messages y))
 
 pub posted : {t : List ℕ} {n : Header} {c : Caller} → Sound t n c → {m : List (List Bool)} → m ≡ flowMatrix (configuration t) → (a : ℕ) (b : List ℕ)
     {s waiting y e : ℕ} {to : Seen} {flow allowed : Bool} → s ≡ orSelf (wordsOf t) (c .slot) a
-    → to ≡ seenAs (configuration t) (wordsOf t) (c .slot) process (namedOf n process s) → waiting ≡ wordsOf t (at process (to .slot) queue) → y ≡ waiting
+    → to ≡ seenOf (configuration t) (wordsOf t) (c .slot) process (namedOf n process s) → waiting ≡ wordsOf t (at process (to .slot) queue) → y ≡ waiting
     → allowed ≡ mayWrite (to .rights) → flow ≡ getD (getD m (c .cell) []) (to .cell) false
     → e ≡ refusing 0 (postTests to (length b) flow allowed (leb messages y)) → Posted t n c a b to waiting y e
 posted {t} {n} {c} sound {m} matrix a b {y = y} {to = to} {flow} {allowed} named seen waits wide may flow-is e-is =

@@ -25,7 +25,7 @@ use Rattle.calls.specs.declared.Answer.{Answer}
 use Rattle.calls.specs.declared.Caller.{Caller}
 use Rattle.calls.specs.declared.objects.Seen.{Seen}
 use Rattle.calls.specs.World.{Sound, wordsOf}
-use Rattle.calls.specs.Seen.{namedOf, seenAs, findTests}
+use Rattle.calls.specs.Seen.{namedOf, seenOf, findTests}
 use Rattle.calls.specs.Refusing.{orRefuse, refusing}
 use Rattle.calls.specs.Left.{said, ruleAt, answerOf, bufferOf}
 use Rattle.calls.specs.Told.{toldAt}
@@ -57,11 +57,11 @@ statusTests x k bytes = (not (eqb bytes statusBytes) ⇒ XbSz) ∷ findTests x k
 -- a status past its last test: what the code has seen, and the number that refuses
 pub record Judged (t : List ℕ) (n : Header) (c : Caller) (k : Kind) (s : ℕ) (b : List ℕ) (x : Seen) (e : ℕ) : Type 0 where
   pub sound : Sound t n c
-  pub seen : x ≡ seenAs (configuration t) (wordsOf t) (c .slot) k (namedOf n k s)
+  pub seen : x ≡ seenOf (configuration t) (wordsOf t) (c .slot) k (namedOf n k s)
   pub number : e ≡ firstRefusal (statusTests x k (length b))
 
 pub judged-by : {t : List ℕ} {n : Header} {c : Caller} → Sound t n c → (k : Kind) (s : ℕ) (b : List ℕ) {x : Seen} {e e2 : ℕ}
-    → x ≡ seenAs (configuration t) (wordsOf t) (c .slot) k (namedOf n k s) → e ≡ orRefuse 0 (not (eqb (length b) statusBytes)) XbSz
+    → x ≡ seenOf (configuration t) (wordsOf t) (c .slot) k (namedOf n k s) → e ≡ orRefuse 0 (not (eqb (length b) statusBytes)) XbSz
     → e2 ≡ refusing e (findTests x k (not (x .flows))) → Judged t n c k s b x e2
 judged-by sound k s b {x} seen long find = record {
   sound = sound;
@@ -97,7 +97,7 @@ module _ {t : List ℕ} {n : Header} {c : Caller} {k : Kind} {s : ℕ} {b : List
     form = passed _ (rw (formed-is (p .sound .known) (c .slot) k s (p .seen)) at (clear .1 .0))
 
     cell-is : x .cell ≡ cellOf (configuration t) k (x .slot)
-    cell-is = rw (p .seen)
+    cell-is = rw (seen-formed (p .sound .known) (c .slot) k s (p .seen) form)
 
     pub in-cells : x .cell < cells (configuration t)
     in-cells = rw cell-is (in-run (configuration t) (shape (p .sound .known)) k (x .slot) (slot-in (p .sound .known) (c .slot) k s (p .seen) form) .0)

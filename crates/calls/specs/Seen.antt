@@ -44,6 +44,13 @@ seenAs h r p k x =
       rights = rightsAt r p k (x .slot);
     }
 
+-- of what names nothing it sees nothing
+abbrev pub unseen : Seen
+unseen = record { formed = false; slot = 0; cell = 0; own = false; flows = false; present = false; mine = false; rights = 0 }
+
+abbrev pub seenOf : List ℕ → (Addr → ℕ) → ℕ → Kind → Named → Seen
+seenOf h r p k x = cond (x .formed) (seenAs h r p k x) unseen
+
 -- "find" and "own" of what is seen
 abbrev pub findTests : Seen → Kind → Bool → List Refusal
 findTests x k forbidden = (not (x .formed) ⇒ absent k) ∷ (forbidden ⇒ XnoAcc) ∷ (not (x .present) ⇒ absent k) ∷ []

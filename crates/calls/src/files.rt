@@ -17,7 +17,7 @@ ghost use Rattle.layout.specs.Kinds.{kindOf};
 ghost use Rattle.calls.specs.World.{Known, Sound, wordsOf, holdable, Clashable};
 ghost use Rattle.calls.specs.Left.{Left};
 ghost use Rattle.calls.specs.Refusing.{refusing};
-ghost use Rattle.calls.specs.Seen.{namedOf, seenAs, slotFound};
+ghost use Rattle.calls.specs.Seen.{namedOf, seenOf, slotFound};
 ghost use Rattle.calls.specs.Calls.{giveUpRule, openTests};
 use crate::Answer;
 use crate::Caller;
@@ -173,7 +173,7 @@ fn any_clash(t: &[u32], n: Header, c: Caller, s: u32, b: u32) -> bool
 
 // Whether an open that nothing has refused so far clashes. "Readers in higher cells neither block nor are blocked": the search is made for a file of the own cell alone.
 fn busy(t: &[u32], n: Header, c: Caller, e: u32, f: Seen, s: u32, b: u32) -> bool
-    requires { ⌜ Sound (now t) n c × (e ≡ 0 → Clashable (now t) n s b) × (f ≡ seenAs (configuration (now t)) (wordsOf (now t)) (c .slot) file (namedOf n file s)) ⌝ }
+    requires { ⌜ Sound (now t) n c × (e ≡ 0 → Clashable (now t) n s b) × (f ≡ seenOf (configuration (now t)) (wordsOf (now t)) (c .slot) file (namedOf n file s)) ⌝ }
     ensures { λ r. ⌜ r ≡ eqb e 0 && (f .own && clashes (configuration (now (t .entry))) (wordsOf (now (t .entry))) (c .cell) s b) ⌝ }
 {
     if e == XOK {

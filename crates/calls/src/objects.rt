@@ -9,7 +9,7 @@ ghost use Rattle.rules.specs.Find.{absent};
 ghost use Rattle.layout.specs.Kinds.{kindOf};
 ghost use Rattle.calls.specs.World.{Known, Sound, wordsOf};
 ghost use Rattle.calls.specs.Refusing.{refusing};
-ghost use Rattle.calls.specs.Seen.{namedOf, Sixteen, seenAs, findTests, ownTests};
+ghost use Rattle.calls.specs.Seen.{namedOf, Sixteen, unseen, seenOf, findTests, ownTests};
 use crate::Caller;
 use crate::base::or_refuse;
 use crate::base::read;
@@ -144,6 +144,22 @@ pub(crate) struct Seen {
     pub rights: u32,
 }
 
+// What names nothing is not looked at.
+fn unseen() -> Seen
+    ensures { λ r. ⌜ r ≡ unseen ⌝ }
+{
+    Seen {
+        formed: false,
+        slot: 0,
+        cell: 0,
+        own: false,
+        flows: false,
+        present: false,
+        mine: false,
+        rights: 0,
+    }
+}
+
 pub(crate) fn look(
     t: &[u32],
     n: Header,
@@ -153,9 +169,12 @@ pub(crate) fn look(
     s: u32,
 ) -> Seen
     requires { ⌜ Sound (now t) n c × (now m ≡ flowMatrix (configuration (now t))) ⌝ }
-    ensures { λ r. ⌜ r ≡ seenAs (configuration (now (t .entry))) (wordsOf (now (t .entry))) (c .slot) (kindOf kind) (namedOf n (kindOf kind) s) ⌝ }
+    ensures { λ r. ⌜ r ≡ seenOf (configuration (now (t .entry))) (wordsOf (now (t .entry))) (c .slot) (kindOf kind) (namedOf n (kindOf kind) s) ⌝ }
 {
     let x = name_of(n, kind, s);
+    if !x.formed {
+        return unseen();
+    }
     let slot = x.slot;
     let me = c.slot;
     let cell = cell_of(t, n, kind, slot);

@@ -20,7 +20,7 @@ use Rattle.calls.specs.declared.objects.Seen.{Seen}
 use Rattle.calls.specs.World.{Sound, wordsOf}
 use Rattle.calls.specs.Left.{ruleAt}
 use Rattle.calls.specs.Entries.{entryOf}
-use Rattle.calls.specs.Seen.{nameOf, namedOf, seenAs}
+use Rattle.calls.specs.Seen.{nameOf, namedOf, seenAs, seenOf}
 use Rattle.calls.specs.Map.{held, mapOf, leftBy, takenBy, runOf, remapTests}
 use Rattle.calls.proofs.Refusals.{refusing-first, clear-of}
 use Rattle.calls.proofs.Leaves.{left-refused, left-done}
@@ -33,7 +33,7 @@ use Rattle.calls.proofs.map.remap.Tie as tie
 -- x and y are the entries a and d, g what is seen of what the first holds, m the map and rest what is left of it
 module _ {t : List ℕ} {n : Header} {c : Caller} (sound : Sound t n c) (a b d : ℕ) (buffer : List ℕ) {x y : Entry} {g : Seen} {run : ℕ} {m rest : List ℕ}
     (x-is : x ≡ entryOf (wordsOf t) segment (c .slot) a) (y-is : y ≡ entryOf (wordsOf t) segment (c .slot) d)
-    (seen : g ≡ seenAs (configuration t) (wordsOf t) (c .slot) segment (namedOf n segment (x .held)))
+    (seen : g ≡ seenOf (configuration t) (wordsOf t) (c .slot) segment (namedOf n segment (x .held)))
     (run-is : run ≡ runOf (wordsOf t (at segment (g .slot) size)))
     (map-is : m ≡ mapOf (wordsOf t) (c .slot)) (left-is : rest ≡ leftBy m d) where
   abbrev s : ℕ

@@ -1,6 +1,9 @@
--- `objects::look` meets its contract: each field is what the rules say of the slot.
+-- `objects::look` meets its contract: of what names nothing nothing is seen, and else each field is what the rules say of the slot.
+use Rattle.rules.specs.Layout.{configuration}
 use Rattle.layout.specs.Kinds.{kindOf}
-use Rattle.calls.proofs.Names.{bits-small, sixteen, seen}
+use Rattle.calls.specs.World.{wordsOf}
+use Rattle.laws.proofs.Tests.{passed, failed}
+use Rattle.calls.proofs.Names.{bits-small, sixteen, not-seen, seen}
 use Rattle.calls.proofs.Worlds.{see}
 use native.Mathlib.Omega.{arith}
 use borrow.Author.Needs.{needs}
@@ -9,6 +12,15 @@ use Rattle.calls.proofs.objects.look.Tie as tie
 
 name-of-requires : tie.Need-name-of-requires
 name-of-requires c κs = search needs
+
+unseen-requires : tie.Need-unseen-requires
+unseen-requires c κs = search needs
+
+returns : tie.Need-returns
+returns c =
+    let at-name-of = c .before .before .before in let args = at-name-of .before .before .args in
+    not-seen (configuration (args .t .now)) (wordsOf (args .t .now)) (args .n) (args .c .slot) (kindOf (args .kind)) (args .s) (at-name-of .name-of .ensures)
+    (failed _ (c .before .if1 .taken)) (c .unseen .ensures)
 
 cell-of-requires : tie.Need-cell-of-requires
 cell-of-requires c κs = search needs
@@ -45,7 +57,7 @@ bits-word-requires c κs = search needs
 
 add-word-5 : tie.Need-add-word-5
 add-word-5 c =
-    let at-record-at = c .before .before .before .before .before in let at-start = at-record-at .before .before .before .before in
+    let at-record-at = c .before .before .before .before .before in let at-start = at-record-at .before .before .before .before .before .before in
     let small = bits-small (kindOf (at-start .args .kind)) (c .bits-word .ensures) in let near = at-record-at .record-at .ensures .1 in
     omega (arith, small, near)
 
@@ -69,29 +81,34 @@ word-requires-7 c κs = search needs
 
 flow-at-requires : tie.Need-flow-at-requires
 flow-at-requires c κs =
-    let at-cell-of = c .before .before .before .before .before .before .before .before .before .before in let at-start = at-cell-of .before .before .before in
+    let at-cell-of = c .before .before .before .before .before .before .before .before .before .before in
+    let at-start = at-cell-of .before .before .before .before .before in
     sixteen _ (at-start .pre .1)
 
 rights-requires : tie.Need-rights-requires
 rights-requires c κs = search needs
 
-returns : tie.Need-returns
-returns c =
+returns-2 : tie.Need-returns-2
+returns-2 c =
     let at-flow = c .before .before .before in let at-word7 = at-flow .before in let at-word6 = at-word7 .before in
     let at-home = at-word6 .before in let at-word5 = at-home .before in let at-bits-word = at-word5 .before in let at-word4 = at-bits-word .before in
     let at-word3 = at-word4 .before in let at-word2 = at-word3 .before in let at-word = at-word2 .before in let at-record-at = at-word .before in
-    let at-cell-of = at-record-at .before in let at-name-of = at-cell-of .before in let at-start = at-name-of .before .before in
+    let at-cell-of = at-record-at .before in let at-if1 = at-cell-of .before in let at-name-of = at-if1 .before .before in
+    let at-start = at-name-of .before .before in
     let known = at-start .pre .0 .known in let place = at-record-at .record-at .ensures .0 in let home = at-home .record-at2 .ensures .0 in
     seen (at-start .pre .0) (at-start .pre .1) _ _ (at-name-of .name-of .ensures) (at-cell-of .cell-of .ensures) (see known _ _ _ place (at-word .word .ensures))
     (see known _ _ _ place (at-word2 .word2 .ensures)) (see known _ _ _ place (at-word3 .word3 .ensures)) (see known _ _ _ place (at-word4 .word4 .ensures))
     (at-bits-word .bits-word .ensures) (see known _ _ _ place (at-word5 .word5 .ensures)) (see known _ _ _ home (at-word6 .word6 .ensures))
     (see known _ _ _ home (at-word7 .word7 .ensures)) (at-flow .flow-at .ensures) (c .before .before .rights .ensures)
+    (passed _ (at-if1 .if1 .left))
 
 pub look-spec : {M : Type 1} → statement M
 look-spec =
     tie.close
     (tie.spec
     name-of-requires
+    unseen-requires
+    returns
     cell-of-requires
     record-at-requires
     add-word
@@ -112,4 +129,4 @@ look-spec =
     word-requires-7
     flow-at-requires
     rights-requires
-    returns)
+    returns-2)

@@ -14,7 +14,7 @@ use Rattle.calls.specs.declared.Caller.{Caller}
 use Rattle.calls.specs.declared.objects.Seen.{Seen}
 use Rattle.calls.specs.World.{Sound, wordsOf, holdable}
 use Rattle.calls.specs.Left.{ruleAt}
-use Rattle.calls.specs.Seen.{namedOf, seenAs, ownTests}
+use Rattle.calls.specs.Seen.{namedOf, seenOf, ownTests}
 use Rattle.calls.specs.Holding.{Holding}
 use Rattle.calls.proofs.Refusals.{refusing-first, clear-of}
 use Rattle.calls.proofs.Looks.{slot-is, own-is, slot-in, own-first, form-past}
@@ -27,7 +27,7 @@ use Rattle.calls.proofs.processes.release_process.Tie as tie
 
 -- s is the seid that a stands for, g what is seen of it
 module _ {t : List ℕ} {n : Header} {c : Caller} (sound : Sound t n c) (a : ℕ) {s : ℕ} {g : Seen} (self : s ≡ orSelf (wordsOf t) (c .slot) a)
-    (seen : g ≡ seenAs (configuration t) (wordsOf t) (c .slot) process (namedOf n process s)) where
+    (seen : g ≡ seenOf (configuration t) (wordsOf t) (c .slot) process (namedOf n process s)) where
   -- the first of the code's refusals is the rule's
   number : (buffer : List ℕ) → firstRefusal (ownTests g process) ≡ firstRefusal (ruleAt t (λ h r. releaseProcess h r (c .slot) a buffer) .refusals)
   unfolding releaseProcess

@@ -10,7 +10,7 @@ use Rattle.calls.specs.declared.entries.Entry.{Entry}
 use Rattle.calls.specs.declared.objects.Seen.{Seen}
 use Rattle.calls.specs.World.{Sound, wordsOf}
 use Rattle.calls.specs.Entries.{entryOf}
-use Rattle.calls.specs.Seen.{namedOf, seenAs}
+use Rattle.calls.specs.Seen.{namedOf, seenOf}
 use Rattle.rules.specs.Layout.{process, segment, configuration, at, entries, heldAt}
 use Rattle.rules.specs.Seid.{present}
 use Rattle.rules.specs.Errors.{XnSgDes, XbSgDes, XbSgSd}
@@ -30,7 +30,7 @@ tests a d g = (leb entries a ⇒ XnSgDes) ∷ (eqb (d .held) 0 ⇒ XbSgDes) ∷ 
 
 -- d is the entry, g what is seen of what it holds
 module _ {t : List ℕ} {n : Header} {c : Caller} (sound : Sound t n c) (a : ℕ) (buffer : List ℕ) {d : Entry} {g : Seen}
-    (entry : d ≡ entryOf (wordsOf t) segment (c .slot) a) (seen : g ≡ seenAs (configuration t) (wordsOf t) (c .slot) segment (namedOf n segment (d .held))) where
+    (entry : d ≡ entryOf (wordsOf t) segment (c .slot) a) (seen : g ≡ seenOf (configuration t) (wordsOf t) (c .slot) segment (namedOf n segment (d .held))) where
   -- the first of the code's refusals is the rule's
   number : firstRefusal (tests a d g) ≡ firstRefusal (ruleAt t (λ h q. accessOf h q (c .slot) a buffer) .refusals)
   unfolding accessOf present

@@ -18,7 +18,7 @@ use Rattle.calls.specs.declared.Caller.{Caller}
 use Rattle.calls.specs.declared.objects.Seen.{Seen}
 use Rattle.calls.specs.World.{Sound, wordsOf}
 use Rattle.calls.specs.Left.{said, ruleAt}
-use Rattle.calls.specs.Seen.{nameOf, namedOf, seenAs, findTests}
+use Rattle.calls.specs.Seen.{nameOf, namedOf, seenAs, seenOf, findTests}
 use Rattle.calls.specs.Entries.{takenUpAt}
 use Rattle.calls.specs.Refusing.{orRefuse, refusing}
 use Rattle.calls.proofs.Refusals.{refusing-first, clear-of, only-then}
@@ -55,7 +55,7 @@ chained r p s b g {e₄ = e₄} {e₅ = e₅} de ne te ae me re we le wide f₁ 
 
 -- s is the seid that a stands for, g what is seen of it
 module _ {t : List ℕ} {n : Header} {c : Caller} (sound : Sound t n c) (a b : ℕ) (buffer : List ℕ) {s : ℕ} {g : Seen}
-    (self : s ≡ orSelf (wordsOf t) (c .slot) a) (seen : g ≡ seenAs (configuration t) (wordsOf t) (c .slot) segment (namedOf n segment s)) where
+    (self : s ≡ orSelf (wordsOf t) (c .slot) a) (seen : g ≡ seenOf (configuration t) (wordsOf t) (c .slot) segment (namedOf n segment s)) where
   -- the first of the code's refusals is the rule's
   number : firstRefusal (tests (wordsOf t) (c .slot) s b g) ≡ firstRefusal (ruleAt t (λ h q. rendezvous h q (c .slot) a b buffer) .refusals)
   unfolding rendezvous

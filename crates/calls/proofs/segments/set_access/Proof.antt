@@ -10,7 +10,7 @@ use Rattle.calls.specs.declared.entries.Entry.{Entry}
 use Rattle.calls.specs.declared.objects.Seen.{Seen}
 use Rattle.calls.specs.World.{Sound, wordsOf, Known}
 use Rattle.calls.specs.Entries.{entryOf}
-use Rattle.calls.specs.Seen.{namedOf, seenAs}
+use Rattle.calls.specs.Seen.{namedOf, seenOf}
 use native.Mathlib.Omega.{arith}
 use lib.ListN.{set}
 use Rattle.layout.specs.Header.{recordOf}
@@ -38,7 +38,7 @@ tests a b d g =
 
 -- d is the entry, g what is seen of what it holds
 module _ {t : List ℕ} {n : Header} {c : Caller} (sound : Sound t n c) (a b : ℕ) (buffer : List ℕ) {d : Entry} {g : Seen}
-    (entry : d ≡ entryOf (wordsOf t) segment (c .slot) a) (seen : g ≡ seenAs (configuration t) (wordsOf t) (c .slot) segment (namedOf n segment (d .held))) where
+    (entry : d ≡ entryOf (wordsOf t) segment (c .slot) a) (seen : g ≡ seenOf (configuration t) (wordsOf t) (c .slot) segment (namedOf n segment (d .held))) where
   -- the first of the code's refusals is the rule's
   number : firstRefusal (tests a b d g) ≡ firstRefusal (ruleAt t (λ h q. setAccess h q (c .slot) a b buffer) .refusals)
   unfolding setAccess present
