@@ -1,7 +1,17 @@
 // Checks last night's log: the replay input is the file that the first argument names, and the recorded listing comes on standard input. What is found is the first
 // line on standard output (`checker::put_finding`). For a wrong line two more follow: as it is recorded, and as it is due. A file that cannot be opened or read is named
 // on standard error, and no finding is given.
+ghost use mathlib.Core.Bool.{true, false};
+ghost use mathlib.Core.List.{List};
+ghost use mathlib.Core.Path.{_≡_};
+ghost use Prim.Native.Nat.{ℕ, _≤_};
+ghost use lib.ListN.{length, take};
 ghost use Rattle.io.specs.Counts.{Counts};
+ghost use Rattle.text.specs.Room.{lineBytes};
+ghost use Rattle.rules.specs.Finding.{said};
+ghost use Rattle.checker.specs.Check.{wantsInput, meant};
+ghost use Rattle.logcheck.specs.declared.Stand.the-variants.{Going};
+ghost use Rattle.logcheck.specs.Sought.{Front, isGoing, standing, Closed, told, Went, Enough, Sought};
 use checker::Check;
 use checker::Finding;
 use libc::STDERR_FILENO;
@@ -25,13 +35,15 @@ enum Stand {
     NoRecorded,
 }
 
-// What is carried from turn to turn: the check; a piece of the input and one of what is recorded, by the place in it and its length; and where the check stands.
+// What is carried from turn to turn: the check; a piece of the input and one of what is recorded, by the place in it and its length; whether the input has ended; and
+// where the check stands.
 struct Progress {
     check: Check,
     from: usize,
     input: usize,
     at: usize,
     recorded: usize,
+    ended: bool,
     stand: Stand,
 }
 
@@ -46,7 +58,7 @@ struct Shown {
 
 // n, but no more than the bytes of s.
 fn front(n: usize, s: &[u8]) -> usize
-    ensures { λ r. ⌜ Counts r (now (s .entry)) ⌝ }
+    ensures { λ r. ⌜ Front n (now (s .entry)) r ⌝ }
 {
     if n < s.len() { n } else { s.len() }
 }
@@ -64,67 +76,40 @@ fn take_in(fd: i32, piece: &mut [u8]) -> Input
 }
 
 impl Progress {
-    // The check is there, at a place of the piece of the input.
-    fn fed(self, check: Check, from: usize) -> Progress {
+    // The check goes on, at a place of a piece of the input.
+    fn fed(self, check: Check, from: usize, input: usize, ended: bool) -> Progress
+        ensures { λ r. ⌜ r ≡ standing check from input (self .at) (self .recorded) ended Going ⌝ }
+    {
         let stand = Stand::Going;
         Progress {
             check,
             from,
-            input: self.input,
+            input,
             at: self.at,
             recorded: self.recorded,
+            ended,
             stand,
         }
     }
 
-    // The check is there, at a place of the piece of what is recorded.
-    fn weighed(self, check: Check, at: usize, stand: Stand) -> Progress {
+    // The check stands so, at a place of a piece of what is recorded.
+    fn weighed(self, check: Check, at: usize, recorded: usize, stand: Stand) -> Progress
+        ensures { λ r. ⌜ r ≡ standing check (self .from) (self .input) at recorded (self .ended) stand ⌝ }
+    {
         Progress {
             check,
             from: self.from,
             input: self.input,
             at,
-            recorded: self.recorded,
+            recorded,
+            ended: self.ended,
             stand,
         }
     }
 
-    // Another piece of the input.
-    fn next_input(self, bytes: usize) -> Progress {
-        let check = self.check;
-        let stand = Stand::Going;
-        Progress {
-            check,
-            from: 0,
-            input: bytes,
-            at: self.at,
-            recorded: self.recorded,
-            stand,
-        }
-    }
-
-    // Another piece of what is recorded.
-    fn next_recorded(self, bytes: usize) -> Progress {
-        let check = self.check;
-        let stand = Stand::Going;
-        Progress {
-            check,
-            from: self.from,
-            input: self.input,
-            at: 0,
-            recorded: bytes,
-            stand,
-        }
-    }
-
-    // Nothing more is done.
-    fn stop(self, stand: Stand) -> Progress {
-        let check = self.check;
-        let at = self.at;
-        self.weighed(check, at, stand)
-    }
-
-    fn is_going(self) -> bool {
+    fn is_going(self) -> bool
+        ensures { λ r. ⌜ r ≡ isGoing (self .stand) ⌝ }
+    {
         let stand = self.stand;
         match stand {
             Stand::Going => true,
@@ -144,30 +129,36 @@ fn feed(
     buf: &mut [u8],
     out: &mut [u8],
     input: &mut [u8],
-) -> Progress {
+) -> Progress
+    requires { ⌜ (lineBytes ≤ length (now out)) × (wantsInput (p .check) ≡ true) × Closed p ⌝ }
+    ensures { λ r. ⌜ ((k : List ℕ) → Went p (now (table .entry)) (now (store .entry)) (now (buf .entry)) (now (out .entry)) (now (input .entry)) k r (now (table .exit)) (now (store .exit)) (now (buf .exit)) (now (out .exit)) (now (input .exit)) k) ⌝ }
+{
     let check = p.check;
     let n = front(p.input, input);
     let from = p.from;
     if from < n {
         let q = checker::due(check, table, store, buf, out, &input[..n], from);
         let check = q.check;
-        return p.fed(check, q.next);
+        return p.fed(check, q.next, p.input, false);
     }
     let came = take_in(fd, input);
     if came.failed {
         let stand = Stand::NoInput;
-        return p.stop(stand);
+        return p.weighed(check, p.at, p.recorded, stand);
     }
     let bytes = came.bytes;
     if bytes == 0 {
         let check = checker::last(check, out);
-        return p.fed(check, from);
+        return p.fed(check, 0, 0, true);
     }
-    p.next_input(bytes)
+    p.fed(check, 0, bytes, false)
 }
 
 // Goes on with what is recorded.
-fn weigh(p: Progress, out: &[u8], recorded: &mut [u8]) -> Progress {
+fn weigh(p: Progress, out: &[u8], recorded: &mut [u8]) -> Progress
+    requires { ⌜ (wantsInput (p .check) ≡ false) × Closed p ⌝ }
+    ensures { λ r. ⌜ ((t st l s : List ℕ) → Went p t st l (now (out .entry)) s (now (recorded .entry)) r t st l (now (out .entry)) s (now (recorded .exit))) ⌝ }
+{
     let check = p.check;
     let n = front(p.recorded, recorded);
     let at = p.at;
@@ -178,23 +169,24 @@ fn weigh(p: Progress, out: &[u8], recorded: &mut [u8]) -> Progress {
         if next < n {
             if !check.wants_input() {
                 let stand = Stand::Found(true);
-                return p.weighed(check, next, stand);
+                return p.weighed(check, next, p.recorded, stand);
             }
         }
         let stand = Stand::Going;
-        return p.weighed(check, next, stand);
+        return p.weighed(check, next, p.recorded, stand);
     }
     let came = take_in(STDIN_FILENO, recorded);
     if came.failed {
         let stand = Stand::NoRecorded;
-        return p.stop(stand);
+        return p.weighed(check, at, p.recorded, stand);
     }
     let bytes = came.bytes;
     if bytes == 0 {
         let stand = Stand::Found(false);
-        return p.stop(stand);
+        return p.weighed(check, at, p.recorded, stand);
     }
-    p.next_recorded(bytes)
+    let stand = Stand::Going;
+    p.weighed(check, 0, bytes, stand)
 }
 
 fn turn(
@@ -206,12 +198,51 @@ fn turn(
     out: &mut [u8],
     input: &mut [u8],
     recorded: &mut [u8],
-) -> Progress {
+) -> Progress
+    requires { ⌜ (lineBytes ≤ length (now out)) × Closed p ⌝ }
+    ensures { λ r. ⌜ Went p (now (table .entry)) (now (store .entry)) (now (buf .entry)) (now (out .entry)) (now (input .entry)) (now (recorded .entry)) r (now (table .exit)) (now (store .exit)) (now (buf .exit)) (now (out .exit)) (now (input .exit)) (now (recorded .exit)) ⌝ }
+{
     let check = p.check;
     if check.wants_input() {
         return feed(p, fd, table, store, buf, out, input);
     }
     weigh(p, out, recorded)
+}
+
+// Turn after turn, until something is found, or cannot be read.
+fn seek(
+    fd: i32,
+    table: &mut [u32],
+    store: &mut [u8],
+    buf: &mut [u8],
+    out: &mut [u8],
+    input: &mut [u8],
+    recorded: &mut [u8],
+) -> Progress
+    requires { ⌜ Enough (now table) (now store) (now buf) (now out) ⌝ }
+    ensures { λ r. ⌜ Sought (now (table .entry)) (now (store .entry)) (now (buf .entry)) (now (out .entry)) r ⌝ }
+{
+    let check = checker::start(table);
+    let stand = Stand::Going;
+    let mut p = Progress {
+        check,
+        from: 0,
+        input: 0,
+        at: 0,
+        recorded: 0,
+        ended: false,
+        stand,
+    };
+    // A proved loop has to end, and nothing says that a file does: no run uses this number up.
+    let mut turns = u64::MAX;
+    while turns > 0 {
+        p = turn(p, fd, table, store, buf, out, input, recorded);
+        if !p.is_going() {
+            return p;
+        }
+        turns -= 1;
+    }
+    p
 }
 
 // A byte as it is shown: any that could move the reader's screen or hide there is a question mark.
@@ -318,7 +349,19 @@ fn show(p: Progress, out: &[u8], recorded: &mut [u8]) -> bool {
     first & second
 }
 
-fn is_wrong(f: Finding) -> bool {
+// Puts the line that says what was found at the front of a buffer; answers the place past it.
+fn put_found(line: &mut [u8], p: Progress, more: bool) -> usize
+    requires { ⌜ lineBytes ≤ length (now line) ⌝ }
+    ensures { λ r. ⌜ take r (now (line .exit)) ≡ said (meant (told p more)) ⌝ }
+{
+    let check = p.check;
+    let f = checker::found(check, more);
+    checker::put_finding(line, 0, f)
+}
+
+fn is_wrong(p: Progress, more: bool) -> bool {
+    let check = p.check;
+    let f = checker::found(check, more);
     match f {
         Finding::Agree(_) => false,
         Finding::Wrong(_) => true,
@@ -329,13 +372,11 @@ fn is_wrong(f: Finding) -> bool {
 
 // Writes what was found.
 fn say(p: Progress, more: bool, out: &[u8], recorded: &mut [u8]) -> bool {
-    let check = p.check;
-    let f = checker::found(check, more);
     let mut line = [0u8; WIDTH];
-    let end = checker::put_finding(&mut line, 0, f);
+    let end = put_found(&mut line, p, more);
     let n = front(end, &line);
     let said = io::write_all(STDOUT_FILENO, &line[..n]);
-    if is_wrong(f) {
+    if is_wrong(p, more) {
         let shown = show(p, out, recorded);
         return said & shown;
     }
@@ -370,35 +411,16 @@ fn check_log(fd: i32, name: &[u8]) {
     let mut out = io::buffer();
     let mut input = io::large_buffer();
     let mut recorded = io::large_buffer();
-    let check = checker::start(&mut table);
-    let stand = Stand::Going;
-    let mut p = Progress {
-        check,
-        from: 0,
-        input: 0,
-        at: 0,
-        recorded: 0,
-        stand,
-    };
-    // A proved loop has to end, and nothing says that a file does: no run uses this number up.
-    let mut turns = u64::MAX;
-    while turns > 0 {
-        p = turn(
-            p,
-            fd,
-            &mut table,
-            &mut store,
-            &mut buf,
-            &mut out,
-            &mut input,
-            &mut recorded,
-        );
-        if !p.is_going() {
-            report(p, &out, &mut recorded, name);
-            return;
-        }
-        turns -= 1;
-    }
+    let p = seek(
+        fd,
+        &mut table,
+        &mut store,
+        &mut buf,
+        &mut out,
+        &mut input,
+        &mut recorded,
+    );
+    report(p, &out, &mut recorded, name);
 }
 
 fn main() {

@@ -1,9 +1,9 @@
--- `logcheck::front` counts bytes of the slice.
-use mathlib.Core.Path.{sym, ap}
+-- `logcheck::front` counts bytes of the slice, and they are its first n.
+use mathlib.Core.Path.{refl, sym, ap, _∙_}
 use Prim.Native.Nat.{_≤_}
 use native.Mathlib.Omega.{arith}
 use lib.ListN.{length}
-use lib.Seq.{length-take-le, take-length}
+use lib.Seq.{length-take-le, take-length, take-all}
 use borrow.Author.Needs.{needs}
 use Rattle.logcheck.proofs.front.Statement.{statement}
 use Rattle.logcheck.proofs.front.Tie as tie
@@ -12,10 +12,13 @@ returns : tie.Need-returns
 returns c =
     let a = c .before .args in
     let h : a .n ≤ length (a .s .now) = omega (arith, c .if1 .taken) in
-    (h, sym (length-take-le (a .n) (a .s .now) h))
+    ((h, sym (length-take-le (a .n) (a .s .now) h)), refl)
 
 returns-2 : tie.Need-returns-2
-returns-2 c = (omega arith, sym (ap length (take-length (c .before .args .s .now))))
+returns-2 c =
+    let a = c .before .args in
+    let whole = take-length (a .s .now) in
+    ((omega arith, sym (ap length whole)), whole ∙ sym (take-all (a .n) (a .s .now) (omega (arith, c .if1 .left))))
 
 pub front-spec : {M : Type 1} → statement M
 front-spec =

@@ -1,0 +1,2 @@
+-- What the parts of logcheck's loop ensure.
+pub mod Sought
