@@ -1,13 +1,13 @@
 -- What a word names, and what is seen of it, as the code finds it.
 use mathlib.Core.Path.{_≡_, refl, sym, ap, _∙_}
-use mathlib.Core.Bool.{Bool, true, false, cond, _&&_}
+use mathlib.Core.Bool.{Bool, true, false, cond, _&&_, true≢false}
 use mathlib.Core.List.{List, []}
-use Prim.Native.Nat.{ℕ, _≤_, _<_, _^_}
+use Prim.Native.Nat.{ℕ, _+_, _≤_, _<_, _^_}
 use native.Mathlib.Omega.{arith}
 use lib.Dec.{eqb, ltb}
 use lib.ListN.{length, getD}
 use borrow.Author.Tests.{ltb-true, ltb-false}
-use Rattle.rules.specs.Layout.{maxSerial, maxCells, Kind, process, segment, file, configuration, cellOf, flows, flowMatrix, Addr, at, live, serial, owner, group, bits}
+use Rattle.rules.specs.Layout.{maxSerial, maxCells, Kind, process, segment, file, recordWords, slots, configuration, cellOf, flows, flowMatrix, Addr, at, live, serial, owner, group, bits}
 use Rattle.rules.specs.Seid.{class, indexOf, serialOf, isSeid, seidAt, orSelf}
 use Rattle.rules.specs.Rights.{rights}
 use Rattle.rules.specs.Find.{rightsAt}
@@ -16,9 +16,11 @@ use Rattle.laws.proofs.Tests.{split}
 use Rattle.laws.proofs.Tab.{length-tab}
 use Rattle.laws.proofs.Fill.{tab-at, tab-past}
 use Rattle.laws.proofs.Shape.{process-record}
+use Rattle.laws.proofs.Places.{offset-lt}
+use Rattle.laws.proofs.Seids.{is-formed}
 use Rattle.levels.proofs.Cells.{matrix-any}
 use Rattle.layout.specs.declared.Header.{Header}
-use Rattle.layout.specs.Header.{slotsOf}
+use Rattle.layout.specs.Header.{slotsOf, recordOf}
 use Rattle.ids.specs.Seid.{seidOf}
 use Rattle.ids.proofs.Parts.{seid-fits}
 use Rattle.calls.specs.declared.Caller.{Caller}
@@ -26,7 +28,7 @@ use Rattle.calls.specs.declared.objects.Named.{Named}
 use Rattle.calls.specs.declared.objects.Seen.{Seen}
 use Rattle.calls.specs.World.{Known, Sound, wordsOf}
 use Rattle.calls.specs.Seen.{nameOf, noName, namedOf, Sixteen, unseen, seenOf}
-use Rattle.calls.proofs.Worlds.{shape}
+use Rattle.calls.proofs.Worlds.{spot, shape, slots-is}
 
 module _ (n : Header) (k : Kind) (s : ℕ) where
   -- w is the identifier's word, i and z its parts
@@ -68,6 +70,31 @@ pub bits-small : (k : Kind) {b : ℕ} → b ≡ bits k → b < 2 ^ 40
 bits-small process e = omega arith
 bits-small segment e = omega arith
 bits-small file e = omega arith
+
+-- ---- the words of a record that the table has
+
+pub record-there : {t : List ℕ} {n : Header} {c : Caller} → Sound t n c → (k : Kind) (i j : ℕ) → i < slots (configuration t) k → j < recordWords k
+    → {y : ℕ} → y ≡ recordOf n k i → y + j < length t
+record-there {t} sound k i j l m ye = omega (arith, ye, spot (sound .known) (at k i j), offset-lt (configuration t) (at k i j) (l, m), sound .words)
+
+pub group-in : (k : Kind) → group < recordWords k
+group-in process = omega arith
+group-in segment = omega arith
+group-in file = omega arith
+
+pub bits-in : (k : Kind) → bits k < recordWords k
+bits-in process = omega arith
+bits-in segment = omega arith
+bits-in file = omega arith
+
+-- what a word names is one of the table's slots
+pub named-in : {t : List ℕ} {n : Header} → Known t n → (k : Kind) (s : ℕ) {name : Named} → name ≡ namedOf n k s → name .formed ≡ true
+    → name .slot < slots (configuration t) k
+unfolding namedOf
+named-in {t} {n} known k s {name} e some = split _ (isSeid (class k) (slotsOf n k) s)
+    (λ f. let q : name ≡ nameOf s = rw f at e in
+    omega (arith, ap (λ (y : Named). y .slot) q, is-formed (class k) (slotsOf n k) s f .index-in, slots-is known k))
+    (λ f. let q : name ≡ noName = rw f at e in absurd (true≢false (sym some ∙ ap (λ (y : Named). y .formed) q)))
 
 -- ---- what is seen: nothing, where the word names nothing
 

@@ -35,7 +35,6 @@ use rules::XNO_ACC;
 use rules::XNO_OBJ;
 use rules::XNO_OWNER;
 use words::first;
-use words::word;
 
 // "Seid 0 means the calling process."
 pub(crate) fn or_self(t: &[u32], n: Header, c: Caller, a: u32) -> u32
@@ -179,15 +178,15 @@ pub(crate) fn look(
     let me = c.slot;
     let cell = cell_of(t, n, kind, slot);
     let at = n.record_at(kind, slot);
-    let live = word(t, at + LIVE);
-    let serial = word(t, at + SERIAL);
-    let owner = word(t, at + OWNER);
-    let group = word(t, at + GROUP);
+    let live = t[at + LIVE];
+    let serial = t[at + SERIAL];
+    let owner = t[at + OWNER];
+    let group = t[at + GROUP];
     let bits_at = kind.bits_word();
-    let bits = word(t, at + bits_at);
+    let bits = t[at + bits_at];
     let mine = n.record_at(Kind::Process, me);
-    let my_owner = word(t, mine + OWNER);
-    let my_group = word(t, mine + GROUP);
+    let my_owner = t[mine + OWNER];
+    let my_group = t[mine + GROUP];
     let flows = flow_at(m, cell, c.cell);
     let rights = rights::rights(my_owner, my_group, owner, group, bits);
     Seen {

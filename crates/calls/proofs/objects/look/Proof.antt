@@ -1,10 +1,13 @@
 -- `objects::look` meets its contract: of what names nothing nothing is seen, and else each field is what the rules say of the slot.
-use Rattle.rules.specs.Layout.{configuration}
+use Rattle.rules.specs.Layout.{configuration, recordWords, live, serial, owner, group}
 use Rattle.layout.specs.Kinds.{kindOf}
 use Rattle.calls.specs.World.{wordsOf}
 use Rattle.laws.proofs.Tests.{passed, failed}
-use Rattle.calls.proofs.Names.{bits-small, sixteen, not-seen, seen}
+use Rattle.calls.proofs.Names.{bits-small, sixteen, record-there, group-in, bits-in, named-in, not-seen, seen}
 use Rattle.calls.proofs.Worlds.{see}
+use mathlib.Core.Path.{refl}
+use Prim.Native.Nat.{ℕ, _+_, _≤_, _<_}
+use lib.ListN.{length}
 use native.Mathlib.Omega.{arith}
 use borrow.Author.Needs.{needs}
 use Rattle.calls.proofs.objects.look.Statement.{statement}
@@ -28,56 +31,103 @@ cell-of-requires c κs = search needs
 record-at-requires : tie.Need-record-at-requires
 record-at-requires c κs = search needs
 
-add-word : tie.Need-add-word
-add-word c = search needs
+-- past the form the object's record is there, and the caller's is
+there : (c : tie.After-record-at) (j : ℕ) →
+    let args = c .before .before .before .before .before .before .args in
+    j < recordWords (kindOf (args .kind)) → c .record-at .result + j < length (args .t .now)
+there c j l =
+    let at-if1 = c .before .before in let at-name-of = at-if1 .before .before in let sound = at-name-of .before .before .pre .0 in
+    record-there sound _ _ j (named-in (sound .known) _ _ (at-name-of .name-of .ensures) (passed _ (at-if1 .if1 .left))) l (c .record-at .ensures .0)
 
-word-requires : tie.Need-word-requires
-word-requires c κs = search needs
+-- as far as the words that every record has
+front : (c : tie.After-record-at) (j : ℕ) → j ≤ group → c .record-at .result + j < length (c .before .before .before .before .before .before .args .t .now)
+front c j l = there c j (omega (arith, l, group-in (kindOf (c .before .before .before .before .before .before .args .kind))))
 
-add-word-2 : tie.Need-add-word-2
-add-word-2 c = search needs
+home-there : (c : tie.After-record-at2) (j : ℕ) → j ≤ group → c .record-at2 .result + j
+    < length (c .before .before .before .before .before .before .before .before .before .before .before .before .before .args .t .now)
+home-there c j l =
+    let sound = c .before .before .before .before .before .before .before .before .before .before .before .before .before .pre .0 in
+    record-there sound _ _ j (sound .caller) (omega (arith, l)) (c .record-at2 .ensures .0)
 
-word-requires-2 : tie.Need-word-requires-2
-word-requires-2 c κs = search needs
+add-live : tie.Need-add-live
+add-live c = search needs
 
-add-word-3 : tie.Need-add-word-3
-add-word-3 c = search needs
+mul-live : tie.Need-mul-live
+mul-live c = search needs
 
-word-requires-3 : tie.Need-word-requires-3
-word-requires-3 c κs = search needs
+shared-slice-read-live : tie.Need-shared-slice-read-live
+shared-slice-read-live c = front (c .before) live (omega arith)
 
-add-word-4 : tie.Need-add-word-4
-add-word-4 c = search needs
+add-serial : tie.Need-add-serial
+add-serial c = search needs
 
-word-requires-4 : tie.Need-word-requires-4
-word-requires-4 c κs = search needs
+mul-serial : tie.Need-mul-serial
+mul-serial c = search needs
+
+shared-slice-read-serial : tie.Need-shared-slice-read-serial
+shared-slice-read-serial c = front (c .before .before) serial (omega arith)
+
+add-owner : tie.Need-add-owner
+add-owner c = search needs
+
+mul-owner : tie.Need-mul-owner
+mul-owner c = search needs
+
+shared-slice-read-owner : tie.Need-shared-slice-read-owner
+shared-slice-read-owner c = front (c .before .before .before) owner (omega arith)
+
+add-group : tie.Need-add-group
+add-group c = search needs
+
+mul-group : tie.Need-mul-group
+mul-group c = search needs
+
+shared-slice-read-group : tie.Need-shared-slice-read-group
+shared-slice-read-group c = front (c .before .before .before .before) group (omega arith)
 
 bits-word-requires : tie.Need-bits-word-requires
 bits-word-requires c κs = search needs
 
-add-word-5 : tie.Need-add-word-5
-add-word-5 c =
-    let at-record-at = c .before .before .before .before .before in let at-start = at-record-at .before .before .before .before .before .before in
-    let small = bits-small (kindOf (at-start .args .kind)) (c .bits-word .ensures) in let near = at-record-at .record-at .ensures .1 in
+add-bits : tie.Need-add-bits
+add-bits c =
+    let at-record-at = c .before .before .before .before .before in
+    let small = bits-small (kindOf (at-record-at .before .before .before .before .before .before .args .kind)) (c .bits-word .ensures) in
+    let near = at-record-at .record-at .ensures .1 in
     omega (arith, small, near)
 
-word-requires-5 : tie.Need-word-requires-5
-word-requires-5 c κs = search needs
+mul-bits : tie.Need-mul-bits
+mul-bits c =
+    let at-record-at = c .before .before .before .before .before in
+    let small = bits-small (kindOf (at-record-at .before .before .before .before .before .before .args .kind)) (c .bits-word .ensures) in
+    let near = at-record-at .record-at .ensures .1 in
+    omega (arith, small, near)
+
+shared-slice-read-bits : tie.Need-shared-slice-read-bits
+shared-slice-read-bits c =
+    let at-bits-word = c .before in let at-record-at = at-bits-word .before .before .before .before .before in
+    let kind = kindOf (at-record-at .before .before .before .before .before .before .args .kind) in
+    there at-record-at (at-bits-word .bits-word .result) (omega (arith, at-bits-word .bits-word .ensures, bits-in kind))
 
 record-at-requires-2 : tie.Need-record-at-requires-2
 record-at-requires-2 c κs = search needs
 
-add-word-6 : tie.Need-add-word-6
-add-word-6 c = search needs
+add-my-owner : tie.Need-add-my-owner
+add-my-owner c = search needs
 
-word-requires-6 : tie.Need-word-requires-6
-word-requires-6 c κs = search needs
+mul-my-owner : tie.Need-mul-my-owner
+mul-my-owner c = search needs
 
-add-word-7 : tie.Need-add-word-7
-add-word-7 c = search needs
+shared-slice-read-my-owner : tie.Need-shared-slice-read-my-owner
+shared-slice-read-my-owner c = home-there (c .before) owner (omega arith)
 
-word-requires-7 : tie.Need-word-requires-7
-word-requires-7 c κs = search needs
+add-my-group : tie.Need-add-my-group
+add-my-group c = search needs
+
+mul-my-group : tie.Need-mul-my-group
+mul-my-group c = search needs
+
+shared-slice-read-my-group : tie.Need-shared-slice-read-my-group
+shared-slice-read-my-group c = home-there (c .before .before) group (omega arith)
 
 flow-at-requires : tie.Need-flow-at-requires
 flow-at-requires c κs =
@@ -90,17 +140,13 @@ rights-requires c κs = search needs
 
 returns-2 : tie.Need-returns-2
 returns-2 c =
-    let at-flow = c .before .before .before in let at-word7 = at-flow .before in let at-word6 = at-word7 .before in
-    let at-home = at-word6 .before in let at-word5 = at-home .before in let at-bits-word = at-word5 .before in let at-word4 = at-bits-word .before in
-    let at-word3 = at-word4 .before in let at-word2 = at-word3 .before in let at-word = at-word2 .before in let at-record-at = at-word .before in
-    let at-cell-of = at-record-at .before in let at-if1 = at-cell-of .before in let at-name-of = at-if1 .before .before in
-    let at-start = at-name-of .before .before in
+    let at-flow = c .before .before .before in let at-home = at-flow .before .before .before in let at-bits-word = at-home .before .before in
+    let at-record-at = at-bits-word .before .before .before .before .before in let at-cell-of = at-record-at .before in
+    let at-if1 = at-cell-of .before in let at-name-of = at-if1 .before .before in let at-start = at-name-of .before .before in
     let known = at-start .pre .0 .known in let place = at-record-at .record-at .ensures .0 in let home = at-home .record-at2 .ensures .0 in
-    seen (at-start .pre .0) (at-start .pre .1) _ _ (at-name-of .name-of .ensures) (at-cell-of .cell-of .ensures) (see known _ _ _ place (at-word .word .ensures))
-    (see known _ _ _ place (at-word2 .word2 .ensures)) (see known _ _ _ place (at-word3 .word3 .ensures)) (see known _ _ _ place (at-word4 .word4 .ensures))
-    (at-bits-word .bits-word .ensures) (see known _ _ _ place (at-word5 .word5 .ensures)) (see known _ _ _ home (at-word6 .word6 .ensures))
-    (see known _ _ _ home (at-word7 .word7 .ensures)) (at-flow .flow-at .ensures) (c .before .before .rights .ensures)
-    (passed _ (at-if1 .if1 .left))
+    seen (at-start .pre .0) (at-start .pre .1) _ _ (at-name-of .name-of .ensures) (at-cell-of .cell-of .ensures) (see known _ _ _ place refl)
+    (see known _ _ _ place refl) (see known _ _ _ place refl) (see known _ _ _ place refl) (at-bits-word .bits-word .ensures) (see known _ _ _ place refl)
+    (see known _ _ _ home refl) (see known _ _ _ home refl) (at-flow .flow-at .ensures) (c .before .before .rights .ensures) (passed _ (at-if1 .if1 .left))
 
 pub look-spec : {M : Type 1} → statement M
 look-spec =
@@ -111,22 +157,29 @@ look-spec =
     returns
     cell-of-requires
     record-at-requires
-    add-word
-    word-requires
-    add-word-2
-    word-requires-2
-    add-word-3
-    word-requires-3
-    add-word-4
-    word-requires-4
+    add-live
+    mul-live
+    shared-slice-read-live
+    add-serial
+    mul-serial
+    shared-slice-read-serial
+    add-owner
+    mul-owner
+    shared-slice-read-owner
+    add-group
+    mul-group
+    shared-slice-read-group
     bits-word-requires
-    add-word-5
-    word-requires-5
+    add-bits
+    mul-bits
+    shared-slice-read-bits
     record-at-requires-2
-    add-word-6
-    word-requires-6
-    add-word-7
-    word-requires-7
+    add-my-owner
+    mul-my-owner
+    shared-slice-read-my-owner
+    add-my-group
+    mul-my-group
+    shared-slice-read-my-group
     flow-at-requires
     rights-requires
     returns-2)
