@@ -102,7 +102,8 @@ pub struct Header {
     pub guard: u32,
 }
 
-pub fn header_of(t: &[u32]) -> Header
+// Of a slice that has no room for one: what is not there reads as 0.
+fn short_header(t: &[u32]) -> Header
     ensures { λ r. ⌜ r ≡ headerOf (now (t .entry)) ⌝ }
 {
     let cells = word(t, 0);
@@ -111,6 +112,29 @@ pub fn header_of(t: &[u32]) -> Header
     let files = word(t, FILES);
     let blocks = word(t, BLOCKS);
     let guard = word(t, GUARD);
+    Header {
+        cells,
+        processes,
+        segments,
+        files,
+        blocks,
+        guard,
+    }
+}
+
+// With one test for all of its words: it is read at every call.
+pub fn header_of(t: &[u32]) -> Header
+    ensures { λ r. ⌜ r ≡ headerOf (now (t .entry)) ⌝ }
+{
+    if t.len() < HEADER_WORDS {
+        return short_header(t);
+    }
+    let cells = t[0];
+    let processes = t[PROCESSES];
+    let segments = t[SEGMENTS];
+    let files = t[FILES];
+    let blocks = t[BLOCKS];
+    let guard = t[GUARD];
     Header {
         cells,
         processes,

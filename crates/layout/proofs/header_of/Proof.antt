@@ -1,47 +1,48 @@
 -- `layout::header_of` meets its contract: the header's words, each as the rules have it.
-use native.Mathlib.Omega.{arith}
+use mathlib.Core.Path.{refl}
 use borrow.Author.Needs.{needs}
 use Rattle.rules.specs.Layout.{cells, slots, blocks, guard}
 use Rattle.layout.proofs.header_of.Statement.{statement}
 use Rattle.layout.proofs.header_of.Tie as tie
 
-word-requires : tie.Need-word-requires
-word-requires c κs = search needs
-
-word-requires-2 : tie.Need-word-requires-2
-word-requires-2 c κs = search needs
-
-word-requires-3 : tie.Need-word-requires-3
-word-requires-3 c κs = search needs
-
-word-requires-4 : tie.Need-word-requires-4
-word-requires-4 c κs = search needs
-
-word-requires-5 : tie.Need-word-requires-5
-word-requires-5 c κs = search needs
-
-word-requires-6 : tie.Need-word-requires-6
-word-requires-6 c κs = search needs
+short-header-requires : tie.Need-short-header-requires
+short-header-requires c κs = search needs
 
 returns : tie.Need-returns
+returns c = search needs
+
+shared-slice-read-cells : tie.Need-shared-slice-read-cells
+shared-slice-read-cells c = search needs
+
+shared-slice-read-processes : tie.Need-shared-slice-read-processes
+shared-slice-read-processes c = search needs
+
+shared-slice-read-segments : tie.Need-shared-slice-read-segments
+shared-slice-read-segments c = search needs
+
+shared-slice-read-files : tie.Need-shared-slice-read-files
+shared-slice-read-files c = search needs
+
+shared-slice-read-blocks : tie.Need-shared-slice-read-blocks
+shared-slice-read-blocks c = search needs
+
+shared-slice-read-guard : tie.Need-shared-slice-read-guard
+shared-slice-read-guard c = search needs
+
+returns-2 : tie.Need-returns-2
 unfolding cells slots blocks guard
-returns c = λ i. record {
-  cells = c .before .before .before .before .before .word .ensures i;
-  processes = c .before .before .before .before .word2 .ensures i;
-  segments = c .before .before .before .word3 .ensures i;
-  files = c .before .before .word4 .ensures i;
-  blocks = c .before .word5 .ensures i;
-  guard = c .word6 .ensures i;
-}
+returns-2 c = refl
 
 pub header-of-spec : {M : Type 1} → statement M
 header-of-spec =
     tie.close
     (tie.spec
-    word-requires
-    word-requires-2
-    word-requires-3
-    word-requires-4
-    word-requires-5
-    word-requires-6
-    returns)
+    short-header-requires
+    returns
+    shared-slice-read-cells
+    shared-slice-read-processes
+    shared-slice-read-segments
+    shared-slice-read-files
+    shared-slice-read-blocks
+    shared-slice-read-guard
+    returns-2)

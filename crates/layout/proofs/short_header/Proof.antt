@@ -1,0 +1,47 @@
+-- `layout::short_header` meets its contract: the header's words, each as the rules have it, and 0 where there is none.
+use native.Mathlib.Omega.{arith}
+use borrow.Author.Needs.{needs}
+use Rattle.rules.specs.Layout.{cells, slots, blocks, guard}
+use Rattle.layout.proofs.short_header.Statement.{statement}
+use Rattle.layout.proofs.short_header.Tie as tie
+
+word-requires : tie.Need-word-requires
+word-requires c κs = search needs
+
+word-requires-2 : tie.Need-word-requires-2
+word-requires-2 c κs = search needs
+
+word-requires-3 : tie.Need-word-requires-3
+word-requires-3 c κs = search needs
+
+word-requires-4 : tie.Need-word-requires-4
+word-requires-4 c κs = search needs
+
+word-requires-5 : tie.Need-word-requires-5
+word-requires-5 c κs = search needs
+
+word-requires-6 : tie.Need-word-requires-6
+word-requires-6 c κs = search needs
+
+returns : tie.Need-returns
+unfolding cells slots blocks guard
+returns c = λ i. record {
+  cells = c .before .before .before .before .before .word .ensures i;
+  processes = c .before .before .before .before .word2 .ensures i;
+  segments = c .before .before .before .word3 .ensures i;
+  files = c .before .before .word4 .ensures i;
+  blocks = c .before .word5 .ensures i;
+  guard = c .word6 .ensures i;
+}
+
+pub short-header-spec : {M : Type 1} → statement M
+short-header-spec =
+    tie.close
+    (tie.spec
+    word-requires
+    word-requires-2
+    word-requires-3
+    word-requires-4
+    word-requires-5
+    word-requires-6
+    returns)
