@@ -13,7 +13,7 @@ use Rattle.rules.specs.Seid.{class, classOf, seid, indexOf, isSeid, formed, orS
 use Rattle.rules.specs.Modes.{validModes, reads, writes, clash}
 use Rattle.rules.specs.Rights.{lacks}
 use Rattle.rules.specs.Errors.{XbParam, XbadModes, XdapViol, Xbusy, XbadLink, XodSpace, XnoSpace, XshSg}
-use Rattle.rules.specs.Rule.{Refusal, _⇒_, firstRefusal, write}
+use Rattle.rules.specs.Rule.{Refusal, _⇒_, Rule, firstRefusal, write}
 use Rattle.rules.specs.Find.{inOwnCell, flowsToCaller, rightsAt, freeSlot, noSlot, freeEntry, noEntry, entered, own, find}
 use Rattle.rules.specs.Call07.{created, create}
 use Rattle.rules.specs.Call08.{clashesAt, clashes, openFile}
@@ -34,7 +34,7 @@ use Rattle.calls.specs.declared.objects.Seen.{Seen}
 use Rattle.calls.specs.World.{Known, Sound, wordsOf, Clashable, firstBy}
 use Rattle.calls.specs.Left.{ruleAt}
 use Rattle.calls.specs.Refusing.{orRefuse, refusing}
-use Rattle.calls.specs.Seen.{namedOf, seenOf, findTests, ownTests, slotFound}
+use Rattle.calls.specs.Seen.{namedOf, kindBy, seenOf, findTests, ownTests, slotFound}
 use Rattle.calls.specs.declared.room.Slot.{Slot}
 use Rattle.ids.specs.Seid.{seidOf}
 use Rattle.calls.specs.Calls.{giveUpRule, openTests}
@@ -42,7 +42,7 @@ use Rattle.calls.specs.declared.entries.Entry.{Entry}
 use Rattle.calls.specs.Entries.{entryOf, freedAt, madeAt, takenUpAt}
 use Rattle.calls.proofs.Worlds.{spot, shape, first-by-kind}
 use Rattle.calls.proofs.Refusals.{numbered, refusing-first, past, only-then, Clear, clear-of}
-use Rattle.calls.proofs.Looks.{own-numbered, form-past, find-first, own-first, seen-formed, own-is, slot-is, slot-in}
+use Rattle.calls.proofs.Looks.{own-numbered, by-kind, form-past, find-first, own-first, seen-formed, own-is, slot-is, slot-in}
 use Rattle.calls.proofs.Given.{begins, freed-is}
 use Rattle.calls.proofs.Holders.{made-is, entered-is, one-fits, taken-told}
 use Rattle.calls.proofs.Searches.{new-seid}
@@ -154,20 +154,13 @@ module _ {t : List ℕ} {n : Header} {c : Caller} (sound : Sound t n c) (k : Kin
       let z = clear-of tests tests-numbered (sym tests-told ∙ none) in
       rw (je, spot (sound .known) (at k (x .slot) (bits k)), slot-is (sound .known) (c .slot) k s seen (form-past (sound .known) (c .slot) k s seen (z .1 .0)))
 
--- it goes by the seid's class
-module _ (h : List ℕ) (r : Addr → ℕ) (p a b : ℕ) (buffer : List ℕ) {s c : ℕ} (self : s ≡ orSelf r p a) (cl : c ≡ classOf s) where
-  pub by-process : c ≡ class process → setBitsOf h r p s b buffer process ≡ setBits h r p a b buffer
-  unfolding setBits
-  by-process ce = rw (← self) (sym (cond-true _ _ _ (eq-eqb _ 4 (sym cl ∙ ce))))
-
-  module _ (other : c ≡ class process → ⊥) where
-    pub by-segment : c ≡ class segment → setBitsOf h r p s b buffer segment ≡ setBits h r p a b buffer
-    unfolding setBits
-    by-segment ce = rw (← self) (sym (cond-false _ _ _ (ne-eqb _ 4 (λ e. other (cl ∙ e))) ∙ cond-true _ _ _ (eq-eqb _ 5 (sym cl ∙ ce))))
-
-    pub by-file : (c ≡ class segment → ⊥) → setBitsOf h r p s b buffer file ≡ setBits h r p a b buffer
-    unfolding setBits
-    by-file ce = rw (← self) (sym (cond-false _ _ _ (ne-eqb _ 4 (λ e. other (cl ∙ e))) ∙ cond-false _ _ _ (ne-eqb _ 5 (λ e. ce (cl ∙ e)))))
+-- it goes by the kind that the seid's class names
+pub by-class : (h : List ℕ) (r : Addr → ℕ) (p a b : ℕ) (buffer : List ℕ) {s : ℕ} {k : Kind} → s ≡ orSelf r p a → k ≡ kindBy s
+    → setBitsOf h r p s b buffer k ≡ setBits h r p a b buffer
+unfolding setBits
+by-class h r p a b buffer {s} {k} self kind-is =
+    let f : Kind → Rule = λ (j : Kind). setBitsOf h r p s b buffer j in
+    rw (← self) (ap f kind-is ∙ by-kind f (eqb (classOf s) (class process)) (eqb (classOf s) (class segment)))
 
 -- ---- 7: create. d is the descriptor and f the slot that were found
 

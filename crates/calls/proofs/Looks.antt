@@ -1,6 +1,6 @@
 -- What the code sees of an object leads to the rule's refusals: "find" and "own", over the kind.
 use mathlib.Core.Path.{_≡_, refl, sym, ap, _∙_}
-use mathlib.Core.Bool.{Bool, true, false, not}
+use mathlib.Core.Bool.{Bool, true, false, not, cond}
 use mathlib.Core.List.{List, [], _∷_, _++_}
 use Prim.Native.Nat.{ℕ, _<_}
 use native.Mathlib.Omega.{arith}
@@ -31,6 +31,12 @@ pub own-numbered : (x : Seen) (k : Kind) (ys : List Refusal) → numbered ys ≡
 own-numbered x process ys n = n
 own-numbered x segment ys n = n
 own-numbered x file ys n = n
+
+-- what goes by a seid's class goes by the kind that it names
+pub by-kind : {A : Type 0} (f : Kind → A) (b c : Bool) → f (cond b process (cond c segment file)) ≡ cond b (f process) (cond c (f segment) (f file))
+by-kind f true c = refl
+by-kind f false true = refl
+by-kind f false false = refl
 
 -- what process p sees of the seid s
 module _ {t : List ℕ} {n : Header} (known : Known t n) (p : ℕ) (k : Kind) (s : ℕ) {x : Seen} (seen : x ≡ seenOf (configuration t) (wordsOf t) p k (namedOf n k s)) where

@@ -1,5 +1,5 @@
 -- Status: what refuses it, its sixteen bytes, and which kind's rule a seid's class asks for.
-use mathlib.Core.Path.{_≡_, refl, sym, ap, _∙_}
+use mathlib.Core.Path.{_≡_, refl, sym, ap, _∙_, subst}
 use mathlib.Core.Bool.{Bool, true, false, not}
 use mathlib.Core.List.{List, [], _∷_}
 use Prim.Native.Nat.{ℕ, _/_, _%_, _<_}
@@ -7,7 +7,7 @@ use native.Mathlib.Omega.{arith}
 use lib.Dec.{eqb}
 use lib.ListN.{length}
 use lib.Seq.{sets}
-use borrow.Author.Tests.{eqb-true, eq-eqb, ne-eqb}
+use borrow.Author.Tests.{eqb-true}
 use Rattle.rules.specs.Claim.{Holds}
 use Rattle.rules.specs.Level.{Level}
 use Rattle.rules.specs.WellFormed.{configured}
@@ -25,13 +25,13 @@ use Rattle.calls.specs.declared.Answer.{Answer}
 use Rattle.calls.specs.declared.Caller.{Caller}
 use Rattle.calls.specs.declared.objects.Seen.{Seen}
 use Rattle.calls.specs.World.{Sound, wordsOf}
-use Rattle.calls.specs.Seen.{namedOf, seenOf, findTests}
+use Rattle.calls.specs.Seen.{namedOf, kindBy, seenOf, findTests}
 use Rattle.calls.specs.Refusing.{orRefuse, refusing}
 use Rattle.calls.specs.Left.{said, ruleAt, answerOf, bufferOf}
 use Rattle.calls.specs.Told.{toldAt}
 use Rattle.calls.proofs.Worlds.{shape}
 use Rattle.calls.proofs.Refusals.{refusing-first, Clear, clear-of}
-use Rattle.calls.proofs.Looks.{find-numbered, formed-is, seen-formed, slot-is, slot-in}
+use Rattle.calls.proofs.Looks.{find-numbered, by-kind, formed-is, seen-formed, slot-is, slot-in}
 use Rattle.calls.proofs.Leaves.{answer-refused, answer-done, buffer-refused, buffer-done}
 use Rattle.calls.proofs.Queues.{sets-all}
 
@@ -113,21 +113,13 @@ module _ {t : List ℕ} {n : Header} {c : Caller} {k : Kind} {s : ℕ} {b : List
           bytes ∙ buffer-done (ruleAt t (λ h q. statusOf h q (c .slot) s b k)) found b none,
         )
 
--- the rule by the seid's class
-module _ (t : List ℕ) (p a : ℕ) (b : List ℕ) {s n : ℕ} (own : s ≡ orSelf (wordsOf t) p a) (class-is : n ≡ classOf s) where
-  pub of-process : {r : Answer} {z : List ℕ} → n ≡ 4 → Shown (ruleAt t (λ h q. statusOf h q p s b process)) b r z → Shown (ruleAt t (λ h q. status h q p a b)) b r z
-  unfolding status
-  of-process e x = rw (← own, eq-eqb (classOf s) 4 (sym class-is ∙ e)) x
-
-  pub of-segment : {r : Answer} {z : List ℕ} → (n ≡ 4 → ⊥) → n ≡ 5 → Shown (ruleAt t (λ h q. statusOf h q p s b segment)) b r z
-      → Shown (ruleAt t (λ h q. status h q p a b)) b r z
-  unfolding status
-  of-segment f e x = rw (← own, ne-eqb (classOf s) 4 (λ q. f (class-is ∙ q)), eq-eqb (classOf s) 5 (sym class-is ∙ e)) x
-
-  pub of-file : {r : Answer} {z : List ℕ} → (n ≡ 4 → ⊥) → (n ≡ 5 → ⊥) → Shown (ruleAt t (λ h q. statusOf h q p s b file)) b r z
-      → Shown (ruleAt t (λ h q. status h q p a b)) b r z
-  unfolding status
-  of-file f g x = rw (← own, ne-eqb (classOf s) 4 (λ q. f (class-is ∙ q)), ne-eqb (classOf s) 5 (λ q. g (class-is ∙ q))) x
+-- the rule by the kind that the seid's class names
+pub of-kind : (t : List ℕ) (p a : ℕ) (b : List ℕ) {s : ℕ} {k : Kind} {r : Answer} {z : List ℕ} → s ≡ orSelf (wordsOf t) p a → k ≡ kindBy s
+    → Shown (ruleAt t (λ h q. statusOf h q p s b k)) b r z → Shown (ruleAt t (λ h q. status h q p a b)) b r z
+unfolding status
+of-kind t p a b {s} {k} {r} {z} own kind-is x =
+    let f : Kind → Rule = λ (j : Kind). statusOf (configuration t) (wordsOf t) p s b j in
+    rw (← own) (subst (λ (y : Rule). Shown y b r z) (ap f kind-is ∙ by-kind f (eqb (classOf s) (class process)) (eqb (classOf s) (class segment))) x)
 
 -- the level's two categories are bytes
 pub level-small : (t : List ℕ) (cell : ℕ) {l : Code.Level} → Holds (configured (configuration t)) → cell < cells (configuration t)

@@ -4,8 +4,8 @@ use mathlib.Core.List.{List, [], _∷_, _++_}
 use Prim.Native.Nat.{ℕ, _≤_}
 use lib.Dec.{eqb}
 use lib.ListN.{length, getD}
-use Rattle.rules.specs.Layout.{maxCells, Kind, process, cellOf, flows, Addr, at, live, serial, owner}
-use Rattle.rules.specs.Seid.{class, indexOf, serialOf, isSeid}
+use Rattle.rules.specs.Layout.{maxCells, Kind, process, cellOf, flows, Addr, at, live, serial, owner, segment, file}
+use Rattle.rules.specs.Seid.{class, classOf, indexOf, serialOf, isSeid}
 use Rattle.rules.specs.Errors.{XnoAcc, XnoOwner}
 use Rattle.rules.specs.Rule.{Refusal, _⇒_}
 use Rattle.rules.specs.Find.{absent, rightsAt, freeSlot, noSlot}
@@ -24,6 +24,10 @@ noName = record { formed = false; slot = 0; serial = 0 }
 
 unfoldable pub namedOf : Header → Kind → ℕ → Named
 namedOf n k s = cond (isSeid (class k) (slotsOf n k) s) (nameOf s) noName
+
+-- the kind that a seid's class names, where several are taken; a class not taken is no file's, and is refused as one
+abbrev pub kindBy : ℕ → Kind
+kindBy s = cond (eqb (classOf s) (class process)) process (cond (eqb (classOf s) (class segment)) segment file)
 
 -- a matrix of at most sixteen rows of sixteen entries: what one that is lent must be known to be
 pub record Sixteen (m : List (List Bool)) : Type 0 where

@@ -36,6 +36,7 @@ use crate::entries::make;
 use crate::entries::take_up;
 use crate::objects::Seen;
 use crate::objects::find;
+use crate::objects::kind_by;
 use crate::objects::look;
 use crate::objects::or_self;
 use crate::objects::own;
@@ -46,7 +47,6 @@ use crate::room::in_cell;
 use ids::seid;
 use layout::Header;
 use layout::Kind;
-use layout::class_of;
 use layout::index_of;
 use modes::clash;
 use modes::reads;
@@ -64,8 +64,6 @@ use rules::MAX_CELLS;
 use rules::MAX_LINKS;
 use rules::OPENS;
 use rules::OWNER;
-use rules::PROCESS_CLASS;
-use rules::SEGMENT_CLASS;
 use rules::SERIAL;
 use rules::SHARABLE;
 use rules::XB_PARAM;
@@ -319,7 +317,7 @@ fn set_bits_of(
     answered(0, 0)
 }
 
-// 12. Set bits. It goes by the seid's class, "12 for a class not taken".
+// 12. Set bits, of the kind that the seid's class names.
 pub(crate) fn set_bits(
     t: &mut [u32],
     n: Header,
@@ -332,12 +330,6 @@ pub(crate) fn set_bits(
     ensures { λ r. ⌜ ((buffer : List ℕ) → Left (now (t .entry)) (λ h q. setBits h q (c .slot) a b buffer) r (now (t .exit))) ⌝ }
 {
     let s = or_self(t, n, c, a);
-    let class = class_of(s);
-    if class == PROCESS_CLASS {
-        return set_bits_of(t, n, m, c, Kind::Process, s, b);
-    }
-    if class == SEGMENT_CLASS {
-        return set_bits_of(t, n, m, c, Kind::Segment, s, b);
-    }
-    set_bits_of(t, n, m, c, Kind::File, s, b)
+    let kind = kind_by(s);
+    set_bits_of(t, n, m, c, kind, s, b)
 }

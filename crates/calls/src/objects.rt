@@ -9,7 +9,7 @@ ghost use Rattle.rules.specs.Find.{absent};
 ghost use Rattle.layout.specs.Kinds.{kindOf};
 ghost use Rattle.calls.specs.World.{Known, Sound, wordsOf};
 ghost use Rattle.calls.specs.Refusing.{refusing};
-ghost use Rattle.calls.specs.Seen.{namedOf, Sixteen, unseen, seenOf, findTests, ownTests};
+ghost use Rattle.calls.specs.Seen.{namedOf, kindBy, Sixteen, unseen, seenOf, findTests, ownTests};
 use crate::Caller;
 use crate::base::or_refuse;
 use crate::base::read;
@@ -23,11 +23,13 @@ use ids::SegmentIs;
 use ids::seid;
 use layout::Header;
 use layout::Kind;
+use layout::class_of;
 use rules::GROUP;
 use rules::LIVE;
 use rules::MAX_CELLS;
 use rules::OWNER;
 use rules::PROCESS_CLASS;
+use rules::SEGMENT_CLASS;
 use rules::SERIAL;
 use rules::XB_PR_SD;
 use rules::XB_SG_SD;
@@ -113,6 +115,20 @@ fn name_of(n: Header, kind: Kind, s: u32) -> Named
         Kind::Segment => as_segment(n, s),
         Kind::File => as_file(n, s),
     }
+}
+
+// "Where several kinds are taken it goes by the seid's class, 12 for a class not taken": that is no file's, and is refused as one.
+pub(crate) fn kind_by(s: u32) -> Kind
+    ensures { λ r. ⌜ kindOf r ≡ kindBy s ⌝ }
+{
+    let class = class_of(s);
+    if class == PROCESS_CLASS {
+        return Kind::Process;
+    }
+    if class == SEGMENT_CLASS {
+        return Kind::Segment;
+    }
+    Kind::File
 }
 
 // One entry of the matrix, where it is lent; no past its sixteen cells.

@@ -18,17 +18,15 @@ use crate::base::or_refuse;
 use crate::base::read;
 use crate::base::refused;
 use crate::objects::find;
+use crate::objects::kind_by;
 use crate::objects::look;
 use crate::objects::or_self;
 use layout::Header;
 use layout::Kind;
-use layout::class_of;
 use levels::level_at;
 use rules::GROUP;
 use rules::MAX_CELLS;
 use rules::OWNER;
-use rules::PROCESS_CLASS;
-use rules::SEGMENT_CLASS;
 use rules::XB_SZ;
 use rules::XOK;
 use words::put_bytes;
@@ -97,7 +95,7 @@ fn status_of(
     answered(0, 0)
 }
 
-// 17. Status. A class not taken is no file's: it is refused as one.
+// 17. Status, of the kind that the seid's class names.
 pub(crate) fn status(
     t: &[u32],
     n: Header,
@@ -110,12 +108,6 @@ pub(crate) fn status(
     ensures { λ r. ⌜ (r ≡ answerOf (ruleAt (now (t .entry)) (λ h q. status h q (c .slot) a (now (buffer .entry))))) × (now (buffer .exit) ≡ bufferOf (now (buffer .entry)) (ruleAt (now (t .entry)) (λ h q. status h q (c .slot) a (now (buffer .entry))))) ⌝ }
 {
     let s = or_self(t, n, c, a);
-    let class = class_of(s);
-    if class == PROCESS_CLASS {
-        return status_of(t, n, m, c, Kind::Process, s, buffer);
-    }
-    if class == SEGMENT_CLASS {
-        return status_of(t, n, m, c, Kind::Segment, s, buffer);
-    }
-    status_of(t, n, m, c, Kind::File, s, buffer)
+    let kind = kind_by(s);
+    status_of(t, n, m, c, kind, s, buffer)
 }

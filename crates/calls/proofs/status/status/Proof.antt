@@ -1,5 +1,5 @@
 -- `status::status` meets its contract: the rule goes by the seid's class.
-use Rattle.calls.proofs.Statuses.{of-process, of-segment, of-file}
+use Rattle.calls.proofs.Statuses.{of-kind}
 use borrow.Author.Needs.{needs}
 use Rattle.calls.proofs.status.status.Statement.{statement}
 use Rattle.calls.proofs.status.status.Tie as tie
@@ -7,8 +7,8 @@ use Rattle.calls.proofs.status.status.Tie as tie
 or-self-requires : tie.Need-or-self-requires
 or-self-requires c κs = search needs
 
-class-of-requires : tie.Need-class-of-requires
-class-of-requires c κs = search needs
+kind-by-requires : tie.Need-kind-by-requires
+kind-by-requires c κs = search needs
 
 status-of-requires : tie.Need-status-of-requires
 status-of-requires c κs = search needs
@@ -18,46 +18,8 @@ same-length c = search needs
 
 returns : tie.Need-returns
 returns c =
-    let at-or-self = c .before .before .before .before .before .before in
-    of-process _ _ _ _ (at-or-self .or-self .ensures) (c .before .before .before .before .before .class-of .ensures) (c .before .before .before .before .if1 .taken)
-    (c .before .before .status-of .ensures)
-
-status-of-requires-2 : tie.Need-status-of-requires-2
-status-of-requires-2 c κs = search needs
-
-same-length-2 : tie.Need-same-length-2
-same-length-2 c = search needs
-
-returns-2 : tie.Need-returns-2
-returns-2 c =
-    let classed = c .before .before .before .before .before .before in
-    of-segment _ _ _ _ (classed .before .or-self .ensures) (classed .class-of .ensures) (c .before .before .before .before .before .if1 .left)
-    (c .before .before .before .before .if2 .taken) (c .before .before .status-of2 .ensures)
-
-status-of-requires-3 : tie.Need-status-of-requires-3
-status-of-requires-3 c κs = search needs
-
-same-length-3 : tie.Need-same-length-3
-same-length-3 c = search needs
-
-returns-3 : tie.Need-returns-3
-returns-3 c =
-    let classed = c .before .before .before .before .before .before in
-    of-file _ _ _ _ (classed .before .or-self .ensures) (classed .class-of .ensures) (c .before .before .before .before .before .if1 .left)
-    (c .before .before .before .before .if2 .left) (c .before .before .status-of3 .ensures)
+    let at-kind-by = c .before .before .before .before in
+    of-kind _ _ _ _ (at-kind-by .before .or-self .ensures) (at-kind-by .kind-by .ensures) (c .before .before .status-of .ensures)
 
 pub status-spec : {M : Type 1} → statement M
-status-spec =
-    tie.close
-    (tie.spec
-    or-self-requires
-    class-of-requires
-    status-of-requires
-    same-length
-    returns
-    status-of-requires-2
-    same-length-2
-    returns-2
-    status-of-requires-3
-    same-length-3
-    returns-3)
+status-spec = tie.close (tie.spec or-self-requires kind-by-requires status-of-requires same-length returns)
