@@ -77,11 +77,6 @@ pub record-there : {t : List ℕ} {n : Header} {c : Caller} → Sound t n c → 
     → {y : ℕ} → y ≡ recordOf n k i → y + j < length t
 record-there {t} sound k i j l m ye = omega (arith, ye, spot (sound .known) (at k i j), offset-lt (configuration t) (at k i j) (l, m), sound .words)
 
-pub group-in : (k : Kind) → group < recordWords k
-group-in process = omega arith
-group-in segment = omega arith
-group-in file = omega arith
-
 pub bits-in : (k : Kind) → bits k < recordWords k
 bits-in process = omega arith
 bits-in segment = omega arith

@@ -18,7 +18,6 @@ use Rattle.laws.proofs.Tests.{and-left, and-both, both-ways, refuted}
 use Rattle.laws.proofs.Below.{some-none, sum-more, sum-grows, count-more, count-some}
 use Rattle.laws.proofs.Seids.{is-formed}
 use Rattle.laws.proofs.Cells.{cell-run}
-use Rattle.laws.proofs.Places.{offset-lt}
 use Rattle.laws.proofs.Shape.{opens-counted}
 use Rattle.modes.specs.Clash.{clashOf}
 use Rattle.layout.specs.declared.Header.{Header}
@@ -29,7 +28,8 @@ use Rattle.calls.specs.declared.entries.Entry.{Entry}
 use Rattle.calls.specs.World.{Sound, wordsOf, Clashable, firstBy}
 use Rattle.calls.specs.Seen.{namedOf, seenOf}
 use Rattle.calls.specs.Entries.{entryOf, entryFrom}
-use Rattle.calls.proofs.Worlds.{spot, cells-is, first-by-kind}
+use Rattle.calls.proofs.Worlds.{cells-is, first-by-kind}
+use Rattle.calls.proofs.Names.{record-there}
 use Rattle.calls.proofs.Given.{entry-read}
 use Rattle.calls.proofs.Searches.{home-in, run-slots}
 use Rattle.calls.proofs.Looks.{own-is}
@@ -126,9 +126,7 @@ module _ {t : List ℕ} {n : Header} {c : Caller} (sound : Sound t n c) {s b : �
   -- the descriptors of process p begin at a place: the table has them all, and what is read there is the entry
   module _ (p : ℕ) (lp : p < m) {first : ℕ} (there : first ≡ recordOf n process (from + p) + heldAt file 0) where
     pub all-there : first + 2 * entries ≤ length t
-    all-there =
-        let last = at process (from + p) (usedAt file 15) in
-        omega (arith, there, spot (sound .known) last, offset-lt (configuration t) last (in-table p lp, omega arith), sound .words)
+    all-there = omega (arith, there, record-there sound process (from + p) (usedAt file (entries - 1)) (in-table p lp) (omega arith) refl)
 
     pub entry-there : (d : ℕ) {x : Entry} → x ≡ entryFrom t first d → x ≡ entryOf (wordsOf t) file (from + p) d
     entry-there d e = e ∙ entry-read (sound .known) file (from + p) d refl (omega (arith, there)) refl refl

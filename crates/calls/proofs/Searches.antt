@@ -8,7 +8,7 @@ use native.Mathlib.Decide.{ℕ-discrete}
 use lib.Dec.{eqb, ltb, leb}
 use lib.ListN.{getD}
 use borrow.Author.Tests.{leb-false, ltb-true, ltb-false, lt-ltb}
-use Rattle.rules.specs.Layout.{maxSlots, maxSerial, Kind, process, segment, file, recordWords, configuration, cells, slots, cellWord, cellSlots, cellSlotsWord, firstSlot, cellOf, at, rd, heldAt, live, serial, owner, holders}
+use Rattle.rules.specs.Layout.{maxSlots, maxSerial, Kind, process, segment, file, recordWords, configuration, cells, slots, cellWord, cellSlots, cellSlotsWord, firstSlot, cellOf, at, rd, heldAt, live, serial, group, holders}
 use Rattle.rules.specs.Seid.{class, seid}
 use Rattle.rules.specs.Find.{canTake, freeSlot, noSlot, freeEntry}
 use Rattle.laws.proofs.Search.{lowest-same}
@@ -153,8 +153,8 @@ holders-small process = omega arith
 holders-small segment = omega arith
 holders-small file = omega arith
 
--- every record has more than its live word and its serial
-pub record-some : (k : Kind) → owner < recordWords k
+-- every record has the four words that all begin with
+pub record-some : (k : Kind) → group < recordWords k
 record-some process = omega arith
 record-some segment = omega arith
 record-some file = omega arith

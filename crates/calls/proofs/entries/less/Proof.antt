@@ -13,7 +13,7 @@ record-words-requires c κs = search needs
 free-record-requires : tie.Need-free-record-requires
 free-record-requires c κs =
     let s = c .before .before .before .before in
-    (s .pre, rw (c .record-words .ensures) (record-some (kindOf (s .args .kind))), rw (c .record-words .ensures) (record-small (kindOf (s .args .kind))))
+    (s .pre, omega (arith, c .record-words .ensures, record-some (kindOf (s .args .kind))), rw (c .record-words .ensures) (record-small (kindOf (s .args .kind))))
 
 holders-word-requires : tie.Need-holders-word-requires
 holders-word-requires c κs = search needs

@@ -12,15 +12,15 @@ use Rattle.calls.proofs.objects.kind_by.Tie as tie
 
 module _ (s : ℕ) {n : ℕ} (class-is : n ≡ classOf s) where
   a-process : n ≡ class process → process ≡ kindBy s
-  a-process e = sym (cond-true _ _ _ (eq-eqb (classOf s) 4 (sym class-is ∙ e)))
+  a-process e = sym (cond-true _ _ _ (eq-eqb (classOf s) (class process) (sym class-is ∙ e)))
 
   module _ (no-process : n ≡ class process → ⊥) where
     a-segment : n ≡ class segment → segment ≡ kindBy s
-    a-segment e = sym (cond-false _ _ _ (ne-eqb (classOf s) 4 (λ f. no-process (class-is ∙ f))) ∙ cond-true _ _ _ (eq-eqb (classOf s) 5 (sym class-is ∙ e)))
+    a-segment e = sym (cond-false _ _ _ (ne-eqb (classOf s) (class process) (λ f. no-process (class-is ∙ f))) ∙ cond-true _ _ _ (eq-eqb (classOf s) (class segment) (sym class-is ∙ e)))
 
     else-file : (n ≡ class segment → ⊥) → file ≡ kindBy s
-    else-file no-segment = sym (cond-false _ _ _ (ne-eqb (classOf s) 4 (λ f. no-process (class-is ∙ f)))
-        ∙ cond-false _ _ _ (ne-eqb (classOf s) 5 (λ f. no-segment (class-is ∙ f))))
+    else-file no-segment = sym (cond-false _ _ _ (ne-eqb (classOf s) (class process) (λ f. no-process (class-is ∙ f)))
+        ∙ cond-false _ _ _ (ne-eqb (classOf s) (class segment) (λ f. no-segment (class-is ∙ f))))
 
 class-of-requires : tie.Need-class-of-requires
 class-of-requires c κs = search needs

@@ -3,10 +3,11 @@ use Rattle.rules.specs.Layout.{configuration, recordWords, live, serial, owner,
 use Rattle.layout.specs.Kinds.{kindOf}
 use Rattle.calls.specs.World.{wordsOf}
 use Rattle.laws.proofs.Tests.{passed, failed}
-use Rattle.calls.proofs.Names.{bits-small, sixteen, record-there, group-in, bits-in, named-in, not-seen, seen}
+use Rattle.calls.proofs.Names.{bits-small, sixteen, record-there, bits-in, named-in, not-seen, seen}
+use Rattle.calls.proofs.Searches.{record-some}
 use Rattle.calls.proofs.Worlds.{see}
 use mathlib.Core.Path.{refl}
-use Prim.Native.Nat.{ℕ, _+_, _≤_, _<_}
+use Prim.Native.Nat.{ℕ, _+_, _≤_, _<_, _^_}
 use lib.ListN.{length}
 use native.Mathlib.Omega.{arith}
 use borrow.Author.Needs.{needs}
@@ -41,7 +42,7 @@ there c j l =
 
 -- as far as the words that every record has
 front : (c : tie.After-record-at) (j : ℕ) → j ≤ group → c .record-at .result + j < length (c .before .before .before .before .before .before .args .t .now)
-front c j l = there c j (omega (arith, l, group-in (kindOf (c .before .before .before .before .before .before .args .kind))))
+front c j l = there c j (omega (arith, l, record-some (kindOf (c .before .before .before .before .before .before .args .kind))))
 
 home-there : (c : tie.After-record-at2) (j : ℕ) → j ≤ group → c .record-at2 .result + j
     < length (c .before .before .before .before .before .before .before .before .before .before .before .before .before .args .t .now)
@@ -88,19 +89,17 @@ shared-slice-read-group c = front (c .before .before .before .before) group (ome
 bits-word-requires : tie.Need-bits-word-requires
 bits-word-requires c κs = search needs
 
-add-bits : tie.Need-add-bits
-add-bits c =
+near : (c : tie.After-bits-word) → c .before .before .before .before .before .record-at .result + c .bits-word .result < 2 ^ 45
+near c =
     let at-record-at = c .before .before .before .before .before in
     let small = bits-small (kindOf (at-record-at .before .before .before .before .before .before .args .kind)) (c .bits-word .ensures) in
-    let near = at-record-at .record-at .ensures .1 in
-    omega (arith, small, near)
+    omega (arith, small, at-record-at .record-at .ensures .1)
+
+add-bits : tie.Need-add-bits
+add-bits c = omega (arith, near c)
 
 mul-bits : tie.Need-mul-bits
-mul-bits c =
-    let at-record-at = c .before .before .before .before .before in
-    let small = bits-small (kindOf (at-record-at .before .before .before .before .before .before .args .kind)) (c .bits-word .ensures) in
-    let near = at-record-at .record-at .ensures .1 in
-    omega (arith, small, near)
+mul-bits c = omega (arith, near c)
 
 shared-slice-read-bits : tie.Need-shared-slice-read-bits
 shared-slice-read-bits c =
