@@ -116,7 +116,7 @@ use denote.RattleType.{RattleType, owns}
 use denote.Shadow.{pureI}
 use denote.Laws.{Is, shows, Makes, Tells, Lawful}
 use denote.Memory.{pointee}
-use denote.Plain.{uint-makes, uint-lawful, bool-vals, bool-tells, bool-makes, bool-lawful}
+use denote.Plain.{uint-vals, uint-tells, uint-makes, uint-lawful, bool-vals, bool-tells, bool-makes, bool-lawful}
 use denote.Array.{Array, array-vals, array-tells, array-makes, array-lawful}
 use denote.Builtin.{bool, u8, u32, usize}
 use denote.Ref.{RefT, ShrRef, shr-copy}
@@ -135,6 +135,7 @@ use denote.Triple.Walked.{says, Stays, stay-slice, walkOf, goes-slice, Walks, en
 use denote.Signature.{plain}
 use Rattle.calls.specs.declared.Record.{Record}
 use Rattle.rules.specs.Tray.{trayAnswer}
+use Rattle.layout.specs.Hall.{hallBytes, matrixIn}
 use Rattle.calls.specs.Did.{stateOf}
 use Rattle.calls.specs.Tray.{recordsOf, Ran, Ready, Trayed, begun, verdictOf}
 use Rattle.calls.proofs.Record as T
@@ -157,6 +158,10 @@ use Rattle.calls.proofs.trays.begin as begin
 use Rattle.calls.proofs.trays.begin.Symbol as begin-def
 use Rattle.calls.proofs.trays.begin.Symbol.{name as #begin}
 use Rattle.calls.proofs.trays.begin.Met as begin-thm
+use Rattle.calls.proofs.trays.matrix_of as matrix
+use Rattle.calls.proofs.trays.matrix_of.Symbol as matrix-def
+use Rattle.calls.proofs.trays.matrix_of.Symbol.{name as #matrix}
+use Rattle.calls.proofs.trays.matrix_of.Met as matrix-thm
 use Rattle.calls.proofs.tray.Key.{name as #tray}
 use Rattle.calls.proofs.tray as tr
 use Rattle.calls.proofs.tray.Statement as stated
@@ -219,14 +224,15 @@ use Rattle.monitor.proofs.monitor_tray.Code as code
 
 
 def tray():
-    P = Places(26, 10)
-    # in the loop two more items stand before the locals: what a `&` to the matrix owns, and the token of its lifetime
-    Q = Places(P.n, P.base + 2)
+    P = Places(29, 10)
+    # in the loop four more items stand before the locals: what a `&` to the hall owns, the token of its lifetime, and the same of the matrix
+    Q = Places(P.n, P.base + 4)
     W64='(tyInt w64)'
-    TY={0:'(tyInt w32)',1:'slice₀',2:'slice₁',3:'slice₂',4:'slice₃',5:'matrixTy',6:'(tyInt w32)',7:W64,8:W64,9:'T′.mir',10:'matrixTy',11:'lent₀',12:'(sliceTy lent₀)',13:W64,14:W64,15:'tyBool',16:W64,17:'tyPtr',18:'T′.mir',19:'lent₀',20:'(sliceTy lent₀)',21:'lent₁',22:'(sliceTy lent₁)',23:'lent₁',24:'(sliceTy lent₁)',25:'(tyRef erased imm matrixTy)',26:'tyPtr'}
-    VAL={8:'(vint w64 i)',7:'(vint w64 n)',6:'(vint w32 v)',4:'s₃',3:'s₂',2:'s₁',1:'s₀'}
+    TY={0:'(tyInt w32)',1:'slice₀',2:'slice₁',3:'slice₂',4:'slice₃',5:'hallTy',6:'matrixTy',7:'(tyInt w32)',8:W64,9:W64,10:'T′.mir',11:'hallTy',12:'lent₀',13:'(sliceTy lent₀)',14:W64,15:W64,16:'matrixTy',17:'tyBool',18:W64,19:'tyPtr',20:'T′.mir',21:'lent₀',22:'(sliceTy lent₀)',23:'lent₁',24:'(sliceTy lent₁)',25:'lent₁',26:'(sliceTy lent₁)',27:'(tyRef erased imm matrixTy)',28:'(tyRef erased imm hallTy)',29:'tyPtr'}
+    VAL={9:'(vint w64 i)',8:'(vint w64 n)',7:'(vint w32 v)',4:'s₃',3:'s₂',2:'s₁',1:'s₀'}
     def item(k):
-        if k == 5: return '‵ lent-matrix ∷ ‵ (fdies %s %s)'%(TY[k],l(k))
+        if k == 5: return '‵ lent-hall ∷ ‵ (fdies %s %s)'%(TY[k],l(k))
+        if k == 6: return '‵ lent-matrix ∷ ‵ (fdies %s %s)'%(TY[k],l(k))
         if k in VAL: return '‵ (fat fullShare %s %s 0 %s) ∷ ‵ (fdies %s %s)'%(TY[k],l(k),VAL[k],TY[k],l(k))
         return '‵ (froom %s %s 0) ∷ ‵ (fdies %s %s)'%(TY[k],l(k),TY[k],l(k))
     locals_ = joined([item(k) for k in range(P.n, -1, -1)], 2, I12)
@@ -234,21 +240,23 @@ def tray():
     ls = ' '.join(l(k) for k in range(P.n + 1))
     keep = P.keep([0, 11, 7, 10, 6, 8, 4, 1, 2, 3], 12)
     lent_out = P.placed(list(range(3, 13)) + [0, 2], 5, 1, 13, I10)
+    matrix_out = P.placed(list(range(3, 15)) + [0, 2], 6, 1, 15, I10)
     put_back = P.placed(list(range(1, 11)), 5, 0, 11, I12)
-    runargs='(at-list b₀ o₀ δ x, (at-list b₁ o₁ ε u, (at-list b₃ o₃ η y, (at-matrix l₅ μ m, (z, tt)))))'
-    runlfts='(α ∷ [], (β ∷ [], (ζ ∷ [], (θ ∷ [], tt))))'
-    full='(‵ (flft (α ∷ []) fullShare) ⊛ (‵ (flft (β ∷ []) fullShare) ⊛ (‵ (flft (ζ ∷ []) fullShare) ⊛ (‵ (flft (θ ∷ []) fullShare) ⊛ ‵ ftrue))))'
+    matrix_back = P.placed(list(range(1, 13)), 6, 0, 13, I12)
+    runargs='(at-list b₀ o₀ δ x, (at-list b₁ o₁ ε u, (at-list b₃ o₃ η y, (at-matrix l₆ ν m, (at-hall l₅ μ hs, (z, tt))))))'
+    runlfts='(α ∷ [], (β ∷ [], (ζ ∷ [], (ψ ∷ [], (θ ∷ [], tt)))))'
+    full='(‵ (flft (α ∷ []) fullShare) ⊛ (‵ (flft (β ∷ []) fullShare) ⊛ (‵ (flft (ζ ∷ []) fullShare) ⊛ (‵ (flft (ψ ∷ []) fullShare) ⊛ (‵ (flft (θ ∷ []) fullShare) ⊛ ‵ ftrue)))))'
     RAN='Ran (stateOf x u) y z r (ws .0) (ws .1 .0) (ws .1 .1 .0)'
     beginargs='(at-list b₀ o₀ δ xs, (length ss, (length rs, tt)))'
-    TOLD='(m ≡ begun xs (length ss) (length rs)) × (ws .0 ≡ xs)'
+    TOLD='(hs ≡ begun xs (length ss) (length rs)) × (ws .0 ≡ xs)'
     def contract(name, of):
         return f"  abbrev {name} : Contract 𝓤\n  {name} = tripleOf 𝓤 H A {of}.signature ({of}.spec 𝓤 H A mem rn)\n\n"
 
-    TURN='Turn xs ss bs rs m n'
-    LESS='Less xs ss bs rs m n'
+    TURN='Turn xs ss bs rs m hs n'
+    LESS='Less xs ss bs rs m hs n'
     return f'''-- `tray` meets its contract: a walk of its MIR, by hand, since a slice of structs is lent. The records' borrow is opened once before the loop and closed once after it; in
--- each turn the table, the store and the bytes are lent again to `run`, each for a lifetime of its own. The matrix is lent once, for a lifetime from before the loop
--- to after it, and each turn passes a copy of that reference. `Going` says what holds where a turn begins.
+-- each turn the table, the store and the bytes are lent again to `run`, each for a lifetime of its own. The hall and the matrix are lent once, each for a lifetime
+-- from before the loop to after it, and each turn passes a copy of those references. `Going` says what holds where a turn begins.
 -- tools/walk.py writes this file: it computes the positions in the context (local k of {P.n} stands at base + 2 * ({P.n} - k)).
 -- Assumes nothing.
 {TRAY_USES}abbrev stayed : Stays (tr.ended .signature .params) (tr.ended .kept)
@@ -257,9 +265,15 @@ stayed = (
   (stay-slice (1 ∷ []) tt (plain (λ _. u8)), (stay-slice (2 ∷ []) tt (plain (λ _. T.the-row)), (stay-slice (3 ∷ []) tt (plain (λ _. u8)), tt))),
 )
 
--- the rows of a record and of the flow matrix, and the types of the locals
+-- the rows of a record and of the hall, and the types of the locals
 abbrev R : RattleType
 R = T.the-row
+
+abbrev Rh : RattleType
+Rh = Array u8 hallBytes
+
+abbrev hallTy : Ty
+hallTy = tyArray (tyInt w8) hallBytes
 
 abbrev Rm : RattleType
 Rm = Array (Array bool 16) 16
@@ -289,6 +303,9 @@ lent₁ = tyRef erased mut (tyInt w8)
 abbrev none : Record
 none = record {{ caller = 0; code = 0; a = 0; b = 0; c = 0; offset = 0; length = 0; answer = record {{ error = 0; first = 0; second = 0 }} }}
 
+abbrev at-hall : ℕ → GName → List ℕ → RefT (List ℕ)
+at-hall b γ hs = record {{ ptr = (b, 0); name = γ; now = hs }}
+
 abbrev at-matrix : ℕ → GName → List (List Bool) → RefT (List (List Bool))
 at-matrix b γ m = record {{ ptr = (b, 0); name = γ; now = m }}
 
@@ -297,7 +314,16 @@ at-list b o γ ys = record {{ ptr = (b, o); name = γ; now = ys }}
 
 module _ {{M : Type 1}} (𝓤 : URA M) (H : Heap 𝓤) (A : Atoms 𝓤) (W : Given 𝓤 H A) (mem : Memory → SProp 𝓤) (rn : Routine → Fun 𝓤) where
   -- the contracts that the proof cites
-{contract('Run','run')}{contract('Due','due')}{contract('Verdict','verdict')}{contract('Begin','begin')}  -- the matrix is plain data
+{contract('Run','run')}{contract('Due','due')}{contract('Verdict','verdict')}{contract('Begin','begin')}{contract('Matrix','matrix')}  -- the hall and the matrix are plain data
+  hall-makes : Makes 𝓤 H A Rh (Is Rh)
+  hall-makes = array-makes 𝓤 H A W u8 (uint-makes 𝓤 H A W w8) hallBytes
+
+  hall-lawful : Lawful 𝓤 H A Rh
+  hall-lawful = array-lawful 𝓤 H A W u8 (uint-lawful 𝓤 H A W w8) hallBytes
+
+  hall-tells : Tells Rh (Is Rh) (array-vals (uint-vals w8))
+  hall-tells = array-tells u8 (uint-vals w8) (uint-tells w8) hallBytes
+
   matrix-makes : Makes 𝓤 H A Rm (Is Rm)
   matrix-makes = array-makes 𝓤 H A W (Array bool 16) (array-makes 𝓤 H A W bool (bool-makes 𝓤 H A W) 16) 16
 
@@ -320,16 +346,27 @@ module _ {{M : Type 1}} (𝓤 : URA M) (H : Heap 𝓤) (A : Atoms 𝓤) (W : Giv
     said-due r = exE 𝓤 _ (λ ws. snd∗ 𝓤 (sem 𝓤 H A (lasts due.ended tt (v, (k, tt)) ws)) (fact 𝓤 (r ≡ cond (eqb v 0) k 0)))
 
   -- what `verdict` is passed, and what it says
-  module _ (m : List (List Bool)) (wm : Val) (m-is : Is Rm m (wm ∷ [])) (k : ℕ) (fits : k < 2 ^ 64) where
+  module _ (hs : List ℕ) (wh : Val) (hs-is : Is Rh hs (wh ∷ [])) (k : ℕ) (fits : k < 2 ^ 64) where
     abbrev to-verdict : Verdict .Ghost
-    to-verdict = ((tt, tt, tt, (m, (k, tt)), (wm ∷ [], (vint w64 k ∷ [], tt))), tt)
+    to-verdict = ((tt, tt, tt, (hs, (k, tt)), (wh ∷ [], (vint w64 k ∷ [], tt))), tt)
 
     asked-verdict : ent 𝓤 (emp 𝓤) (Verdict .pre to-verdict)
     asked-verdict = qed W [] ∵ nothing ! $ owned ! usize (Is usize) (uint-makes 𝓤 H A W w64) k _ (refl, fits) $ fjoin ! $
-        owned ! Rm (Is Rm) matrix-makes m _ m-is $ fjoin ! $ nothing ! $ join ! $ frame ! $ done !
+        owned ! Rh (Is Rh) hall-makes hs _ hs-is $ fjoin ! $ nothing ! $ join ! $ frame ! $ done !
 
-    said-verdict : (r : ℕ) → ent 𝓤 (ensured 𝓤 H A verdict.ended (verdict.clauses 𝓤 H A mem rn) tt (m, (k, tt)) tt r) (fact 𝓤 (r ≡ verdictOf m k))
-    said-verdict r = exE 𝓤 _ (λ ws. snd∗ 𝓤 (sem 𝓤 H A (lasts verdict.ended tt (m, (k, tt)) ws)) (fact 𝓤 (r ≡ verdictOf m k)))
+    said-verdict : (r : ℕ) → ent 𝓤 (ensured 𝓤 H A verdict.ended (verdict.clauses 𝓤 H A mem rn) tt (hs, (k, tt)) tt r) (fact 𝓤 (r ≡ verdictOf hs k))
+    said-verdict r = exE 𝓤 _ (λ ws. snd∗ 𝓤 (sem 𝓤 H A (lasts verdict.ended tt (hs, (k, tt)) ws)) (fact 𝓤 (r ≡ verdictOf hs k)))
+
+  -- what `matrix_of` is passed, and what it says
+  module _ (hs : List ℕ) (wh : Val) (hs-is : Is Rh hs (wh ∷ [])) where
+    abbrev to-matrix : Matrix .Ghost
+    to-matrix = ((tt, tt, tt, (hs, tt), (wh ∷ [], tt)), tt)
+
+    asked-matrix : ent 𝓤 (emp 𝓤) (Matrix .pre to-matrix)
+    asked-matrix = qed W [] ∵ nothing ! $ owned ! Rh (Is Rh) hall-makes hs _ hs-is $ fjoin ! $ nothing ! $ join ! $ frame ! $ done !
+
+    said-matrix : (r : List (List Bool)) → ent 𝓤 (ensured 𝓤 H A matrix.ended (matrix.clauses 𝓤 H A mem rn) tt (hs, tt) tt r) (fact 𝓤 (r ≡ matrixIn hs))
+    said-matrix r = exE 𝓤 _ (λ ws. snd∗ 𝓤 (sem 𝓤 H A (lasts matrix.ended tt (hs, tt) ws)) (fact 𝓤 (r ≡ matrixIn hs)))
 
   module _ (κ₀ κ₁ κ₂ κ₃ : Lft) (q₀ q₁ q₂ q₃ : Share) (b₀ o₀ b₁ o₁ b₂ o₂ b₃ o₃ : ℕ) (γ₀ γ₁ γ₂ γ₃ : GName) (xs ss bs : List ℕ) (rs : List Record) where
     -- the machine values of the four slices
@@ -412,32 +449,33 @@ module _ {{M : Type 1}} (𝓤 : URA M) (H : Heap 𝓤) (A : Atoms 𝓤) (W : Giv
           owned ! usize (Is usize) (uint-makes 𝓤 H A W w64) (length ss) _ (refl, store-fits) $ fjoin ! $
           move ! (2 ∷ 0 ∷ []) $ fjoin ! $ move ! (1 ∷ 0 ∷ []) $ join ! $ frame ! $ done !
 
-    -- what `run` is passed: the table, the store and the bytes lent again under the names δ, ε and η, a reference to the matrix, and a record
-    module _ (α β ζ θ : ℕ) (δ ε η μ : GName) (l₅ : ℕ) (m : List (List Bool)) (x u y : List ℕ) (z : Record) where
+    -- what `run` is passed: the table, the store and the bytes lent again under the names δ, ε and η, references to the matrix and to the hall, and a record
+    module _ (α β ζ ψ θ : ℕ) (δ ε η ν μ : GName) (l₅ l₆ : ℕ) (m : List (List Bool)) (hs : List ℕ) (x u y : List ℕ) (z : Record) where
       abbrev to-run : Run .Ghost
       to-run = (
         (
           {runlfts},
-          (fullShare, (fullShare, (fullShare, (fullShare, tt)))),
+          (fullShare, (fullShare, (fullShare, (fullShare, (fullShare, tt))))),
           tt,
           {runargs},
-          (s₀ ∷ [], (s₁ ∷ [], (s₃ ∷ [], (vptr l₅ 0 ∷ [], (T′.lowered z ∷ [], tt))))),
+          (s₀ ∷ [], (s₁ ∷ [], (s₃ ∷ [], (vptr l₆ 0 ∷ [], (vptr l₅ 0 ∷ [], (T′.lowered z ∷ [], tt)))))),
         ),
         tt,
       )
 
       abbrev Lent : List (Item 𝓤)
       Lent =
-          ‵ (flft (α ∷ []) fullShare) ∷ ‵ (flft (β ∷ []) fullShare) ∷ ‵ (flft (ζ ∷ []) fullShare) ∷ ‵ (flft (θ ∷ []) fullShare)
+          ‵ (flft (α ∷ []) fullShare) ∷ ‵ (flft (β ∷ []) fullShare) ∷ ‵ (flft (ζ ∷ []) fullShare) ∷ ‵ (flft (ψ ∷ []) fullShare) ∷ ‵ (flft (θ ∷ []) fullShare)
           ∷ ‵ (MutSlice (named 0) (α ∷ []) u32 .own (at-list b₀ o₀ δ x) (s₀ ∷ [])) ∷ ‵ (MutSlice (named 1) (β ∷ []) u8 .own (at-list b₁ o₁ ε u) (s₁ ∷ []))
           ∷ ‵ (MutSlice (named 3) (ζ ∷ []) u8 .own (at-list b₃ o₃ η y) (s₃ ∷ []))
-          ∷ ‵ (ShrRef (named 3) (θ ∷ []) Rm .own (at-matrix l₅ μ m) (vptr l₅ 0 ∷ [])) ∷ []
+          ∷ ‵ (ShrRef (named 3) (ψ ∷ []) Rm .own (at-matrix l₆ ν m) (vptr l₆ 0 ∷ []))
+          ∷ ‵ (ShrRef (named 4) (θ ∷ []) Rh .own (at-hall l₅ μ hs) (vptr l₅ 0 ∷ [])) ∷ []
 
-      asked-run : Ready x u m → Is R z (T′.lowered z ∷ []) → ent 𝓤 (⋆ 𝓤 H A Lent) (Run .pre to-run)
+      asked-run : Ready x u m hs → Is R z (T′.lowered z ∷ []) → ent 𝓤 (⋆ 𝓤 H A Lent) (Run .pre to-run)
       asked-run ready is =
-          qed W Lent ∵ says ! ready $ nothing ! $ move ! (4 ∷ 0 ∷ []) $ join ! $ move ! (3 ∷ 0 ∷ []) $ join ! $ move ! (2 ∷ 0 ∷ []) $ join ! $
+          qed W Lent ∵ says ! ready $ nothing ! $ move ! (5 ∷ 0 ∷ []) $ join ! $ move ! (4 ∷ 0 ∷ []) $ join ! $ move ! (3 ∷ 0 ∷ []) $ join ! $ move ! (2 ∷ 0 ∷ []) $ join ! $
           move ! (1 ∷ 0 ∷ []) $ join ! $ frame ! $
-          nothing ! $ owned ! R (Is R) (LL.makes T.the-type T′.the-plain 𝓤 H A) z _ is $ fjoin ! $ move ! (4 ∷ 0 ∷ []) $ fjoin ! $
+          nothing ! $ owned ! R (Is R) (LL.makes T.the-type T′.the-plain 𝓤 H A) z _ is $ fjoin ! $ move ! (5 ∷ 0 ∷ []) $ fjoin ! $ move ! (4 ∷ 0 ∷ []) $ fjoin ! $
           move ! (3 ∷ 0 ∷ []) $ fjoin ! $ move ! (2 ∷ 0 ∷ []) $ fjoin ! $ move ! (1 ∷ 0 ∷ []) $ fjoin ! $ done !
 
     module _ (𝓣 : Tables 𝓤 H) (known-run : Triple 𝓤 (𝓣 .C #run) Run) (room₀ : Room u32 (length xs)) (room₁ : Room u8 (length ss))
@@ -451,19 +489,26 @@ module _ {{M : Type 1}} (𝓤 : URA M) (H : Heap 𝓤) (A : Atoms 𝓤) (W : Giv
       abbrev fm : FmC 𝓤 H (W .laws) C
       fm = fmOf 𝓤 H (W .laws) 𝓣
 
-      module _ (m : List (List Bool)) (wm : Val) (m-is : Is Rm m (wm ∷ [])) (v : ℕ) (v-is : v ≡ trayAnswer (stateOf xs ss) (recordsOf rs)) (v-fits : v < 2 ^ 32)
+      module _ (hs : List ℕ) (wh : Val) (hs-is : Is Rh hs (wh ∷ [])) (m : List (List Bool)) (wm : Val) (m-is : Is Rm m (wm ∷ [])) (v : ℕ) (v-is : v ≡ trayAnswer (stateOf xs ss) (recordsOf rs)) (v-fits : v < 2 ^ 32)
           (n : ℕ) (n-is : n ≡ cond (eqb v 0) (length rs) 0) (n-fits : n < 2 ^ 64)
-          ({ls} θ : ℕ) (μ : GName) where
+          ({ls} θ ψ : ℕ) (μ ν : GName) where
         abbrev En : Env 𝓤 H
         En =
             {env}
 
-        -- what a `&` to the matrix owns, and what is kept of the matrix's cell while it is lent
+        -- what a `&` to the hall owns, and what is kept of the hall's cell while it is lent
+        abbrev shared-hall : Fml
+        shared-hall = ShrRef (named 4) (θ ∷ []) Rh .own (at-hall l₅ μ hs) (vptr l₅ 0 ∷ [])
+
+        abbrev lent-hall : Fml
+        lent-hall = LentWhole u8 hallBytes (θ ∷ []) hs l₅
+
+        -- and of the matrix
         abbrev shared-matrix : Fml
-        shared-matrix = ShrRef (named 3) (θ ∷ []) Rm .own (at-matrix l₅ μ m) (vptr l₅ 0 ∷ [])
+        shared-matrix = ShrRef (named 3) (ψ ∷ []) Rm .own (at-matrix l₆ ν m) (vptr l₆ 0 ∷ [])
 
         abbrev lent-matrix : Fml
-        lent-matrix = LentWhole (Array bool 16) 16 (θ ∷ []) m l₅
+        lent-matrix = LentWhole (Array bool 16) 16 (ψ ∷ []) m l₆
 
         -- the locals where a turn begins
         abbrev Locals : ℕ → List (Item 𝓤)
@@ -475,11 +520,11 @@ module _ {{M : Type 1}} (𝓤 : URA M) (H : Heap 𝓤) (A : Atoms 𝓤) (W : Giv
         I t =
             ‵ (row R fullShare (t .zs) b₂ o₂) ∷ ‵ (own₀ (t .t)) ∷ ‵ (flft κ₀ q₀) ∷ ‵ (own₁ (t .s)) ∷ ‵ (flft κ₁ q₁) ∷ ‵ (own₃ (t .b)) ∷ ‵ (flft κ₃ q₃)
             ∷ ‵ (fobor κ₂ q₂ (Held R (length rs) b₂ o₂ γ₂)) ∷ ‵ (fobs γ₂ (codedHoleys R .code (heres R rs))) ∷ ‵ (fauth γ₂ (codedHoleys R .code (heres R rs)))
-            ∷ ‵ shared-matrix ∷ ‵ (flft (θ ∷ []) fullShare) ∷ Locals (t .i)
+            ∷ ‵ shared-hall ∷ ‵ (flft (θ ∷ []) fullShare) ∷ ‵ shared-matrix ∷ ‵ (flft (ψ ∷ []) fullShare) ∷ Locals (t .i)
 
         -- when the loop is left, the rest of the body runs
         abbrev Left : Out → SProp 𝓤
-        Left = afterBlock 𝓤 H (afterSeq 𝓤 H (Wp 𝓤 H C Λ En mir′.t-14 (atReturn 𝓤 H En Post)) (atReturn 𝓤 H En Post))
+        Left = afterBlock 𝓤 H (afterSeq 𝓤 H (Wp 𝓤 H C Λ En mir′.t-17 (atReturn 𝓤 H En Post)) (atReturn 𝓤 H En Post))
 
         -- a turn that runs a record
         turn-on : (t : {TURN}) → t .i < n
@@ -499,77 +544,81 @@ module _ {{M : Type 1}} (𝓤 : URA M) (H : Heap 𝓤) (A : Atoms 𝓤) (W : Giv
             let within : i < length zs = omega arith in
             let at-fits : i * 40 < 2 ^ 64 = omega arith in
             let next-fits : i + 1 < 2 ^ 64 = omega arith in
-            assigns ! (bin ! {look(Q.at(8))} {look(Q.at(7))} tt) (from ! (stop !)) (init ! {Q.at(15)} refl (tt, tt)) $
-            rewrite ! {Q.at(15)} (λ (c : Bool). ‵ (fat fullShare tyBool {l(15)} 0 (vbool c))) (lt-ltb i n small) refl $
-            stays ! {look(Q.at(15))} $
+            assigns ! (bin ! {look(Q.at(9))} {look(Q.at(8))} tt) (from ! (stop !)) (init ! {Q.at(17)} refl (tt, tt)) $
+            rewrite ! {Q.at(17)} (λ (c : Bool). ‵ (fat fullShare tyBool {l(17)} 0 (vbool c))) (lt-ltb i n small) refl $
+            stays ! {look(Q.at(17))} $
             -- the record is read, and copied
-            assigns ! (bin ! {look(Q.at(8))} (lit ! tt) (record {{ fits = at-fits }})) (from ! (stop !)) (init ! {Q.at(16)} refl (tt, record {{ fits = at-fits }})) $
-            assigns ! (bin ! {fldl(Q.at(3),0)} {look(Q.at(16))} tt) (from ! (stop !)) (init ! {Q.at(17)} refl (tt, tt)) $
-            rewrite ! {Q.at(17)} (λ (p : ℕ). ‵ (fat fullShare tyPtr {l(17)} 0 (vptr b₂ p))) (sym (place-is 40 o₂ i)) refl $
+            assigns ! (bin ! {look(Q.at(9))} (lit ! tt) (record {{ fits = at-fits }})) (from ! (stop !)) (init ! {Q.at(18)} refl (tt, record {{ fits = at-fits }})) $
+            assigns ! (bin ! {fldl(Q.at(3),0)} {look(Q.at(18))} tt) (from ! (stop !)) (init ! {Q.at(19)} refl (tt, tt)) $
+            rewrite ! {Q.at(19)} (λ (p : ℕ). ‵ (fat fullShare tyPtr {l(19)} 0 (vptr b₂ p))) (sym (place-is 40 o₂ i)) refl $
             elem-out ! R (Is R) (shows 𝓤 H A R) (λ d. T′.lowered d ∷ []) (T′.lowers .val-is) fullShare zs i none b₂ o₂ within (λ is.
             let wt = LL.lawful T.the-type T′.the-laws 𝓤 H A W .typed z _ is .0 in
-            assigns ! (of-opd ! (load ! (from ! (hop ! (look ! {Q.at(17, Q.base + 2)} refl) (stop !))) (look-raw ! 0 refl))) (from ! (stop !)) (init ! {Q.at(18, Q.base + 2)} refl wt) $
-            assigns ! (of-opd ! {look(Q.at(18, Q.base + 2))}) (from ! (stop !)) (init ! {Q.at(9, Q.base + 2)} refl wt) $
+            assigns ! (of-opd ! (load ! (from ! (hop ! (look ! {Q.at(19, Q.base + 2)} refl) (stop !))) (look-raw ! 0 refl))) (from ! (stop !)) (init ! {Q.at(20, Q.base + 2)} refl wt) $
+            assigns ! (of-opd ! {look(Q.at(20, Q.base + 2))}) (from ! (stop !)) (init ! {Q.at(10, Q.base + 2)} refl wt) $
             elem-back ! R fullShare zs i none (T′.lowered z ∷ []) b₂ o₂ within $
             -- the table, the store and the bytes are lent again
-            {Q.relend(1,19,20,'room₀',I12)}
-            {Q.relend(2,21,22,'room₁',I12)}
-            {Q.relend(4,23,24,'room₃',I12)}
-            assigns ! (addr ! (from ! (stop !))) (from ! (stop !)) (init ! {Q.at(25)} refl (tt, tt)) $
+            {Q.relend(1,21,22,'room₀',I12)}
+            {Q.relend(2,23,24,'room₁',I12)}
+            {Q.relend(4,25,26,'room₃',I12)}
+            assigns ! (addr ! (from ! (stop !))) (from ! (stop !)) (init ! {Q.at(27)} refl (tt, tt)) $
+            assigns ! (addr ! (from ! (stop !))) (from ! (stop !)) (init ! {Q.at(28)} refl (tt, tt)) $
             lft-new ! tt (λ α. move ! (2 ∷ 3 ∷ []) $
             {lend(0,'u32','α','δ','x','xs','(g .table-long)',I12)}
             lft-new ! tt (λ β. move ! (5 ∷ 6 ∷ []) $
             {lend(1,'u8','β','ε','u','ss','(g .store-long)',I12)}
             lft-new ! tt (λ ζ. move ! (8 ∷ 9 ∷ []) $
             {lend(3,'u8','ζ','η','y','bs','(g .bytes-long)',I12)}
-            -- [bytes lent; bytes kept; ζ; store lent; store kept; β; table lent; table kept; α; the row; …; the matrix's reference; θ; the locals]:
-            -- a copy of the reference is passed, and the reference stays
-            move ! (13 ∷ []) $ use1 W (‵ shared-matrix ⊛ ‵ shared-matrix)
-            (shr-copy 𝓤 H A W (named 3) (θ ∷ []) Rm .twice (at-matrix l₅ μ m) (vptr l₅ 0 ∷ [])) $ split ! $
-            move ! (10 ∷ 7 ∷ 4 ∷ 15 ∷ 8 ∷ 5 ∷ 2 ∷ 0 ∷ []) $ group ! 8 $
-            use1 W (raw (Run .pre (to-run α β ζ θ δ ε η μ l₅ m x u y z))) (asked-run α β ζ θ δ ε η μ l₅ m x u y z (g .ready small) is) $
-            calls-at ! fm Run known-run (to-run α β ζ θ δ ε η μ l₅ m x u y z)
-            (and-then ! {look(Q.at(20,9))} (and-then ! {look(Q.at(22,9))} (and-then ! {look(Q.at(24,9))}
-            (and-then ! {look(Q.at(25,9))} (and-then ! {look(Q.at(9,9))} (no-more !)))))) (λ w.
+            -- [bytes lent; bytes kept; ζ; store lent; store kept; β; table lent; table kept; α; the row; …; the hall's reference; θ; the matrix's; ψ; the locals]:
+            -- a copy of each reference is passed, and the reference stays
+            move ! (13 ∷ []) $ use1 W (‵ shared-hall ⊛ ‵ shared-hall)
+            (shr-copy 𝓤 H A W (named 4) (θ ∷ []) Rh .twice (at-hall l₅ μ hs) (vptr l₅ 0 ∷ [])) $ split ! $
+            move ! (16 ∷ []) $ use1 W (‵ shared-matrix ⊛ ‵ shared-matrix)
+            (shr-copy 𝓤 H A W (named 3) (ψ ∷ []) Rm .twice (at-matrix l₆ ν m) (vptr l₆ 0 ∷ [])) $ split ! $
+            move ! (12 ∷ 9 ∷ 6 ∷ 18 ∷ 17 ∷ 10 ∷ 7 ∷ 4 ∷ 0 ∷ 2 ∷ []) $ group ! 10 $
+            use1 W (raw (Run .pre (to-run α β ζ ψ θ δ ε η ν μ l₅ l₆ m hs x u y z))) (asked-run α β ζ ψ θ δ ε η ν μ l₅ l₆ m hs x u y z (g .ready small) is) $
+            calls-at ! fm Run known-run (to-run α β ζ ψ θ δ ε η ν μ l₅ l₆ m hs x u y z)
+            (and-then ! {look(Q.at(22,10))} (and-then ! {look(Q.at(24,10))} (and-then ! {look(Q.at(26,10))}
+            (and-then ! {look(Q.at(27,10))} (and-then ! {look(Q.at(28,10))} (and-then ! {look(Q.at(10,10))} (no-more !))))))) (λ w.
             use1 W (later (some (λ (r : Record). ({full} ⊛ ‵ (R .own r (w ∷ [])))
             ⊛ raw (ensured 𝓤 H A run.ended (run.clauses 𝓤 H A mem rn) {runlfts} {runargs} tt r)))) (id⊢ 𝓤 _) $ await ! tt $ pick ! (λ r.
-            split ! $ move ! (1 ∷ []) $ use1 W (some (λ (ws : List ℕ × (List ℕ × (List ℕ × (Unit {{0}} × (Unit {{0}} × Unit {{0}}))))).
+            split ! $ move ! (1 ∷ []) $ use1 W (some (λ (ws : List ℕ × (List ℕ × (List ℕ × (Unit {{0}} × (Unit {{0}} × (Unit {{0}} × Unit {{0}})))))).
             ‵ (lasts run.ended {runlfts} {runargs} ws) ⊛ raw (fact 𝓤 ({RAN})))) (id⊢ 𝓤 _) $ pick ! (λ ws.
             split ! $ move ! (1 ∷ []) $ heard ! ({RAN}) (λ ran. fsplit ! $ fsplit ! $ move ! (1 ∷ []) $ feqL ! (λ lx. move ! (1 ∷ []) $
             fsplit ! $ fsplit ! $ move ! (1 ∷ []) $ feqL ! (λ lu. move ! (1 ∷ []) $ fsplit ! $ fsplit ! $ move ! (1 ∷ []) $ feqL ! (λ ly.
             -- [the bytes' last list; …; the store's; the table's; the tokens and the result; the reference; bytes kept; store kept; table kept; the row; …]
             move ! (4 ∷ []) $ split ! $ move ! (1 ∷ []) $ facts ! R (Is R) (shows 𝓤 H A R) r (w ∷ []) (λ is′.
             let same : w ≡ T′.lowered r = ap only (T′.lowers .val-is r (w ∷ []) is′) in
-            land ! (from ! (stop !)) (store ! {Q.at(18,13)} refl (LL.lawful T.the-type T′.the-laws 𝓤 H A W .typed r _ is′ .0)) $
-            rewrite ! {Q.at(18,13)} (λ (k : Val). ‵ (fat fullShare T′.mir {l(18)} 0 k)) same refl $
+            land ! (from ! (stop !)) (store ! {Q.at(20,14)} refl (LL.lawful T.the-type T′.the-laws 𝓤 H A W .typed r _ is′ .0)) $
+            rewrite ! {Q.at(20,14)} (λ (k : Val). ‵ (fat fullShare T′.mir {l(20)} 0 k)) same refl $
             -- the three lifetimes are ended, and the slices come back
-            split ! $ lft-end ! tt $ move ! (0 ∷ 9 ∷ 5 ∷ []) $
+            split ! $ lft-end ! tt $ move ! (0 ∷ 10 ∷ 5 ∷ []) $
             {back(0,'u32','α','δ','x','xs','(g .table-long)','(ws .0)','lx',I12)}
-            move ! (2 ∷ []) $ split ! $ lft-end ! tt $ move ! (0 ∷ 9 ∷ 6 ∷ []) $
+            move ! (2 ∷ []) $ split ! $ lft-end ! tt $ move ! (0 ∷ 10 ∷ 6 ∷ []) $
             {back(1,'u8','β','ε','u','ss','(g .store-long)','(ws .1 .0)','lu',I12)}
-            move ! (2 ∷ []) $ split ! $ lft-end ! tt $ move ! (0 ∷ 9 ∷ 6 ∷ []) $
+            move ! (2 ∷ []) $ split ! $ lft-end ! tt $ move ! (0 ∷ 10 ∷ 6 ∷ []) $
             {back(3,'u8','ζ','η','y','bs','(g .bytes-long)','(ws .1 .1 .0)','ly',I12)}
-            -- [the bytes, the store and the table, each with its token; θ; …; the matrix's reference; the row; …]: in the order of `I`
-            move ! (2 ∷ []) $ split ! $ move ! (1 ∷ 8 ∷ []) $ drop ! $ drop ! $ move ! (8 ∷ 5 ∷ 6 ∷ 3 ∷ 4 ∷ 1 ∷ 2 ∷ 9 ∷ 10 ∷ 11 ∷ 7 ∷ 0 ∷ []) $
+            -- [the bytes, the store and the table, each with its token; ψ and θ; …; the matrix's reference; the hall's; the row; …]: in the order of `I`
+            move ! (2 ∷ []) $ split ! $ move ! (1 ∷ []) $ split ! $ move ! (1 ∷ 9 ∷ []) $ drop ! $ drop ! $
+            move ! (10 ∷ 6 ∷ 7 ∷ 4 ∷ 5 ∷ 2 ∷ 3 ∷ 11 ∷ 12 ∷ 13 ∷ 9 ∷ 0 ∷ 8 ∷ 1 ∷ []) $
             -- the record is stored
-            assigns ! (bin ! {look(Q.at(8))} (lit ! tt) (record {{ fits = at-fits }})) (from ! (stop !)) (store ! {Q.at(16)} refl (tt, record {{ fits = at-fits }})) $
-            assigns ! (bin ! {fldl(Q.at(3),0)} {look(Q.at(16))} tt) (from ! (stop !)) (init ! {Q.at(26)} refl (tt, tt)) $
-            rewrite ! {Q.at(26)} (λ (p : ℕ). ‵ (fat fullShare tyPtr {l(26)} 0 (vptr b₂ p))) (sym (place-is 40 o₂ i)) refl $
+            assigns ! (bin ! {look(Q.at(9))} (lit ! tt) (record {{ fits = at-fits }})) (from ! (stop !)) (store ! {Q.at(18)} refl (tt, record {{ fits = at-fits }})) $
+            assigns ! (bin ! {fldl(Q.at(3),0)} {look(Q.at(18))} tt) (from ! (stop !)) (init ! {Q.at(29)} refl (tt, tt)) $
+            rewrite ! {Q.at(29)} (λ (p : ℕ). ‵ (fat fullShare tyPtr {l(29)} 0 (vptr b₂ p))) (sym (place-is 40 o₂ i)) refl $
             elem-out ! R (Is R) (shows 𝓤 H A R) (λ d. T′.lowered d ∷ []) (T′.lowers .val-is) fullShare zs i none b₂ o₂ within (λ _.
             let is″ : Is R r (T′.lowered r ∷ []) = subst (λ (k : Val). Is R r (k ∷ [])) same is′ in
-            assigns ! (of-opd ! {look(Q.at(18, Q.base + 2))}) (from ! (hop ! (look ! {Q.at(26, Q.base + 2)} refl) (stop !)))
+            assigns ! (of-opd ! {look(Q.at(20, Q.base + 2))}) (from ! (hop ! (look ! {Q.at(29, Q.base + 2)} refl) (stop !)))
             (store-raw ! 0 refl (LL.lawful T.the-type T′.the-laws 𝓤 H A W .typed r _ is″ .0)) $
             move ! (1 ∷ []) $ drop ! $ owned ! R (Is R) (LL.makes T.the-type T′.the-plain 𝓤 H A) r _ is″ $ move ! (1 ∷ 0 ∷ []) $
             elem-put ! R fullShare zs i r (T′.lowered r ∷ []) b₂ o₂ within $
-            assigns-last ! (bin ! {look(Q.at(8))} (lit ! tt) (record {{ fits = next-fits }})) (from ! (stop !)) (store ! {Q.at(8)} refl (tt, record {{ fits = next-fits }})) $
-            {Q.forgets([26,25,24,23,22,21,20,19,18,17,16,15,9], Q.base, I12)}
+            assigns-last ! (bin ! {look(Q.at(9))} (lit ! tt) (record {{ fits = next-fits }})) (from ! (stop !)) (store ! {Q.at(9)} refl (tt, record {{ fits = next-fits }})) $
+            {Q.forgets([29,28,27,26,25,24,23,22,21,20,19,18,17,10], Q.base, I12)}
             again ! ({LESS}) I t (record {{
               i = i + 1;
               t = ws .0;
               s = ws .1 .0;
               b = ws .1 .1 .0;
               zs = set zs i r;
-              going = more xs ss bs rs m n i x u y zs g none r (ws .0) (ws .1 .0) (ws .1 .1 .0) small ran lx lu ly;
+              going = more xs ss bs rs m hs n i x u y zs g none r (ws .0) (ws .1 .0) (ws .1 .1 .0) small ran lx lu ly;
             }}) (omega arith)))))))))))))))))
 
         -- the turn that leaves the loop, and the rest of the body
@@ -579,30 +628,34 @@ module _ {{M : Type 1}} (𝓤 : URA M) (H : Heap 𝓤) (A : Atoms 𝓤) (W : Giv
         turn-off t large =
             let i = t .i in
             let g = t .going in
-            assigns ! (bin ! {look(Q.at(8))} {look(Q.at(7))} tt) (from ! (stop !)) (init ! {Q.at(15)} refl (tt, tt)) $
-            rewrite ! {Q.at(15)} (λ (c : Bool). ‵ (fat fullShare tyBool {l(15)} 0 (vbool c))) (le-ltb i n large) refl $
-            leaves-loop ! {look(Q.at(15))} $ exec ! C Λ En mir′.t-14 (atRet En Post) $
-            assigns ! (of-opd ! {look(Q.at(6))}) (from ! (stop !)) (init ! {Q.at(0)} refl (tt, record {{ fits = v-fits }})) $
-            -- the matrix's lifetime is ended, and its cell comes back
+            assigns ! (bin ! {look(Q.at(9))} {look(Q.at(8))} tt) (from ! (stop !)) (init ! {Q.at(17)} refl (tt, tt)) $
+            rewrite ! {Q.at(17)} (λ (c : Bool). ‵ (fat fullShare tyBool {l(17)} 0 (vbool c))) (le-ltb i n large) refl $
+            leaves-loop ! {look(Q.at(17))} $ exec ! C Λ En mir′.t-17 (atRet En Post) $
+            assigns ! (of-opd ! {look(Q.at(7))}) (from ! (stop !)) (init ! {Q.at(0)} refl (tt, record {{ fits = v-fits }})) $
+            -- the matrix's lifetime is ended, and its cell comes back; then the hall's
+            move ! (13 ∷ []) $ lft-end ! tt $ move ! (13 ∷ []) $ drop ! $ move ! (0 ∷ {Q.at(6, P.base + 3)} ∷ []) $
+            use2 W (later (‵ (fat fullShare matrixTy {l(6)} 0 wm)))
+            (regains-by (Array bool 16) 16 (ψ ∷ []) m {l(6)} 𝓤 H A W wm m-is (array-vals (array-vals bool-vals)) matrix-tells) $ await ! tt $
+            move ! ({matrix_back}) $
             move ! (11 ∷ []) $ lft-end ! tt $ move ! (11 ∷ []) $ drop ! $ move ! (0 ∷ {Q.at(5, P.base + 1)} ∷ []) $
-            use2 W (later (‵ (fat fullShare matrixTy {l(5)} 0 wm)))
-            (regains-by (Array bool 16) 16 (θ ∷ []) m {l(5)} 𝓤 H A W wm m-is (array-vals (array-vals bool-vals)) matrix-tells) $ await ! tt $
+            use2 W (later (‵ (fat fullShare hallTy {l(5)} 0 wh)))
+            (regains-by u8 hallBytes (θ ∷ []) hs {l(5)} 𝓤 H A W wh hs-is (array-vals (uint-vals w8)) hall-tells) $ await ! tt $
             move ! ({put_back}) $
             -- the records' borrow is closed
             move ! (0 ∷ 7 ∷ 8 ∷ 9 ∷ []) $ closes-slice ! tt R rs (t .zs) (g .long) b₂ o₂ $
-            returns ! (look ! {P.at(0, P.base - 1)} refl) $ {P.forgets([15,8,7,6,5,4,3,2,1,0], P.base - 1, I12)}
+            returns ! (look ! {P.at(0, P.base - 1)} refl) $ {P.forgets([17,9,8,7,6,5,4,3,2,1,0], P.base - 1, I12)}
             {P.frees(P.base - 1, I12)} free0 ! $
             by ! (exits room₂ (t .t) (t .s) (t .b) (t .zs) v v-fits (g .table-long) (g .store-long) (g .bytes-long) (g .long)
-            (ends xs ss bs rs m n i (t .t) (t .s) (t .b) (t .zs) g none large v v-is n-is))
+            (ends xs ss bs rs m hs n i (t .t) (t .s) (t .b) (t .zs) g none large v v-is n-is))
 
         turns : (t : {TURN}) → Sq W (I t) (runs C Λ En mir′.turn-1 (anyQ (afterTurn 𝓤 H (Below 𝓤 H A ({LESS}) I t) Left)))
         turns t = ⊎-elim (turn-on t) (turn-off t) (below-or-not (t .i) n)
 
       -- the MIR, up to the loop: the records' borrow is opened once, before all else
-      walk : Triple 𝓤 (𝓣 .C #due) Due → Triple 𝓤 (𝓣 .C #verdict) Verdict → Triple 𝓤 (𝓣 .C #begin) Begin
+      walk : Triple 𝓤 (𝓣 .C #due) Due → Triple 𝓤 (𝓣 .C #verdict) Verdict → Triple 𝓤 (𝓣 .C #begin) Begin → Triple 𝓤 (𝓣 .C #matrix) Matrix
           → ent 𝓤 (onEntry 𝓤 H A tr.signature (κ₀, (κ₁, (κ₂, (κ₃, tt)))) (q₀, (q₁, (q₂, (q₃, tt)))) a vals)
           (WpFn 𝓤 H C Λ code.function (s₀ ∷ s₁ ∷ s₂ ∷ s₃ ∷ []) Post)
-      walk known-due known-verdict known-begin =
+      walk known-due known-verdict known-begin known-matrix =
           qed W ((‵ (flft κ₀ q₀) ⊛ (‵ (flft κ₁ q₁) ⊛ (‵ (flft κ₂ q₂) ⊛ (‵ (flft κ₃ q₃) ⊛ ‵ ftrue))))
           ∷ ‵ (owns (MutSlice (named 0) κ₀ u32 ∷ MutSlice (named 1) κ₁ u8 ∷ MutSlice (named 2) κ₂ R ∷ MutSlice (named 3) κ₃ u8 ∷ []) a vals) ∷ [])
           ∵ enter ! C Λ code.function (s₀ ∷ s₁ ∷ s₂ ∷ s₃ ∷ []) _ $
@@ -616,69 +669,84 @@ module _ {{M : Type 1}} (𝓤 : URA M) (H : Heap 𝓤) (A : Atoms 𝓤) (W : Giv
           -- [the row; the open borrow; obs; auth; …; the tokens; …; the bytes; the store; the table; the locals]
           keep ! ({keep}) $
           -- the table is lent to `begin`, and comes back as it was
-          {P.relend(1,11,12,'room₀',I10)}
-          assigns ! (of-opd ! {fldl(P.at(2),1)}) (from ! (stop !)) (init ! {P.at(13)} refl (tt, record {{ fits = room₁ .0 }})) $
-          assigns ! (of-opd ! {fldl(P.at(3),1)}) (from ! (stop !)) (init ! {P.at(14)} refl (tt, record {{ fits = room₂ .0 }})) $
+          {P.relend(1,12,13,'room₀',I10)}
+          assigns ! (of-opd ! {fldl(P.at(2),1)}) (from ! (stop !)) (init ! {P.at(14)} refl (tt, record {{ fits = room₁ .0 }})) $
+          assigns ! (of-opd ! {fldl(P.at(3),1)}) (from ! (stop !)) (init ! {P.at(15)} refl (tt, record {{ fits = room₂ .0 }})) $
           lft-new ! tt (λ α. move ! (2 ∷ 3 ∷ []) $
           {lend(0,'u32','α','δ','xs','xs','refl',I10)}
           move ! (2 ∷ 0 ∷ []) $ use2 W (raw (Begin .pre (to-begin α δ (room₁ .0) (room₂ .0)))) (asked-begin α δ (room₁ .0) (room₂ .0)) $
           calls-at ! fm Begin known-begin (to-begin α δ (room₁ .0) (room₂ .0))
-          (and-then ! {look(P.at(12,10))} (and-then ! {look(P.at(13,10))} (and-then ! {look(P.at(14,10))} (no-more !)))) (λ wm.
-          use1 W (later (some (λ (m : List (List Bool)). ((‵ (flft (α ∷ []) fullShare) ⊛ ‵ ftrue) ⊛ ‵ (Rm .own m (wm ∷ [])))
-          ⊛ raw (ensured 𝓤 H A begin.ended (begin.clauses 𝓤 H A mem rn) (α ∷ [], tt) {beginargs} tt m)))) (id⊢ 𝓤 _) $ await ! tt $ pick ! (λ m.
+          (and-then ! {look(P.at(13,10))} (and-then ! {look(P.at(14,10))} (and-then ! {look(P.at(15,10))} (no-more !)))) (λ wh.
+          use1 W (later (some (λ (hs : List ℕ). ((‵ (flft (α ∷ []) fullShare) ⊛ ‵ ftrue) ⊛ ‵ (Rh .own hs (wh ∷ [])))
+          ⊛ raw (ensured 𝓤 H A begin.ended (begin.clauses 𝓤 H A mem rn) (α ∷ [], tt) {beginargs} tt hs)))) (id⊢ 𝓤 _) $ await ! tt $ pick ! (λ hs.
           split ! $ move ! (1 ∷ []) $ use1 W (some (λ (ws : List ℕ × (Unit {{0}} × (Unit {{0}} × Unit {{0}}))).
           ‵ (lasts begin.ended (α ∷ [], tt) {beginargs} ws) ⊛ raw (fact 𝓤 ({TOLD})))) (id⊢ 𝓤 _) $ pick ! (λ ws.
           split ! $ move ! (1 ∷ []) $ heard ! ({TOLD}) (λ told. fsplit ! $ fsplit ! $ move ! (1 ∷ []) $ feqL ! (λ lx.
-          move ! (2 ∷ []) $ split ! $ move ! (1 ∷ []) $ facts ! Rm (Is Rm) (shows 𝓤 H A Rm) m (wm ∷ []) (λ m-is.
-          land ! (from ! (stop !)) (init ! {P.at(10,12)} refl (matrix-lawful .typed m _ m-is .0)) $
+          move ! (2 ∷ []) $ split ! $ move ! (1 ∷ []) $ facts ! Rh (Is Rh) (shows 𝓤 H A Rh) hs (wh ∷ []) (λ hs-is.
+          land ! (from ! (stop !)) (init ! {P.at(11,12)} refl (hall-lawful .typed hs _ hs-is .0)) $
           split ! $ lft-end ! tt $ move ! (0 ∷ 4 ∷ 2 ∷ []) $
           {back(0,'u32','α','δ','xs','xs','refl','(ws .0)','lx',I10)}
           rewrite ! 0 (λ (k : List ℕ). ‵ (own₀ k)) (told .1) refl $ move ! (2 ∷ 3 ∷ []) $ drop ! $ drop ! $ move ! (2 ∷ []) $
-          -- the verdict, on a copy of the matrix
-          assigns ! (of-opd ! {look(P.at(10))}) (from ! (stop !)) (init ! {P.at(5)} refl (matrix-lawful .typed m _ m-is .0)) $
-          assigns ! (of-opd ! {look(P.at(5))}) (from ! (stop !)) (store ! {P.at(10)} refl (matrix-lawful .typed m _ m-is .0)) $
-          assigns ! (of-opd ! {fldl(P.at(3),1)}) (from ! (stop !)) (store ! {P.at(14)} refl (tt, record {{ fits = room₂ .0 }})) $
-          use0 W (raw (Verdict .pre (to-verdict m wm m-is (length rs) (room₂ .0)))) (asked-verdict m wm m-is (length rs) (room₂ .0)) $
-          calls-at ! fm Verdict known-verdict (to-verdict m wm m-is (length rs) (room₂ .0)) (and-then ! {look(P.at(10)+1)} (and-then ! {look(P.at(14)+1)} (no-more !))) (λ w₁.
+          -- the matrix, of a copy of the hall
+          assigns ! (of-opd ! {look(P.at(11))}) (from ! (stop !)) (init ! {P.at(5)} refl (hall-lawful .typed hs _ hs-is .0)) $
+          assigns ! (of-opd ! {look(P.at(5))}) (from ! (stop !)) (store ! {P.at(11)} refl (hall-lawful .typed hs _ hs-is .0)) $
+          use0 W (raw (Matrix .pre (to-matrix hs wh hs-is))) (asked-matrix hs wh hs-is) $
+          calls-at ! fm Matrix known-matrix (to-matrix hs wh hs-is) (and-then ! {look(P.at(11)+1)} (no-more !)) (λ wm.
+          use1 W (later (some (λ (m : List (List Bool)). (‵ ftrue ⊛ ‵ (Rm .own m (wm ∷ [])))
+          ⊛ raw (ensured 𝓤 H A matrix.ended (matrix.clauses 𝓤 H A mem rn) tt (hs, tt) tt m)))) (id⊢ 𝓤 _) $ await ! tt $ pick ! (λ m.
+          split ! $ move ! (1 ∷ []) $ use1 W (raw (fact 𝓤 (m ≡ matrixIn hs))) (said-matrix hs wh hs-is m) $
+          heard ! (m ≡ matrixIn hs) (λ me. split ! $ drop ! $ facts ! Rm (Is Rm) (shows 𝓤 H A Rm) m (wm ∷ []) (λ m-is.
+          land ! (from ! (stop !)) (init ! {P.at(16)} refl (matrix-lawful .typed m _ m-is .0)) $
+          assigns ! (of-opd ! {look(P.at(16))}) (from ! (stop !)) (init ! {P.at(6)} refl (matrix-lawful .typed m _ m-is .0)) $
+          -- the verdict, on another
+          assigns ! (of-opd ! {look(P.at(5))}) (from ! (stop !)) (store ! {P.at(11)} refl (hall-lawful .typed hs _ hs-is .0)) $
+          assigns ! (of-opd ! {fldl(P.at(3),1)}) (from ! (stop !)) (store ! {P.at(15)} refl (tt, record {{ fits = room₂ .0 }})) $
+          use0 W (raw (Verdict .pre (to-verdict hs wh hs-is (length rs) (room₂ .0)))) (asked-verdict hs wh hs-is (length rs) (room₂ .0)) $
+          calls-at ! fm Verdict known-verdict (to-verdict hs wh hs-is (length rs) (room₂ .0)) (and-then ! {look(P.at(11)+1)} (and-then ! {look(P.at(15)+1)} (no-more !))) (λ w₁.
           use1 W (later (some (λ (v : ℕ). (‵ ftrue ⊛ ‵ (u32 .own v (w₁ ∷ [])))
-          ⊛ raw (ensured 𝓤 H A verdict.ended (verdict.clauses 𝓤 H A mem rn) tt (m, (length rs, tt)) tt v)))) (id⊢ 𝓤 _) $ await ! tt $ pick ! (λ v.
-          split ! $ move ! (1 ∷ []) $ use1 W (raw (fact 𝓤 (v ≡ verdictOf m (length rs)))) (said-verdict m wm m-is (length rs) (room₂ .0) v) $
-          heard ! (v ≡ verdictOf m (length rs)) (λ ve. split ! $ drop ! $ facts ! u32 (Is u32) (shows 𝓤 H A u32) v (w₁ ∷ []) (λ v-is.
-          land ! (from ! (stop !)) (init ! {P.at(6)} refl (uint-lawful 𝓤 H A W w32 .typed v _ v-is .0)) $
-          rewrite ! {P.at(6)} (λ (k : Val). ‵ (fat fullShare (tyInt w32) {l(6)} 0 k)) (ap only (v-is .0)) refl $
+          ⊛ raw (ensured 𝓤 H A verdict.ended (verdict.clauses 𝓤 H A mem rn) tt (hs, (length rs, tt)) tt v)))) (id⊢ 𝓤 _) $ await ! tt $ pick ! (λ v.
+          split ! $ move ! (1 ∷ []) $ use1 W (raw (fact 𝓤 (v ≡ verdictOf hs (length rs)))) (said-verdict hs wh hs-is (length rs) (room₂ .0) v) $
+          heard ! (v ≡ verdictOf hs (length rs)) (λ ve. split ! $ drop ! $ facts ! u32 (Is u32) (shows 𝓤 H A u32) v (w₁ ∷ []) (λ v-is.
+          land ! (from ! (stop !)) (init ! {P.at(7)} refl (uint-lawful 𝓤 H A W w32 .typed v _ v-is .0)) $
+          rewrite ! {P.at(7)} (λ (k : Val). ‵ (fat fullShare (tyInt w32) {l(7)} 0 k)) (ap only (v-is .0)) refl $
           -- how many are due
-          assigns ! (of-opd ! {fldl(P.at(3),1)}) (from ! (stop !)) (store ! {P.at(13)} refl (tt, record {{ fits = room₂ .0 }})) $
+          assigns ! (of-opd ! {fldl(P.at(3),1)}) (from ! (stop !)) (store ! {P.at(14)} refl (tt, record {{ fits = room₂ .0 }})) $
           use0 W (raw (Due .pre (to-due v (length rs) (v-is .1) (room₂ .0)))) (asked-due v (length rs) (v-is .1) (room₂ .0)) $
-          calls-at ! fm Due known-due (to-due v (length rs) (v-is .1) (room₂ .0)) (and-then ! {look(P.at(6)+1)} (and-then ! {look(P.at(13)+1)} (no-more !))) (λ w₂.
+          calls-at ! fm Due known-due (to-due v (length rs) (v-is .1) (room₂ .0)) (and-then ! {look(P.at(7)+1)} (and-then ! {look(P.at(14)+1)} (no-more !))) (λ w₂.
           use1 W (later (some (λ (n : ℕ). (‵ ftrue ⊛ ‵ (usize .own n (w₂ ∷ [])))
           ⊛ raw (ensured 𝓤 H A due.ended (due.clauses 𝓤 H A mem rn) tt (v, (length rs, tt)) tt n)))) (id⊢ 𝓤 _) $ await ! tt $ pick ! (λ n.
           split ! $ move ! (1 ∷ []) $ use1 W (raw (fact 𝓤 (n ≡ cond (eqb v 0) (length rs) 0))) (said-due v (length rs) (v-is .1) (room₂ .0) n) $
           heard ! (n ≡ cond (eqb v 0) (length rs) 0) (λ e. split ! $ drop ! $ facts ! usize (Is usize) (shows 𝓤 H A usize) n (w₂ ∷ []) (λ is.
-          land ! (from ! (stop !)) (init ! {P.at(7)} refl (uint-lawful 𝓤 H A W w64 .typed n _ is .0)) $
-          rewrite ! {P.at(7)} (λ (k : Val). ‵ (fat fullShare (tyInt w64) {l(7)} 0 k)) (ap only (is .0)) refl $
-          assigns ! (of-opd ! (lit ! tt)) (from ! (stop !)) (init ! {P.at(8)} refl (tt, record {{ fits = lit< tt }})) $ {P.forgets([14,13,12,11,10], P.base, I10)}
-          -- the matrix is lent for a lifetime that ends after the loop
+          land ! (from ! (stop !)) (init ! {P.at(8)} refl (uint-lawful 𝓤 H A W w64 .typed n _ is .0)) $
+          rewrite ! {P.at(8)} (λ (k : Val). ‵ (fat fullShare (tyInt w64) {l(8)} 0 k)) (ap only (is .0)) refl $
+          assigns ! (of-opd ! (lit ! tt)) (from ! (stop !)) (init ! {P.at(9)} refl (tt, record {{ fits = lit< tt }})) $ {P.forgets([16,15,14,13,12,11], P.base, I10)}
+          -- the hall is lent for a lifetime that ends after the loop, and then the matrix
           lft-new ! tt (λ θ. move ! ({P.at(5, P.base + 1)} ∷ []) $
-          use1 W (later (some (λ (μ : GName). ‵ (ShrRef (named 3) (θ ∷ []) Rm .own (at-matrix {l(5)} μ m) (vptr {l(5)} 0 ∷ []))
-          ⊛ ‵ (LentWhole (Array bool 16) 16 (θ ∷ []) m {l(5)}))))
-          (shares-by (Array bool 16) 16 (θ ∷ []) m {l(5)} 𝓤 H A W wm m-is (named 3) matrix-makes) $ await ! tt $ pick ! (λ μ. split ! $
+          use1 W (later (some (λ (μ : GName). ‵ (ShrRef (named 4) (θ ∷ []) Rh .own (at-hall {l(5)} μ hs) (vptr {l(5)} 0 ∷ []))
+          ⊛ ‵ (LentWhole u8 hallBytes (θ ∷ []) hs {l(5)}))))
+          (shares-by u8 hallBytes (θ ∷ []) hs {l(5)} 𝓤 H A W wh hs-is (named 4) hall-makes) $ await ! tt $ pick ! (λ μ. split ! $
           -- [the reference; what is kept of the cell; θ; the row; …; the locals]: in the order of `I`
           move ! ({lent_out}) $
-          first ! $ blocks ! $ loops ! 𝓣 ({LESS}) (less-ends xs ss bs rs m n)
-          (I m wm m-is v (answer-is xs ss rs m (told .0) v ve) (v-is .1) n e (is .1) {ls} θ μ)
-          (turns m wm m-is v (answer-is xs ss rs m (told .0) v ve) (v-is .1) n e (is .1) {ls} θ μ)
+          lft-new ! tt (λ ψ. move ! ({P.at(6, P.base + 3)} ∷ []) $
+          use1 W (later (some (λ (ν : GName). ‵ (ShrRef (named 3) (ψ ∷ []) Rm .own (at-matrix {l(6)} ν m) (vptr {l(6)} 0 ∷ []))
+          ⊛ ‵ (LentWhole (Array bool 16) 16 (ψ ∷ []) m {l(6)}))))
+          (shares-by (Array bool 16) 16 (ψ ∷ []) m {l(6)} 𝓤 H A W wm m-is (named 3) matrix-makes) $ await ! tt $ pick ! (λ ν. split ! $
+          move ! ({matrix_out}) $
+          first ! $ blocks ! $ loops ! 𝓣 ({LESS}) (less-ends xs ss bs rs m hs n)
+          (I hs wh hs-is m wm m-is v (answer-is xs ss rs hs (told .0) v ve) (v-is .1) n e (is .1) {ls} θ ψ μ ν)
+          (turns hs wh hs-is m wm m-is v (answer-is xs ss rs hs (told .0) v ve) (v-is .1) n e (is .1) {ls} θ ψ μ ν)
           (record {{
             i = 0;
             t = xs;
             s = ss;
             b = bs;
             zs = rs;
-            going = start xs ss bs rs m n (due-fits (eqb v 0) n (length rs) e) (ready-if-due xs ss rs m (told .0) v ve n e);
-          }}){')'*18}{')'*(P.n + 1)}
+            going = start xs ss bs rs m hs n (due-fits (eqb v 0) n (length rs) e) (ready-if-due xs ss rs hs (told .0) v ve m me n e);
+          }}){')'*24}{')'*(P.n + 1)}
 
 module _ {{M : Type 1}} (𝓤 : URA M) (H : Heap 𝓤) (A : Atoms 𝓤) (W : Given 𝓤 H A) (mem : Memory → SProp 𝓤) (rn : Routine → Fun 𝓤) (𝓣 : Tables 𝓤 H)
     (known-run : Triple 𝓤 (𝓣 .C #run) (Run 𝓤 H A W mem rn)) (known-due : Triple 𝓤 (𝓣 .C #due) (Due 𝓤 H A W mem rn))
-    (known-verdict : Triple 𝓤 (𝓣 .C #verdict) (Verdict 𝓤 H A W mem rn)) (known-begin : Triple 𝓤 (𝓣 .C #begin) (Begin 𝓤 H A W mem rn)) where
+    (known-verdict : Triple 𝓤 (𝓣 .C #verdict) (Verdict 𝓤 H A W mem rn)) (known-begin : Triple 𝓤 (𝓣 .C #begin) (Begin 𝓤 H A W mem rn)) (known-matrix : Triple 𝓤 (𝓣 .C #matrix) (Matrix 𝓤 H A W mem rn)) where
   tray-walks : Walks 𝓤 H A tr.ended stayed (WpFn 𝓤 H (𝓣 .C) (𝓣 .Λ) code.function) (tr.clauses 𝓤 H A mem rn)
   tray-walks = walked 𝓤 H A tr.ended stayed (tr.clauses 𝓤 H A mem rn) (WpFn 𝓤 H (𝓣 .C) (𝓣 .Λ) code.function)
       (λ κs. (slice-vals, (slice-vals, (slice-vals, (slice-vals, tt)))))
@@ -690,7 +758,7 @@ module _ {{M : Type 1}} (𝓤 : URA M) (H : Heap 𝓤) (A : Atoms 𝓤) (W : Giv
       (walk 𝓤 H A W mem rn (κs .0) (κs .1 .0) (κs .1 .1 .0) (κs .1 .1 .1 .0) (qs .0) (qs .1 .0) (qs .1 .1 .0) (qs .1 .1 .1 .0)
       (a .0 .ptr .0) (a .0 .ptr .1) (a .1 .0 .ptr .0) (a .1 .0 .ptr .1) (a .1 .1 .0 .ptr .0) (a .1 .1 .0 .ptr .1) (a .1 .1 .1 .0 .ptr .0) (a .1 .1 .1 .0 .ptr .1)
       (a .0 .name) (a .1 .0 .name) (a .1 .1 .0 .name) (a .1 .1 .1 .0 .name) (a .0 .now) (a .1 .0 .now) (a .1 .1 .1 .0 .now) (a .1 .1 .0 .now)
-      𝓣 known-run (are .0 .0 .1) (are .1 .0 .0 .1) (are .1 .1 .0 .0 .1) (are .1 .1 .1 .0 .0 .1) known-due known-verdict known-begin))
+      𝓣 known-run (are .0 .0 .1) (are .1 .0 .0 .1) (are .1 .1 .0 .0 .1) (are .1 .1 .1 .0 .0 .1) known-due known-verdict known-begin known-matrix))
 
   tray-meets : Meets 𝓤 H A tr.signature (WpFn 𝓤 H (𝓣 .C) (𝓣 .Λ) code.function) (tr.spec 𝓤 H A mem rn)
   tray-meets =
@@ -707,7 +775,8 @@ tray-spec 𝓤 H 𝓜 𝓖 𝓡 =
     (cited 𝓤 H (Run 𝓤 H (𝓖 .A) (givenOf 𝓤 H 𝓜 𝓖) (𝓜 .mem) (𝓡 .run)) 𝓜 𝓡 code.env #run run-def.routine code.calls-calls·trays·run (run-thm.met 𝓤 H 𝓜 𝓖 𝓡))
     (cited 𝓤 H (Due 𝓤 H (𝓖 .A) (givenOf 𝓤 H 𝓜 𝓖) (𝓜 .mem) (𝓡 .run)) 𝓜 𝓡 code.env #due due-def.routine code.calls-calls·trays·due (due-thm.met 𝓤 H 𝓜 𝓖 𝓡))
     (cited 𝓤 H (Verdict 𝓤 H (𝓖 .A) (givenOf 𝓤 H 𝓜 𝓖) (𝓜 .mem) (𝓡 .run)) 𝓜 𝓡 code.env #verdict verdict-def.routine code.calls-calls·trays·verdict (verdict-thm.met 𝓤 H 𝓜 𝓖 𝓡))
-    (cited 𝓤 H (Begin 𝓤 H (𝓖 .A) (givenOf 𝓤 H 𝓜 𝓖) (𝓜 .mem) (𝓡 .run)) 𝓜 𝓡 code.env #begin begin-def.routine code.calls-calls·trays·begin (begin-thm.met 𝓤 H 𝓜 𝓖 𝓡)))
+    (cited 𝓤 H (Begin 𝓤 H (𝓖 .A) (givenOf 𝓤 H 𝓜 𝓖) (𝓜 .mem) (𝓡 .run)) 𝓜 𝓡 code.env #begin begin-def.routine code.calls-calls·trays·begin (begin-thm.met 𝓤 H 𝓜 𝓖 𝓡))
+    (cited 𝓤 H (Matrix 𝓤 H (𝓖 .A) (givenOf 𝓤 H 𝓜 𝓖) (𝓜 .mem) (𝓡 .run)) 𝓜 𝓡 code.env #matrix matrix-def.routine code.calls-calls·trays·matrix-of (matrix-thm.met 𝓤 H 𝓜 𝓖 𝓡)))
 '''
 
 

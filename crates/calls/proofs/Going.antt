@@ -18,6 +18,7 @@ use Rattle.rules.specs.Step.{State}
 use Rattle.rules.specs.Tray as rules
 use Rattle.rules.specs.Tray.{Tray, left, behind, inOrder, trayAnswer, afterTray}
 use Rattle.laws.proofs.Tests.{cond-true, cond-false, split}
+use Rattle.layout.specs.Hall.{matrixIn}
 use Rattle.calls.specs.declared.Record.{Record}
 use Rattle.calls.specs.Did.{stateOf}
 use Rattle.calls.specs.Tray.{recordOf, recordsOf, Ran, Ready, Trayed, begun, verdictOf}
@@ -28,10 +29,10 @@ abbrev ahead : List rules.Record → Tray → Tray
 ahead ds x = left (x .state) (x .bytes) (ds ++ x .records)
 
 -- of the first n records i are run: t, s and b are the table, the store and the bytes then, and zs the records. Where any are left to run, the table is ready
-pub record Going (t₀ s₀ b₀ : List ℕ) (rs : List Record) (m : List (List Bool)) (n i : ℕ) (t s b : List ℕ) (zs : List Record) : Type 0 where
+pub record Going (t₀ s₀ b₀ : List ℕ) (rs : List Record) (m : List (List Bool)) (hall : List ℕ) (n i : ℕ) (t s b : List ℕ) (zs : List Record) : Type 0 where
   pub within : i ≤ n
   pub enough : n ≤ length rs
-  pub ready : i < n → Ready t s m
+  pub ready : i < n → Ready t s m hall
   pub table-long : length t ≡ length t₀
   pub store-long : length s ≡ length s₀
   pub bytes-long : length b ≡ length b₀
@@ -39,12 +40,12 @@ pub record Going (t₀ s₀ b₀ : List ℕ) (rs : List Record) (m : List (List 
   pub rest : drop i zs ≡ drop i rs
   pub whole : inOrder (stateOf t₀ s₀) b₀ (recordsOf (take n rs)) ≡ ahead (recordsOf (take i zs)) (inOrder (stateOf t s) b (recordsOf (drop i (take n rs))))
 
-module _ (t₀ s₀ b₀ : List ℕ) (rs : List Record) (m : List (List Bool)) (n : ℕ) where
-  pub start : n ≤ length rs → (0 < n → Ready t₀ s₀ m) → Going t₀ s₀ b₀ rs m n 0 t₀ s₀ b₀ rs
+module _ (t₀ s₀ b₀ : List ℕ) (rs : List Record) (m : List (List Bool)) (hall : List ℕ) (n : ℕ) where
+  pub start : n ≤ length rs → (0 < n → Ready t₀ s₀ m hall) → Going t₀ s₀ b₀ rs m hall n 0 t₀ s₀ b₀ rs
   start h r =
       record { within = omega arith; enough = h; ready = r; table-long = refl; store-long = refl; bytes-long = refl; long = refl; rest = refl; whole = refl }
 
-  module _ (i : ℕ) (t s b : List ℕ) (zs : List Record) (g : Going t₀ s₀ b₀ rs m n i t s b zs) (d : Record) where
+  module _ (i : ℕ) (t s b : List ℕ) (zs : List Record) (g : Going t₀ s₀ b₀ rs m hall n i t s b zs) (d : Record) where
     abbrev later : List Record
     later = drop (i + 1) (take n rs)
 
@@ -70,7 +71,7 @@ module _ (t₀ s₀ b₀ : List ℕ) (rs : List Record) (m : List (List Bool)) (
           ap (λ (l : List Record). inOrder (stateOf t s) b (recordsOf l)) (here h)
           ∙ (λ j. behind (sym (ran .answered) j) (inOrder (stateOf (sym (ran .table) j) (sym (ran .store) j)) (sym (ran .bytes) j) (recordsOf later)))
 
-      pub more : length t′ ≡ length t → length s′ ≡ length s → length b′ ≡ length b → Going t₀ s₀ b₀ rs m n (i + 1) t′ s′ b′ (set zs i y)
+      pub more : length t′ ≡ length t → length s′ ≡ length s → length b′ ≡ length b → Going t₀ s₀ b₀ rs m hall n (i + 1) t′ s′ b′ (set zs i y)
       more lt ls lb =
           let l = g .long in
           let e = g .enough in
@@ -80,7 +81,7 @@ module _ (t₀ s₀ b₀ : List ℕ) (rs : List Record) (m : List (List Bool)) (
           record {
             within = omega arith;
             enough = e;
-            ready = λ _. ready-kept t s b m (getD zs i d) y t′ s′ b′ (g .ready h) ran;
+            ready = λ _. ready-kept t s b m hall (getD zs i d) y t′ s′ b′ (g .ready h) ran;
             table-long = lt ∙ g .table-long;
             store-long = ls ∙ g .store-long;
             bytes-long = lb ∙ g .bytes-long;
@@ -143,36 +144,37 @@ due-fits true n k e = omega arith
 due-fits false n k e = omega arith
 
 -- what the judging came to: the answer is the rules', and where anything is due the table is ready
-module _ (t s : List ℕ) (rs : List Record) (m : List (List Bool)) (me : m ≡ begun t (length s) (length rs)) (v : ℕ) (ve : v ≡ verdictOf m (length rs)) where
+module _ (t s : List ℕ) (rs : List Record) (hall : List ℕ) (he : hall ≡ begun t (length s) (length rs)) (v : ℕ) (ve : v ≡ verdictOf hall (length rs)) where
   pub answer-is : v ≡ trayAnswer (stateOf t s) (recordsOf rs)
   answer-is =
-      ve ∙ ap (λ (x : List (List Bool)). verdictOf x (length rs)) me
+      ve ∙ ap (λ (x : List ℕ). verdictOf x (length rs)) he
       ∙ ap (λ (k : ℕ). verdictOf (begun t (length s) k) k) (sym (length-map rs recordOf)) ∙ verdict-is t s (recordsOf rs)
 
-  ready-here : v ≡ 0 → Ready t s m
-  ready-here e =
-      let r = ready-if t s (length rs) (sym (ap (λ (x : List (List Bool)). verdictOf x (length rs)) me) ∙ sym ve ∙ e) in
-      record { good = r .good; matrix = me ∙ r .matrix }
+  module _ (m : List (List Bool)) (me : m ≡ matrixIn hall) where
+    ready-here : v ≡ 0 → Ready t s m hall
+    ready-here e =
+        let r = ready-if t s (length rs) (sym (ap (λ (x : List ℕ). verdictOf x (length rs)) he) ∙ sym ve ∙ e) in
+        record { good = r .good; handed = record { matrix = me ∙ ap matrixIn he ∙ r .handed .matrix; told = he ∙ r .handed .told } }
 
-  pub ready-if-due : (n : ℕ) → n ≡ cond (eqb v 0) (length rs) 0 → 0 < n → Ready t s m
-  ready-if-due n e l = split _ (eqb v 0)
-      (λ z. ready-here (eqb-true v 0 z))
-      (λ z. absurd (let f : n ≡ 0 = e ∙ cond-false (eqb v 0) (length rs) 0 z in omega arith))
+    pub ready-if-due : (n : ℕ) → n ≡ cond (eqb v 0) (length rs) 0 → 0 < n → Ready t s m hall
+    ready-if-due n e l = split _ (eqb v 0)
+        (λ z. ready-here (eqb-true v 0 z))
+        (λ z. absurd (let f : n ≡ 0 = e ∙ cond-false (eqb v 0) (length rs) 0 z in omega arith))
 
 -- a turn, as the loop's variant has it: how far it is, the state, the bytes and the records, and that it goes on
-pub record Turn (t₀ s₀ b₀ : List ℕ) (rs : List Record) (m : List (List Bool)) (n : ℕ) : Type 0 where
+pub record Turn (t₀ s₀ b₀ : List ℕ) (rs : List Record) (m : List (List Bool)) (hall : List ℕ) (n : ℕ) : Type 0 where
   pub i : ℕ
   pub t : List ℕ
   pub s : List ℕ
   pub b : List ℕ
   pub zs : List Record
-  pub going : Going t₀ s₀ b₀ rs m n i t s b zs
+  pub going : Going t₀ s₀ b₀ rs m hall n i t s b zs
 
-module _ (t₀ s₀ b₀ : List ℕ) (rs : List Record) (m : List (List Bool)) (n : ℕ) where
-  abbrev pub remaining : Turn t₀ s₀ b₀ rs m n → ℕ
+module _ (t₀ s₀ b₀ : List ℕ) (rs : List Record) (m : List (List Bool)) (hall : List ℕ) (n : ℕ) where
+  abbrev pub remaining : Turn t₀ s₀ b₀ rs m hall n → ℕ
   remaining x = n - x .i
 
-  abbrev pub Less : Turn t₀ s₀ b₀ rs m n → Turn t₀ s₀ b₀ rs m n → Type 0
+  abbrev pub Less : Turn t₀ s₀ b₀ rs m hall n → Turn t₀ s₀ b₀ rs m hall n → Type 0
   Less x′ x = remaining x′ < remaining x
 
   pub less-ends : WellFounded Less

@@ -7,7 +7,7 @@ use native.Mathlib.Omega.{arith}
 use lib.Dec.{eqb, ltb}
 use lib.ListN.{length, getD}
 use borrow.Author.Tests.{ltb-true, ltb-false}
-use Rattle.rules.specs.Layout.{maxSerial, maxCells, Kind, process, segment, file, recordWords, slots, configuration, cellOf, flows, flowMatrix, Addr, at, live, serial, owner, group, bits}
+use Rattle.rules.specs.Layout.{maxSerial, maxSlots, maxCells, Kind, process, segment, file, recordWords, slots, configuration, cellOf, flows, flowMatrix, Addr, at, live, serial, owner, group, bits}
 use Rattle.rules.specs.Seid.{class, indexOf, serialOf, isSeid, seidAt, orSelf}
 use Rattle.rules.specs.Rights.{rights}
 use Rattle.rules.specs.Find.{rightsAt}
@@ -21,6 +21,8 @@ use Rattle.laws.proofs.Seids.{is-formed}
 use Rattle.levels.proofs.Cells.{matrix-any}
 use Rattle.layout.specs.declared.Header.{Header}
 use Rattle.layout.specs.Header.{slotsOf, recordOf}
+use Rattle.layout.specs.Hall.{cellsAt, hallOf}
+use Rattle.layout.proofs.Hall.{cell-told}
 use Rattle.ids.specs.Seid.{seidOf}
 use Rattle.ids.proofs.Parts.{seid-fits}
 use Rattle.calls.specs.declared.Caller.{Caller}
@@ -55,6 +57,14 @@ sixteen h {m} e = record { rows = omega (arith, ap length e ∙ length-tab 0 max
         split (length (getD m c []) ≤ maxCells) (ltb c maxCells)
         (λ l. omega (arith, ap length (here ∙ tab-at maxCells rows c [] (ltb-true c maxCells l)) ∙ length-tab 0 maxCells (flows h c)))
         (λ l. omega (arith, ap length (here ∙ tab-past maxCells rows c [] (ltb-false c maxCells l))))
+
+-- the cell that the check handed on for a slot
+module _ {t : List ℕ} {n : Header} (known : Known t n) (k : Kind) (i : ℕ) where
+  pub slot-few : i < slots (configuration t) k → i < maxSlots
+  slot-few l = omega (arith, l, shape known .few k)
+
+  pub cell-is : {hall : List ℕ} → hall ≡ hallOf (configuration t) → i < slots (configuration t) k → {x : ℕ} → x ≡ getD hall (cellsAt k + i) 0 → x ≡ cellOf (configuration t) k i
+  cell-is told l e = e ∙ ap (λ (b : List ℕ). getD b (cellsAt k + i) 0) told ∙ cell-told (configuration t) k i (shape known .few k) l
 
 -- the calling process for seid 0
 pub self-told : {t : List ℕ} {n : Header} {c : Caller} → Sound t n c → (a : ℕ) {s x r : ℕ} → s ≡ wordsOf t (at process (c .slot) serial)

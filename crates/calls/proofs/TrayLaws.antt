@@ -10,9 +10,8 @@ use lib.Seq.{sets}
 use borrow.Author.Tests.{lt-ltb, le-leb, lt-leb, eq-eqb, ne-eqb}
 use Rattle.rules.specs.Words.{part, tabFrom}
 use Rattle.rules.specs.Claim.{Holds, test}
-use Rattle.rules.specs.Layout.{maxCells, cells, levelOf, flows, configuration, flowMatrix}
+use Rattle.rules.specs.Layout.{cells, levelOf, flows, configuration, flowMatrix}
 use Rattle.rules.specs.WellFormed.{configured, lengthsExact, wellFormed}
-use Rattle.rules.specs.SetUp.{canSetUp}
 use Rattle.rules.specs.Errors.{XOK, XbTab, XbPrSd, XbdKcl, XbParam, XbSz}
 use Rattle.rules.specs.Step.{State, Outcome, badCaller, badCode, step}
 use Rattle.rules.specs.Tray as rules
@@ -20,73 +19,53 @@ use Rattle.rules.specs.Tray.{inside, recordStep, withAnswer, mostRecords, trayR
 use Rattle.laws.proofs.Tests.{and-left, and-right, and-both, cond-true, cond-false, split}
 use Rattle.laws.proofs.Claims.{holds, tested}
 use Rattle.laws.proofs.Shape.{good-of}
-use Rattle.laws.proofs.Tab.{getD-tab2}
 use Rattle.laws.proofs.Parts.{sets-part, part-back, part-long}
 use Rattle.levels.proofs.Flow.{reflexive}
 use Rattle.kept.proofs.Recorded.{outsideNumber, inside-is-step, outside-is-refused, record-kept, record-conf-kept}
 use Rattle.layout.specs.declared.Header.{Header}
 use Rattle.layout.specs.Header.{headerOf}
+use Rattle.layout.specs.Hall.{flowsAt, hallOf, matrixIn}
+use Rattle.layout.proofs.Hall.{flow-told, matrix-told}
 use Rattle.calls.specs.declared.Record.{Record}
 use Rattle.calls.specs.declared.Answer.{Answer}
 use Rattle.calls.specs.World.{wordsOf, Judged}
 use Rattle.calls.specs.Left.{said}
 use Rattle.calls.specs.Did.{stateOf, callOf, ruleAnswer, Did}
-use Rattle.calls.specs.Tray.{recordOf, recordsOf, answeredBy, Ran, Ready, noFlow, begun, verdictOf}
+use Rattle.calls.specs.Tray.{recordOf, recordsOf, answeredBy, Ran, Ready, noHall, begun, verdictOf}
 use Rattle.calls.proofs.Whole.{header-conf}
 
 -- ---- the judging of a tray
 
--- a well-formed table can be set up
-shaped-for : (t : List ℕ) (n : ℕ) → test (wellFormed t n) ≡ true → test (canSetUp t n) ≡ true
-unfolding wellFormed canSetUp
-shaped-for t n e =
-    let a = and-left (test (configured (configuration t))) _ e in
-    let b = and-left (test (lengthsExact (configuration t) (length t) n)) _ (and-right (test (configured (configuration t))) _ e) in
-    and-both (test (configured (configuration t))) _ a b
-
 module _ (t : List ℕ) (n count : ℕ) where
-  pub begun-long : ltb mostRecords count ≡ true → noFlow ≡ begun t n count
+  pub begun-long : ltb mostRecords count ≡ true → noHall ≡ begun t n count
   unfolding begun
-  begun-long l = sym (cond-true (ltb mostRecords count) noFlow _ l)
+  begun-long l = sym (cond-true (ltb mostRecords count) noHall _ l)
 
-  module _ (short : ltb mostRecords count ≡ false) where
-    begun-short : begun t n count ≡ cond (test (wellFormed t n)) (flowMatrix (configuration t)) noFlow
-    unfolding begun
-    begun-short = cond-false (ltb mostRecords count) noFlow _ short
+  pub begun-short : ltb mostRecords count ≡ false → cond (test (wellFormed t n)) (hallOf (configuration t)) noHall ≡ begun t n count
+  unfolding begun
+  begun-short l = sym (cond-false (ltb mostRecords count) noHall _ l)
 
-    pub begun-good : {x : Bool} {m : List (List Bool)} (m₀ : List (List Bool)) → x ≡ test (wellFormed t n) → x ≡ true
-        → m ≡ cond (test (canSetUp t n)) (flowMatrix (configuration t)) m₀ → m ≡ begun t n count
-    begun-good m₀ xe e me =
-        let good = sym xe ∙ e in
-        me ∙ cond-true (test (canSetUp t n)) (flowMatrix (configuration t)) m₀ (shaped-for t n good)
-        ∙ sym (begun-short ∙ cond-true (test (wellFormed t n)) (flowMatrix (configuration t)) noFlow good)
+-- the verdict: whether the first cell flows to itself
+abbrev corner : List ℕ → Bool
+corner hall = eqb (getD hall flowsAt 0) 1
 
-    pub begun-bad : {x : Bool} → x ≡ test (wellFormed t n) → x ≡ false → noFlow ≡ begun t n count
-    begun-bad xe e = sym (begun-short ∙ cond-false (test (wellFormed t n)) (flowMatrix (configuration t)) noFlow (sym xe ∙ e))
-
--- the verdict
-abbrev corner : List (List Bool) → Bool
-corner m = getD (getD m 0 []) 0 false
-
-module _ (m : List (List Bool)) (count : ℕ) where
-  pub verdict-long : ltb mostRecords count ≡ true → XbParam ≡ verdictOf m count
+module _ (hall : List ℕ) (count : ℕ) where
+  pub verdict-long : ltb mostRecords count ≡ true → XbParam ≡ verdictOf hall count
   unfolding verdictOf
   verdict-long l = sym (cond-true (ltb mostRecords count) XbParam _ l)
 
-  pub verdict-by : ltb mostRecords count ≡ false → {x : Bool} → x ≡ corner m → (b : Bool) → x ≡ b → cond b XOK XbTab ≡ verdictOf m count
+  pub verdict-by : ltb mostRecords count ≡ false → (b : Bool) → corner hall ≡ b → cond b XOK XbTab ≡ verdictOf hall count
   unfolding verdictOf
-  verdict-by l xe b f =
-      let e : corner m ≡ b = sym xe ∙ f in
-      ap (λ (b : Bool). cond b XOK XbTab) (sym e) ∙ sym (cond-false (ltb mostRecords count) XbParam _ l)
+  verdict-by l b e = ap (λ (b : Bool). cond b XOK XbTab) (sym e) ∙ sym (cond-false (ltb mostRecords count) XbParam _ l)
 
 -- a well-formed table's first cell flows to itself
-corner-flows : (t : List ℕ) (n : ℕ) → test (wellFormed t n) ≡ true → corner (flowMatrix (configuration t)) ≡ true
-unfolding flowMatrix flows
+corner-flows : (t : List ℕ) (n : ℕ) → test (wellFormed t n) ≡ true → corner (hallOf (configuration t)) ≡ true
+unfolding flows
 corner-flows t n e =
     let h : List ℕ = configuration t in
     let some = good-of t n (holds (wellFormed t n) e) .shape .some-cells in
     let l : ltb 0 (cells h) ≡ true = lt-ltb 0 (cells h) (omega arith) in
-    getD-tab2 maxCells maxCells (flows h) 0 0 [] false (omega arith) (omega arith) ∙ rw (l, reflexive (levelOf h 0)) refl
+    rw (flow-told h 0 0 (omega arith) (omega arith), l, reflexive (levelOf h 0)) refl
 
 -- the verdict on what the judging handed on is the rules' answer
 pub verdict-is : (t s : List ℕ) (rs : List rules.Record) → verdictOf (begun t (length s) (length rs)) (length rs) ≡ trayAnswer (stateOf t s) rs
@@ -98,12 +77,13 @@ verdict-is t s rs = split _ (ltb mostRecords (length rs))
     (λ e. rw e refl)))
 
 -- where the verdict is 0 the table is ready
-pub ready-if : (t s : List ℕ) (count : ℕ) → verdictOf (begun t (length s) count) count ≡ XOK → Ready t s (begun t (length s) count)
+pub ready-if : (t s : List ℕ) (count : ℕ) → verdictOf (begun t (length s) count) count ≡ XOK
+    → Ready t s (matrixIn (begun t (length s) count)) (begun t (length s) count)
 unfolding verdictOf begun
 ready-if t s count = split _ (ltb mostRecords count)
     (λ l. rw l (λ e. absurd (omega arith)))
     (λ l. rw l (split _ (test (wellFormed t (length s)))
-    (λ g. rw g (λ e. record { good = g; matrix = refl }))
+    (λ g. rw g (λ e. record { good = g; handed = record { matrix = matrix-told (configuration t); told = refl } }))
     (λ g. rw g (λ e. absurd (omega arith)))))
 
 -- ---- how many records are due
@@ -132,10 +112,10 @@ module _ (t : List ℕ) (r : Record) {x : Bool} (xe : x ≡ badCaller (configura
 
 -- ---- one record
 
-pub ready-judged : {t s : List ℕ} {n : Header} {m : List (List Bool)} → Ready t s m → n ≡ headerOf t → Judged t s n m
-ready-judged {t} j e = record { good = j .good; header = e ∙ header-conf t; matrix = j .matrix }
+pub ready-judged : {t s : List ℕ} {n : Header} {m : List (List Bool)} {hall : List ℕ} → Ready t s m hall → n ≡ headerOf t → Judged t s n m hall
+ready-judged {t} j e = record { good = j .good; header = e ∙ header-conf t; handed = j .handed }
 
-module _ (t s bytes : List ℕ) {m : List (List Bool)} (j : Ready t s m) (r : Record) (from n : ℕ) (f : from ≡ r .offset) (g : n ≡ r .length) where
+module _ (t s bytes : List ℕ) {m : List (List Bool)} {hall : List ℕ} (j : Ready t s m hall) (r : Record) (from n : ℕ) (f : from ≡ r .offset) (g : n ≡ r .length) where
   abbrev it : rules.Record
   it = recordOf r
 
@@ -175,13 +155,14 @@ module _ (t s bytes : List ℕ) {m : List (List Bool)} (j : Ready t s m) (r : Re
       }
 
 -- a record keeps a judged table judged
-pub ready-kept : (t s bytes : List ℕ) (m : List (List Bool)) (r y : Record) (t′ s′ bytes′ : List ℕ) → Ready t s m → Ran (stateOf t s) bytes r y t′ s′ bytes′ → Ready t′ s′ m
-ready-kept t s bytes m r y t′ s′ bytes′ j ran =
+pub ready-kept : (t s bytes : List ℕ) (m : List (List Bool)) (hall : List ℕ) (r y : Record) (t′ s′ bytes′ : List ℕ) → Ready t s m hall
+    → Ran (stateOf t s) bytes r y t′ s′ bytes′ → Ready t′ s′ m hall
+ready-kept t s bytes m hall r y t′ s′ bytes′ j ran =
     let w = holds (wellFormed t (length s)) (j .good) in
     let x = record-kept (stateOf t s) bytes (recordOf r) w in
-    let c = record-conf-kept (stateOf t s) bytes (recordOf r) w in
+    let same = sym (ap configuration (ran .table) ∙ record-conf-kept (stateOf t s) bytes (recordOf r) w) in
     record {
       good = rw (ran .table, ran .store) (tested (wellFormed (recordStep (stateOf t s) bytes (recordOf r) .state .table)
           (length (recordStep (stateOf t s) bytes (recordOf r) .state .store))) x);
-      matrix = j .matrix ∙ ap flowMatrix (sym (ap configuration (ran .table) ∙ c));
+      handed = record { matrix = j .handed .matrix ∙ ap flowMatrix same; told = j .handed .told ∙ ap hallOf same };
     }

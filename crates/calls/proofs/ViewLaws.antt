@@ -8,7 +8,7 @@ use lib.ListN.{length, take, drop}
 use borrow.Rule.Slice.Shared.{byByte}
 use Rattle.rules.specs.Words.{part}
 use Rattle.rules.specs.Claim.{test}
-use Rattle.rules.specs.Layout.{configuration, flowMatrix}
+use Rattle.rules.specs.Layout.{configuration}
 use Rattle.rules.specs.WellFormed.{wellFormed}
 use Rattle.rules.specs.SetUp.{canSetUp}
 use Rattle.rules.specs.Call13.{unbuffered}
@@ -28,7 +28,7 @@ use Rattle.calls.proofs.TrayLaws.{ready-judged}
 -- what judging has shown of the table
 pub known-by : (t s : List ℕ) {x : Bool} {n : Header} → x ≡ test (wellFormed t (length s)) → x ≡ true → n ≡ headerOf t → Known t n
 known-by t s xe e ne =
-    known (ready-judged (ready-by t s {m = cond (test (canSetUp t (length s))) (flowMatrix (configuration t)) []} [] xe e refl) ne)
+    known (ready-judged (ready-by t s xe e refl refl) ne)
 
 module _ (t s : List ℕ) (p a b : ℕ) where
   -- the part hangs on the number alone

@@ -2,21 +2,22 @@
 use mathlib.Core.Path.{_≡_, sym, ap, _∙_}
 use mathlib.Core.Bool.{Bool, true, false, cond, _||_, not}
 use mathlib.Core.List.{List}
-use Prim.Native.Nat.{ℕ, _≤_}
+use Prim.Native.Nat.{ℕ, _+_, _≤_, _<_}
 use native.Mathlib.Omega.{arith}
 use lib.Dec.{ltb, leb, eqb}
-use lib.ListN.{length, getD}
+use lib.ListN.{length, getD, replicate}
 use borrow.Author.Tests.{leb-false, ltb-false, eqb-false}
 use Rattle.rules.specs.Claim.{Holds, test, _&_}
-use Rattle.rules.specs.Layout.{process, segment, file, cells, blocks, guard, configuration, slots, cellOf, flowMatrix, storeBytes, at, live}
+use Rattle.rules.specs.Layout.{maxSlots, process, segment, file, cells, blocks, guard, configuration, slots, storeBytes, at, live}
 use Rattle.rules.specs.WellFormed.{wellFormed, lengthsExact, configured}
-use Rattle.rules.specs.SetUp.{canSetUp}
 use Rattle.rules.specs.Step.{badCaller, badCode, lastCode, step}
-use Rattle.laws.proofs.Tests.{or-left, or-right, and-left, and-both, and-right}
+use Rattle.laws.proofs.Tests.{or-left, or-right, cond-true}
 use Rattle.laws.proofs.Claims.{holds}
 use Rattle.laws.proofs.Places.{conf-word, conf-cells, conf-slots, conf-blocks}
 use Rattle.layout.specs.declared.Header.{Header}
 use Rattle.layout.specs.Header.{headerOf}
+use Rattle.layout.specs.Hall.{cellsAt, hallBytes, hallOf, matrixIn}
+use Rattle.layout.proofs.Hall.{matrix-told}
 use Rattle.calls.specs.declared.Caller.{Caller}
 use Rattle.calls.specs.declared.Answer.{Answer}
 use Rattle.calls.specs.World.{Known, Sound, wordsOf, Judged}
@@ -25,6 +26,7 @@ use Rattle.calls.specs.Left.{said}
 use Rattle.calls.specs.Did.{stateOf, callOf, Did, Through, ruleIn}
 use Rattle.calls.proofs.Worlds.{slots-is}
 use Rattle.calls.proofs.Codes.{bad-table, bad-caller, bad-code, done}
+use Rattle.calls.proofs.Names.{slot-few, cell-is}
 
 -- the header's words are the configuration's
 pub header-conf : (t : List ℕ) → headerOf t ≡ headerOf (configuration t)
@@ -38,18 +40,12 @@ header-conf t = λ i. record {
   guard = sym (conf-word t 5 (omega arith)) i;
 }
 
--- a well-formed table can be set up
-pub shaped : (t s : List ℕ) → test (wellFormed t (length s)) ≡ true → test (canSetUp t (length s)) ≡ true
-unfolding wellFormed canSetUp
-shaped t s e =
-    let a = and-left (test (configured (configuration t))) _ e in
-    let b = and-left (test (lengthsExact (configuration t) (length t) (length s))) _ (and-right (test (configured (configuration t))) _ e) in
-    and-both (test (configured (configuration t))) _ a b
-
--- what judging leaves: m is the matrix, of any before
-pub ready-by : (t s : List ℕ) {x : Bool} {m : List (List Bool)} (m₀ : List (List Bool)) → x ≡ test (wellFormed t (length s)) → x ≡ true
-    → m ≡ cond (test (canSetUp t (length s))) (flowMatrix (configuration t)) m₀ → Ready t s m
-ready-by t s m₀ xe e me = let good = sym xe ∙ e in record { good = good; matrix = me ∙ rw (shaped t s good) }
+-- what judging leaves in a hall of zeros, and the matrix of that
+pub ready-by : (t s : List ℕ) {x : Bool} {m : List (List Bool)} {hall : List ℕ} → x ≡ test (wellFormed t (length s)) → x ≡ true
+    → hall ≡ cond (test (wellFormed t (length s))) (hallOf (configuration t)) (replicate hallBytes 0) → m ≡ matrixIn hall → Ready t s m hall
+ready-by t s xe e he me =
+    let good = sym xe ∙ e in let told = he ∙ cond-true (test (wellFormed t (length s))) (hallOf (configuration t)) (replicate hallBytes 0) good in
+    record { good = good; handed = record { matrix = me ∙ ap matrixIn told ∙ matrix-told (configuration t); told = told } }
 
 -- out of range, or not live, in the words that the code reads
 pub caller-told : {t : List ℕ} {n : Header} → Known t n → (p : ℕ) {x : ℕ} → x ≡ wordsOf t (at process p live)
@@ -57,7 +53,7 @@ pub caller-told : {t : List ℕ} {n : Header} → Known t n → (p : ℕ) {x : �
 unfolding badCaller
 caller-told known p xe = rw (xe, slots-is known process)
 
-module _ {t s : List ℕ} {n : Header} {m : List (List Bool)} (j : Judged t s n m) where
+module _ {t s : List ℕ} {n : Header} {m : List (List Bool)} {hall : List ℕ} (j : Judged t s n m hall) where
   whole : Holds (wellFormed t (length s))
   whole = holds (wellFormed t (length s)) (j .good)
 
@@ -70,14 +66,23 @@ module _ {t s : List ℕ} {n : Header} {m : List (List Bool)} (j : Judged t s n 
   store-long = whole .1 .0 .1
 
   module _ (p : ℕ) {y : Bool} (ye : y ≡ badCaller (configuration t) (wordsOf t) p) where
-    pub sound : y ≡ false → {c : ℕ} → c ≡ cellOf (configuration t) process p → Sound t n (record { slot = p; cell = c })
-    unfolding wellFormed lengthsExact badCaller
+    caller-in : y ≡ false → p < slots (configuration t) process
+    unfolding badCaller
+    caller-in f =
+        leb-false (slots (configuration t) process) p (or-left (leb (slots (configuration t) process) p) (not (eqb (wordsOf t (at process p live)) 1)) (sym ye ∙ f))
+
+    pub caller-few : y ≡ false → p < maxSlots
+    caller-few f = slot-few known process p (caller-in f)
+
+    -- c is the cell that the check handed on
+    pub sound : y ≡ false → {c : ℕ} → c ≡ getD hall (cellsAt process + p) 0 → Sound t n (record { slot = p; cell = c })
+    unfolding wellFormed lengthsExact
     sound f ce = record {
       known = known;
       words = whole .1 .0 .0;
       records = whole .1 .1;
-      caller = leb-false (slots (configuration t) process) p (or-left (leb (slots (configuration t) process) p) (not (eqb (wordsOf t (at process p live)) 1)) (sym ye ∙ f));
-      home = ce;
+      caller = caller-in f;
+      home = cell-is known process p (j .handed .told) (caller-in f) ce;
     }
 
     module _ (code a b c : ℕ) (buffer : List ℕ) where

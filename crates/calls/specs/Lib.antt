@@ -1,4 +1,5 @@
 -- What the contracts of the calls say.
+pub mod Handed
 pub mod World
 pub mod Left
 pub mod Refusing

@@ -1,21 +1,23 @@
 -- Calls by the tray: a record of the code as the rules' record, what a run of one record and of a tray comes to, and what the judging of a tray hands on.
 use mathlib.Core.Path.{_≡_}
-use mathlib.Core.Bool.{Bool, false, true, cond}
-use mathlib.Core.List.{List, [], map}
+use mathlib.Core.Bool.{Bool, true, cond}
+use mathlib.Core.List.{List, map}
 use Prim.Native.Nat.{ℕ}
 use lib.Dec.{ltb, eqb}
 use lib.ListN.{length, getD, replicate}
 use lib.Seq.{sets}
 use Rattle.rules.specs.Claim.{test}
-use Rattle.rules.specs.Layout.{maxCells, configuration, flowMatrix}
+use Rattle.rules.specs.Layout.{configuration}
 use Rattle.rules.specs.WellFormed.{wellFormed}
 use Rattle.rules.specs.Errors.{XOK, XbTab, XbParam}
 use Rattle.rules.specs.Step.{State}
 use Rattle.rules.specs.Tray as rules
 use Rattle.rules.specs.Tray.{recordStep, withAnswer, mostRecords, trayAnswer, afterTray}
+use Rattle.layout.specs.Hall.{flowsAt, hallBytes, hallOf}
 use Rattle.calls.specs.declared.Record.{Record}
 use Rattle.calls.specs.declared.Answer.{Answer}
 use Rattle.calls.specs.Did.{ruleAnswer}
+use Rattle.calls.specs.Handed.{Handed}
 
 -- the same numbers
 abbrev pub recordOf : Record → rules.Record
@@ -63,19 +65,19 @@ pub record Ran (s : State) (lent : List ℕ) (r y : Record) (t′ s′ bytes′ 
   pub store : s′ ≡ recordStep s lent (recordOf r) .state .store
   pub bytes : bytes′ ≡ sets lent (r .offset) (recordStep s lent (recordOf r) .buffer)
 
--- a table that was judged: it is well formed for its store, and m is its flow matrix
-pub record Ready (t s : List ℕ) (m : List (List Bool)) : Type 0 where
+-- a table that was judged: it is well formed for its store, and m and hall are what the check handed on of it
+pub record Ready (t s : List ℕ) (m : List (List Bool)) (hall : List ℕ) : Type 0 where
   pub good : test (wellFormed t (length s)) ≡ true
-  pub matrix : m ≡ flowMatrix (configuration t)
+  pub handed : Handed (configuration t) m hall
 
--- no cell flows to any, not even to itself: no well-formed table has such a matrix, so it says that no tray is run
-abbrev pub noFlow : List (List Bool)
-noFlow = replicate maxCells (replicate maxCells false)
+-- no cell flows to any, not even to itself: nothing of the kind is handed on of a well-formed table, so it says that no tray is run
+abbrev pub noHall : List ℕ
+noHall = replicate hallBytes 0
 
 -- what the judging of a tray of so many records hands on
-unfoldable pub begun : List ℕ → ℕ → ℕ → List (List Bool)
-begun t bytes count = cond (ltb mostRecords count) noFlow (cond (test (wellFormed t bytes)) (flowMatrix (configuration t)) noFlow)
+unfoldable pub begun : List ℕ → ℕ → ℕ → List ℕ
+begun t bytes count = cond (ltb mostRecords count) noHall (cond (test (wellFormed t bytes)) (hallOf (configuration t)) noHall)
 
 -- "a longer one is refused with 4, then a bad table with 1"
-unfoldable pub verdictOf : List (List Bool) → ℕ → ℕ
-verdictOf m count = cond (ltb mostRecords count) XbParam (cond (getD (getD m 0 []) 0 false) XOK XbTab)
+unfoldable pub verdictOf : List ℕ → ℕ → ℕ
+verdictOf hall count = cond (ltb mostRecords count) XbParam (cond (eqb (getD hall flowsAt 0) 1) XOK XbTab)

@@ -7,13 +7,14 @@ use lib.Dec.{ltb, eqb}
 use lib.ListN.{length, getD}
 use Rattle.rules.specs.Words.{sumBelow, lowest, least}
 use Rattle.rules.specs.Claim.{Holds, test}
-use Rattle.rules.specs.Layout.{maxSerial, configurationWords, Kind, process, segment, file, cells, slots, cellWord, configuration, cellOf, flowMatrix, Addr, rd, tableWords, live, serial, entries}
+use Rattle.rules.specs.Layout.{maxSerial, configurationWords, Kind, process, segment, file, cells, slots, cellWord, configuration, cellOf, Addr, rd, tableWords, live, serial, entries}
 use Rattle.rules.specs.Seid.{class, isSeid}
 use Rattle.rules.specs.Modes.{validModes}
 use Rattle.rules.specs.WellFormed.{configured, recordsOk, wellFormed}
 use Rattle.layout.specs.declared.Header.{Header}
 use Rattle.layout.specs.Header.{headerOf}
 use Rattle.calls.specs.declared.Caller.{Caller}
+use Rattle.calls.specs.Handed.{Handed}
 
 -- what a table holds at each word of its records
 abbrev pub wordsOf : List ℕ → Addr → ℕ
@@ -75,8 +76,8 @@ pub record Clashable (t : List ℕ) (n : Header) (s b : ℕ) : Type 0 where
   pub form : isSeid (class file) (slots (configuration t) file) s ≡ true
   pub modes : validModes b ≡ true
 
--- ---- a judged table: it is well formed for its store, n is its header, m its flow matrix
-pub record Judged (t s : List ℕ) (n : Header) (m : List (List Bool)) : Type 0 where
+-- ---- a judged table: it is well formed for its store, n is its header, m and hall are what the check handed on of it
+pub record Judged (t s : List ℕ) (n : Header) (m : List (List Bool)) (hall : List ℕ) : Type 0 where
   pub good : test (wellFormed t (length s)) ≡ true
   pub header : n ≡ headerOf (configuration t)
-  pub matrix : m ≡ flowMatrix (configuration t)
+  pub handed : Handed (configuration t) m hall

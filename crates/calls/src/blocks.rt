@@ -5,8 +5,9 @@ ghost use Prim.Native.Nat.{_+_, _-_, _*_, _≤_, _<_, _^_, max};
 ghost use lib.ListN.{length, replicate};
 ghost use lib.Seq.{sets};
 ghost use Rattle.rules.specs.Words.{part};
-ghost use Rattle.rules.specs.Layout.{blockBytes, configuration, flowMatrix, storeBytes};
+ghost use Rattle.rules.specs.Layout.{blockBytes, configuration, storeBytes};
 ghost use Rattle.calls.specs.World.{Sound};
+ghost use Rattle.calls.specs.Handed.{Handed};
 ghost use Rattle.calls.specs.Refusing.{refusing};
 ghost use Rattle.calls.specs.Calls.{useTests};
 ghost use Rattle.calls.specs.Blocks.{readUse, ReadLeft, WriteLeft};
@@ -22,6 +23,7 @@ use crate::base::write;
 use crate::entries::entry_of;
 use crate::objects::Seen;
 use crate::objects::look;
+use layout::HALL_BYTES;
 use layout::Header;
 use layout::Kind;
 use modes::reads;
@@ -135,16 +137,17 @@ pub(crate) fn shown(
     t: &[u32],
     n: Header,
     m: [[bool; MAX_CELLS]; MAX_CELLS],
+    hall: &[u8; HALL_BYTES],
     c: Caller,
     store: &[u8],
     a: u32,
     b: u32,
 ) -> Part
-    requires { ⌜ Sound (now t) n c × (m ≡ flowMatrix (configuration (now t))) × (length (now store) ≡ storeBytes (configuration (now t))) ⌝ }
+    requires { ⌜ Sound (now t) n c × Handed (configuration (now t)) m (now hall) × (length (now store) ≡ storeBytes (configuration (now t))) ⌝ }
     ensures { λ r. ⌜ ShownBy e (now (t .entry)) (now (store .entry)) (c .slot) a b r ⌝ }
 {
     let d = entry_of(t, n, Kind::File, c.slot, a);
-    let f = look(t, n, &m, c, Kind::File, d.held);
+    let f = look(t, n, &m, hall, c, Kind::File, d.held);
     let size = read(t, n, Kind::File, f.slot, SIZE);
     let u = to_read(d.used);
     let e = bad_use(e, a, d.held, u, f);
@@ -176,17 +179,18 @@ pub(crate) fn read_block(
     t: &[u32],
     n: Header,
     m: [[bool; MAX_CELLS]; MAX_CELLS],
+    hall: &[u8; HALL_BYTES],
     c: Caller,
     store: &[u8],
     a: u32,
     b: u32,
     buffer: &mut [u8],
 ) -> Answer
-    requires { ⌜ Sound (now t) n c × (m ≡ flowMatrix (configuration (now t))) × (length (now store) ≡ storeBytes (configuration (now t))) ⌝ }
+    requires { ⌜ Sound (now t) n c × Handed (configuration (now t)) m (now hall) × (length (now store) ≡ storeBytes (configuration (now t))) ⌝ }
     ensures { λ r. ⌜ ReadLeft (now (t .entry)) (now (store .entry)) (c .slot) a b (now (buffer .entry)) r (now (buffer .exit)) ⌝ }
 {
     let e = or_refuse(XOK, buffer.len() != BLOCK_BYTES, XB_SZ);
-    let p = shown(e, t, n, m, c, store, a, b);
+    let p = shown(e, t, n, m, hall, c, store, a, b);
     if p.error != XOK {
         return refused(p.error);
     }
@@ -199,17 +203,18 @@ pub(crate) fn write_block(
     t: &mut [u32],
     n: Header,
     m: [[bool; MAX_CELLS]; MAX_CELLS],
+    hall: &[u8; HALL_BYTES],
     c: Caller,
     store: &mut [u8],
     a: u32,
     b: u32,
     buffer: &[u8],
 ) -> Answer
-    requires { ⌜ Sound (now t) n c × (m ≡ flowMatrix (configuration (now t))) × (length (now store) ≡ storeBytes (configuration (now t))) ⌝ }
+    requires { ⌜ Sound (now t) n c × Handed (configuration (now t)) m (now hall) × (length (now store) ≡ storeBytes (configuration (now t))) ⌝ }
     ensures { λ r. ⌜ WriteLeft (now (t .entry)) (now (store .entry)) (c .slot) a b (now (buffer .entry)) r (now (t .exit)) (now (store .exit)) ⌝ }
 {
     let d = entry_of(t, n, Kind::File, c.slot, a);
-    let f = look(t, n, &m, c, Kind::File, d.held);
+    let f = look(t, n, &m, hall, c, Kind::File, d.held);
     let size = read(t, n, Kind::File, f.slot, SIZE);
     let u = Use {
         held: writes(d.used),

@@ -3,9 +3,10 @@ ghost use mathlib.Core.Path.{_≡_};
 ghost use mathlib.Core.List.{List};
 ghost use Prim.Native.Nat.{ℕ, _≤_};
 ghost use lib.ListN.{length};
-ghost use Rattle.rules.specs.Layout.{configuration, flowMatrix, storeBytes};
+ghost use Rattle.rules.specs.Layout.{configuration, storeBytes};
 ghost use Rattle.rules.specs.Step.{lastCode};
 ghost use Rattle.calls.specs.World.{Sound};
+ghost use Rattle.calls.specs.Handed.{Handed};
 ghost use Rattle.calls.specs.Did.{Plain, Through, ruleIn};
 use crate::Answer;
 use crate::Caller;
@@ -31,6 +32,7 @@ use crate::segments::build_segment;
 use crate::segments::rendezvous;
 use crate::segments::set_access;
 use crate::status::status;
+use layout::HALL_BYTES;
 use layout::Header;
 use layout::Kind;
 use rules::ACCESS_CODE;
@@ -63,13 +65,14 @@ fn on_processes_and_segments(
     t: &mut [u32],
     n: Header,
     m: &[[bool; MAX_CELLS]; MAX_CELLS],
+    hall: &[u8; HALL_BYTES],
     me: Caller,
     code: u32,
     a: u32,
     b: u32,
     c: u32,
 ) -> Answer
-    requires { ⌜ Sound (now t) n me × (now m ≡ flowMatrix (configuration (now t))) × (1 ≤ code) × (code ≤ 6) ⌝ }
+    requires { ⌜ Sound (now t) n me × Handed (configuration (now t)) (now m) (now hall) × (1 ≤ code) × (code ≤ 6) ⌝ }
     ensures { λ r. ⌜ ((s buffer : List ℕ) → Plain (now (t .entry)) (me .slot) code a b c r (now (t .exit)) s buffer) ⌝ }
 {
     match code {
@@ -77,14 +80,14 @@ fn on_processes_and_segments(
             let q = free_slot(t, n, Kind::Process, me.cell);
             spawn(t, n, me, q, a, b, c)
         }
-        RELEASE_PROCESS_CODE => release_process(t, n, *m, me, a),
+        RELEASE_PROCESS_CODE => release_process(t, n, *m, hall, me, a),
         BUILD_SEGMENT_CODE => {
             let g = free_slot(t, n, Kind::Segment, me.cell);
             build_segment(t, n, me, g, a, b, c)
         }
-        RENDEZVOUS_CODE => rendezvous(t, n, *m, me, a, b),
+        RENDEZVOUS_CODE => rendezvous(t, n, *m, hall, me, a, b),
         RELEASE_SEGMENT_CODE => give_up(t, n, me, Kind::Segment, a, XN_SG_DES, XB_SG_DES),
-        _ => set_access(t, n, *m, me, a, b),
+        _ => set_access(t, n, *m, hall, me, a, b),
     }
 }
 
@@ -93,13 +96,14 @@ fn on_files(
     t: &mut [u32],
     n: Header,
     m: &[[bool; MAX_CELLS]; MAX_CELLS],
+    hall: &[u8; HALL_BYTES],
     me: Caller,
     code: u32,
     a: u32,
     b: u32,
     c: u32,
 ) -> Answer
-    requires { ⌜ Sound (now t) n me × (now m ≡ flowMatrix (configuration (now t))) × (7 ≤ code) × (code ≤ 12) ⌝ }
+    requires { ⌜ Sound (now t) n me × Handed (configuration (now t)) (now m) (now hall) × (7 ≤ code) × (code ≤ 12) ⌝ }
     ensures { λ r. ⌜ ((s buffer : List ℕ) → Plain (now (t .entry)) (me .slot) code a b c r (now (t .exit)) s buffer) ⌝ }
 {
     match code {
@@ -107,11 +111,11 @@ fn on_files(
             let f = free_slot(t, n, Kind::File, me.cell);
             create(t, n, me, f, a, b)
         }
-        OPEN_CODE => open(t, n, *m, me, a, b),
+        OPEN_CODE => open(t, n, *m, hall, me, a, b),
         CLOSE_CODE => give_up(t, n, me, Kind::File, a, XBAD_OD, XBAD_OD),
-        LINK_CODE => link(t, n, *m, me, a),
-        UNLINK_CODE => unlink(t, n, *m, me, a),
-        _ => set_bits(t, n, *m, me, a, b),
+        LINK_CODE => link(t, n, *m, hall, me, a),
+        UNLINK_CODE => unlink(t, n, *m, hall, me, a),
+        _ => set_bits(t, n, *m, hall, me, a, b),
     }
 }
 
@@ -121,6 +125,7 @@ fn on_contents(
     store: &mut [u8],
     n: Header,
     m: &[[bool; MAX_CELLS]; MAX_CELLS],
+    hall: &[u8; HALL_BYTES],
     me: Caller,
     code: u32,
     a: u32,
@@ -128,16 +133,16 @@ fn on_contents(
     c: u32,
     buffer: &mut [u8],
 ) -> Answer
-    requires { ⌜ Sound (now t) n me × (now m ≡ flowMatrix (configuration (now t))) × (length (now store) ≡ storeBytes (configuration (now t))) × (13 ≤ code) × (code ≤ 18) ⌝ }
+    requires { ⌜ Sound (now t) n me × Handed (configuration (now t)) (now m) (now hall) × (length (now store) ≡ storeBytes (configuration (now t))) × (13 ≤ code) × (code ≤ 18) ⌝ }
     ensures { λ r. ⌜ Through (now (t .entry)) (now (store .entry)) (now (buffer .entry)) (ruleIn (now (t .entry)) (now (store .entry)) (me .slot) code a b c (now (buffer .entry))) r (now (t .exit)) (now (store .exit)) (now (buffer .exit)) ⌝ }
 {
     match code {
-        READ_BLOCK_CODE => read_block(t, n, *m, me, store, a, b, buffer),
-        WRITE_BLOCK_CODE => write_block(t, n, *m, me, store, a, b, buffer),
-        POST_CODE => post(t, n, *m, me, a, buffer),
+        READ_BLOCK_CODE => read_block(t, n, *m, hall, me, store, a, b, buffer),
+        WRITE_BLOCK_CODE => write_block(t, n, *m, hall, me, store, a, b, buffer),
+        POST_CODE => post(t, n, *m, hall, me, a, buffer),
         RECEIVE_CODE => receive(t, n, me, buffer),
-        STATUS_CODE => status(t, n, *m, me, a, buffer),
-        _ => access_of(t, n, *m, me, a),
+        STATUS_CODE => status(t, n, *m, hall, me, a, buffer),
+        _ => access_of(t, n, *m, hall, me, a),
     }
 }
 
@@ -146,18 +151,19 @@ fn on_map(
     t: &mut [u32],
     n: Header,
     m: &[[bool; MAX_CELLS]; MAX_CELLS],
+    hall: &[u8; HALL_BYTES],
     me: Caller,
     code: u32,
     a: u32,
     b: u32,
     c: u32,
 ) -> Answer
-    requires { ⌜ Sound (now t) n me × (now m ≡ flowMatrix (configuration (now t))) × (19 ≤ code) × (code ≤ 20) ⌝ }
+    requires { ⌜ Sound (now t) n me × Handed (configuration (now t)) (now m) (now hall) × (19 ≤ code) × (code ≤ 20) ⌝ }
     ensures { λ r. ⌜ ((s buffer : List ℕ) → Plain (now (t .entry)) (me .slot) code a b c r (now (t .exit)) s buffer) ⌝ }
 {
     match code {
-        REMAP_CODE => remap(t, n, *m, me, a, b, c),
-        _ => page_access(t, n, *m, me, a),
+        REMAP_CODE => remap(t, n, *m, hall, me, a, b, c),
+        _ => page_access(t, n, *m, hall, me, a),
     }
 }
 
@@ -167,6 +173,7 @@ pub(crate) fn carry_out(
     store: &mut [u8],
     n: Header,
     m: &[[bool; MAX_CELLS]; MAX_CELLS],
+    hall: &[u8; HALL_BYTES],
     me: Caller,
     code: u32,
     a: u32,
@@ -174,21 +181,21 @@ pub(crate) fn carry_out(
     c: u32,
     buffer: &mut [u8],
 ) -> Answer
-    requires { ⌜ Sound (now t) n me × (now m ≡ flowMatrix (configuration (now t))) × (length (now store) ≡ storeBytes (configuration (now t))) × (1 ≤ code) × (code ≤ lastCode) ⌝ }
+    requires { ⌜ Sound (now t) n me × Handed (configuration (now t)) (now m) (now hall) × (length (now store) ≡ storeBytes (configuration (now t))) × (1 ≤ code) × (code ≤ lastCode) ⌝ }
     ensures { λ r. ⌜ Through (now (t .entry)) (now (store .entry)) (now (buffer .entry)) (ruleIn (now (t .entry)) (now (store .entry)) (me .slot) code a b c (now (buffer .entry))) r (now (t .exit)) (now (store .exit)) (now (buffer .exit)) ⌝ }
 {
     if code <= SET_ACCESS_CODE {
-        return on_processes_and_segments(t, n, m, me, code, a, b, c);
+        return on_processes_and_segments(t, n, m, hall, me, code, a, b, c);
     }
     if code <= SET_BITS_CODE {
-        return on_files(t, n, m, me, code, a, b, c);
+        return on_files(t, n, m, hall, me, code, a, b, c);
     }
     if code <= ACCESS_CODE {
-        return on_contents(t, store, n, m, me, code, a, b, c, buffer);
+        return on_contents(t, store, n, m, hall, me, code, a, b, c, buffer);
     }
     if code <= PAGE_ACCESS_CODE {
-        return on_map(t, n, m, me, code, a, b, c);
+        return on_map(t, n, m, hall, me, code, a, b, c);
     }
     let g = slot_in(t, n, b);
-    regrade(t, store, n, *m, me, g, a, b, c, buffer)
+    regrade(t, store, n, *m, hall, me, g, a, b, c, buffer)
 }

@@ -4,7 +4,7 @@ ghost use mathlib.Core.Bool.{true, _&&_, _||_, not};
 ghost use mathlib.Core.List.{List, [], _∷_, _++_};
 ghost use Prim.Native.Nat.{ℕ, _<_};
 ghost use lib.Dec.{leb, eqb};
-ghost use Rattle.rules.specs.Layout.{Addr, file, at, configuration, cellOf, flowMatrix};
+ghost use Rattle.rules.specs.Layout.{Addr, file, at, configuration, cellOf};
 ghost use Rattle.rules.specs.Seid.{indexOf, orSelf};
 ghost use Rattle.rules.specs.Modes.{validModes};
 ghost use Rattle.rules.specs.Rule.{Rule, write};
@@ -15,6 +15,7 @@ ghost use Rattle.rules.specs.Call11.{unlinked, unlink};
 ghost use Rattle.rules.specs.Call12.{isShared, setBitsOf, setBits};
 ghost use Rattle.layout.specs.Kinds.{kindOf};
 ghost use Rattle.calls.specs.World.{Known, Sound, wordsOf, holdable, Clashable};
+ghost use Rattle.calls.specs.Handed.{Handed};
 ghost use Rattle.calls.specs.Left.{Left};
 ghost use Rattle.calls.specs.Refusing.{refusing};
 ghost use Rattle.calls.specs.Seen.{namedOf, seenOf, slotFound};
@@ -45,6 +46,7 @@ use crate::room::first_slot;
 use crate::room::free_entry;
 use crate::room::in_cell;
 use ids::seid;
+use layout::HALL_BYTES;
 use layout::Header;
 use layout::Kind;
 use layout::index_of;
@@ -197,15 +199,16 @@ pub(crate) fn open(
     t: &mut [u32],
     n: Header,
     m: [[bool; MAX_CELLS]; MAX_CELLS],
+    hall: &[u8; HALL_BYTES],
     c: Caller,
     a: u32,
     b: u32,
 ) -> Answer
-    requires { ⌜ Sound (now t) n c × (m ≡ flowMatrix (configuration (now t))) ⌝ }
+    requires { ⌜ Sound (now t) n c × Handed (configuration (now t)) m (now hall) ⌝ }
     ensures { λ r. ⌜ ((buffer : List ℕ) → Left (now (t .entry)) (λ h q. openFile h q (c .slot) a b buffer) r (now (t .exit))) ⌝ }
 {
     let s = or_self(t, n, c, a);
-    let f = look(t, n, &m, c, Kind::File, s);
+    let f = look(t, n, &m, hall, c, Kind::File, s);
     let d = free_entry(t, n, Kind::File, c.slot);
     let e = may_open(f, b);
     let clashing = busy(t, n, c, e, f, s, b);
@@ -225,14 +228,15 @@ pub(crate) fn link(
     t: &mut [u32],
     n: Header,
     m: [[bool; MAX_CELLS]; MAX_CELLS],
+    hall: &[u8; HALL_BYTES],
     c: Caller,
     a: u32,
 ) -> Answer
-    requires { ⌜ Sound (now t) n c × (m ≡ flowMatrix (configuration (now t))) ⌝ }
+    requires { ⌜ Sound (now t) n c × Handed (configuration (now t)) m (now hall) ⌝ }
     ensures { λ r. ⌜ ((buffer : List ℕ) → Left (now (t .entry)) (λ h q. link h q (c .slot) a buffer) r (now (t .exit))) ⌝ }
 {
     let s = or_self(t, n, c, a);
-    let f = look(t, n, &m, c, Kind::File, s);
+    let f = look(t, n, &m, hall, c, Kind::File, s);
     let links = read(t, n, Kind::File, f.slot, LINKS);
     let e = own(XOK, f, Kind::File);
     let e = or_refuse(e, links == MAX_LINKS, XBAD_LINK);
@@ -262,14 +266,15 @@ pub(crate) fn unlink(
     t: &mut [u32],
     n: Header,
     m: [[bool; MAX_CELLS]; MAX_CELLS],
+    hall: &[u8; HALL_BYTES],
     c: Caller,
     a: u32,
 ) -> Answer
-    requires { ⌜ Sound (now t) n c × (m ≡ flowMatrix (configuration (now t))) ⌝ }
+    requires { ⌜ Sound (now t) n c × Handed (configuration (now t)) m (now hall) ⌝ }
     ensures { λ r. ⌜ ((buffer : List ℕ) → Left (now (t .entry)) (λ h q. unlink h q (c .slot) a buffer) r (now (t .exit))) ⌝ }
 {
     let s = or_self(t, n, c, a);
-    let f = look(t, n, &m, c, Kind::File, s);
+    let f = look(t, n, &m, hall, c, Kind::File, s);
     let links = read(t, n, Kind::File, f.slot, LINKS);
     let e = own(XOK, f, Kind::File);
     let e = or_refuse(e, links == 0, XBAD_LINK);
@@ -297,15 +302,16 @@ fn set_bits_of(
     t: &mut [u32],
     n: Header,
     m: [[bool; MAX_CELLS]; MAX_CELLS],
+    hall: &[u8; HALL_BYTES],
     c: Caller,
     kind: Kind,
     s: u32,
     b: u32,
 ) -> Answer
-    requires { ⌜ Sound (now t) n c × (m ≡ flowMatrix (configuration (now t))) ⌝ }
+    requires { ⌜ Sound (now t) n c × Handed (configuration (now t)) m (now hall) ⌝ }
     ensures { λ r. ⌜ ((buffer : List ℕ) → Left (now (t .entry)) (λ h q. setBitsOf h q (c .slot) s b buffer (kindOf kind)) r (now (t .exit))) ⌝ }
 {
-    let x = look(t, n, &m, c, kind, s);
+    let x = look(t, n, &m, hall, c, kind, s);
     let shared = is_shared(t, n, kind, x.slot);
     let e = or_refuse(XOK, MAX_BITS < b, XB_PARAM);
     let e = own(e, x, kind);
@@ -322,14 +328,15 @@ pub(crate) fn set_bits(
     t: &mut [u32],
     n: Header,
     m: [[bool; MAX_CELLS]; MAX_CELLS],
+    hall: &[u8; HALL_BYTES],
     c: Caller,
     a: u32,
     b: u32,
 ) -> Answer
-    requires { ⌜ Sound (now t) n c × (m ≡ flowMatrix (configuration (now t))) ⌝ }
+    requires { ⌜ Sound (now t) n c × Handed (configuration (now t)) m (now hall) ⌝ }
     ensures { λ r. ⌜ ((buffer : List ℕ) → Left (now (t .entry)) (λ h q. setBits h q (c .slot) a b buffer) r (now (t .exit))) ⌝ }
 {
     let s = or_self(t, n, c, a);
     let kind = kind_by(s);
-    set_bits_of(t, n, m, c, kind, s, b)
+    set_bits_of(t, n, m, hall, c, kind, s, b)
 }

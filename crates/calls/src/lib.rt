@@ -15,11 +15,14 @@ use crate::base::refused;
 use crate::blocks::hidden;
 use crate::blocks::shown;
 use crate::dispatch::carry_out;
-use crate::room::cell_of;
+use crate::objects::cell_in;
 use crate::trays::begin;
 use crate::trays::due;
+use crate::trays::matrix_in;
+use crate::trays::matrix_of;
 use crate::trays::run;
 use crate::trays::verdict;
+use layout::HALL_BYTES;
 use layout::Header;
 use layout::Kind;
 use layout::header_of;
@@ -104,6 +107,7 @@ pub(crate) fn call_judged(
     t: &mut [u32],
     store: &mut [u8],
     m: &[[bool; MAX_CELLS]; MAX_CELLS],
+    hall: &[u8; HALL_BYTES],
     caller: u32,
     code: u32,
     a: u32,
@@ -111,7 +115,7 @@ pub(crate) fn call_judged(
     c: u32,
     buffer: &mut [u8],
 ) -> Answer
-    requires { ⌜ Ready (now t) (now store) (now m) ⌝ }
+    requires { ⌜ Ready (now t) (now store) (now m) (now hall) ⌝ }
     ensures { λ r. ⌜ Did (step (stateOf (now (t .entry)) (now (store .entry))) (callOf caller code a b c (now (buffer .entry)))) r (now (t .exit)) (now (store .exit)) (now (buffer .exit)) ⌝ }
 {
     let n = header_of(t);
@@ -121,12 +125,12 @@ pub(crate) fn call_judged(
     if bad_code(code) {
         return refused(XBD_KCL);
     }
-    let cell = cell_of(t, n, Kind::Process, caller);
+    let cell = cell_in(hall, Kind::Process, caller);
     let me = Caller { slot: caller, cell };
-    carry_out(t, store, n, m, me, code, a, b, c, buffer)
+    carry_out(t, store, n, m, hall, me, code, a, b, c, buffer)
 }
 
-// One call. The whole table is judged first, and the flow matrix that the judging makes is handed on.
+// One call. The whole table is judged first; the cells that the judging finds, and which of them may flow to which, are handed on.
 pub fn call(
     table: &mut [u32],
     store: &mut [u8],
@@ -139,11 +143,12 @@ pub fn call(
 ) -> Answer
     ensures { λ r. ⌜ Did (step (stateOf (now (table .entry)) (now (store .entry))) (callOf caller code a b c (now (buffer .entry)))) r (now (table .exit)) (now (store .exit)) (now (buffer .exit)) ⌝ }
 {
-    let mut m = [[false; MAX_CELLS]; MAX_CELLS];
-    if !table::judge(table, store.len(), &mut m) {
+    let mut hall = [0u8; HALL_BYTES];
+    if !table::judge(table, store.len(), &mut hall) {
         return refused(XB_TAB);
     }
-    call_judged(table, store, &m, caller, code, a, b, c, buffer)
+    let m = matrix_in(&hall);
+    call_judged(table, store, &m, &hall, caller, code, a, b, c, buffer)
 }
 
 // A view's number, and where in the store the block stands that it shows: for a host in C, which can't be handed a part.
@@ -151,17 +156,18 @@ pub fn view_part(table: &[u32], store: &[u8], caller: u32, a: u32, b: u32) -> Pa
     ensures { λ r. ⌜ r ≡ viewPart (stateOf (now (table .entry)) (now (store .entry))) caller a b ⌝ }
     ensures { λ r. ⌜ (r .from) + (r .count) ≤ length (now (store .entry)) ⌝ }
 {
-    let mut m = [[false; MAX_CELLS]; MAX_CELLS];
-    if !table::judge(table, store.len(), &mut m) {
+    let mut hall = [0u8; HALL_BYTES];
+    if !table::judge(table, store.len(), &mut hall) {
         return hidden(XB_TAB);
     }
     let n = header_of(table);
     if bad_caller(table, n, caller) {
         return hidden(XB_PR_SD);
     }
-    let cell = cell_of(table, n, Kind::Process, caller);
+    let cell = cell_in(&hall, Kind::Process, caller);
     let me = Caller { slot: caller, cell };
-    shown(XOK, table, n, m, me, store, a, b)
+    let m = matrix_in(&hall);
+    shown(XOK, table, n, m, &hall, me, store, a, b)
 }
 
 // Its number apart.
@@ -187,13 +193,14 @@ pub fn view<'t, 's>(table: &'t [u32], store: &'s [u8], caller: u32, a: u32, b: u
 pub fn tray(table: &mut [u32], store: &mut [u8], records: &mut [Record], bytes: &mut [u8]) -> u32
     ensures { λ r. ⌜ Trayed (stateOf (now (table .entry)) (now (store .entry))) (now (bytes .entry)) (now (records .entry)) r (now (table .exit)) (now (store .exit)) (now (bytes .exit)) (now (records .exit)) ⌝ }
 {
-    let m = begin(table, store.len(), records.len());
-    let error = verdict(m, records.len());
+    let hall = begin(table, store.len(), records.len());
+    let m = matrix_of(hall);
+    let error = verdict(hall, records.len());
     let n = due(error, records.len());
     let mut i = 0;
     while i < n {
         let r = records[i];
-        records[i] = run(table, store, bytes, &m, r);
+        records[i] = run(table, store, bytes, &m, &hall, r);
         i += 1;
     }
     error

@@ -5,11 +5,12 @@ ghost use Prim.Native.Nat.{ℕ, _+_, _*_, _≤_, _<_, _^_};
 ghost use lib.ListN.{getD, length};
 ghost use lib.Seq.{sets};
 ghost use Rattle.rules.specs.Words.{bytes4, word4};
-ghost use Rattle.rules.specs.Layout.{configuration, flowMatrix, messages, messageWords};
+ghost use Rattle.rules.specs.Layout.{configuration, messages, messageWords};
 ghost use Rattle.rules.specs.Rule.{write};
 ghost use Rattle.rules.specs.Call15.{queued, post};
 ghost use Rattle.rules.specs.Call16.{receive};
 ghost use Rattle.calls.specs.World.{Known, Sound, wordsOf};
+ghost use Rattle.calls.specs.Handed.{Handed};
 ghost use Rattle.calls.specs.Left.{Left, ruleAt, bufferOf};
 ghost use Rattle.calls.specs.Refusing.{refusing};
 ghost use Rattle.calls.specs.Calls.{postTests};
@@ -28,6 +29,7 @@ use crate::objects::Seen;
 use crate::objects::flow_at;
 use crate::objects::look;
 use crate::objects::or_self;
+use layout::HALL_BYTES;
 use layout::Header;
 use layout::Kind;
 use rights::may_write;
@@ -151,15 +153,16 @@ pub(crate) fn post(
     t: &mut [u32],
     n: Header,
     m: [[bool; MAX_CELLS]; MAX_CELLS],
+    hall: &[u8; HALL_BYTES],
     c: Caller,
     a: u32,
     buffer: &[u8],
 ) -> Answer
-    requires { ⌜ Sound (now t) n c × (m ≡ flowMatrix (configuration (now t))) ⌝ }
+    requires { ⌜ Sound (now t) n c × Handed (configuration (now t)) m (now hall) ⌝ }
     ensures { λ r. ⌜ Left (now (t .entry)) (λ h q. post h q (c .slot) a (now (buffer .entry))) r (now (t .exit)) ⌝ }
 {
     let s = or_self(t, n, c, a);
-    let to = look(t, n, &m, c, Kind::Process, s);
+    let to = look(t, n, &m, hall, c, Kind::Process, s);
     let waiting = read(t, n, Kind::Process, to.slot, QUEUE);
     let full = MESSAGES <= wide(waiting);
     let allowed = may_write(to.rights);

@@ -2,10 +2,11 @@
 ghost use mathlib.Core.Path.{_≡_};
 ghost use mathlib.Core.List.{List};
 ghost use Prim.Native.Nat.{ℕ};
-ghost use Rattle.rules.specs.Layout.{segment, size, at, configuration, flowMatrix};
+ghost use Rattle.rules.specs.Layout.{segment, size, at, configuration};
 ghost use Rattle.rules.specs.Call19.{isMapped, conflict, remap};
 ghost use Rattle.rules.specs.Call20.{pageAccess};
 ghost use Rattle.calls.specs.World.{Known, Sound, wordsOf};
+ghost use Rattle.calls.specs.Handed.{Handed};
 ghost use Rattle.calls.specs.Left.{Left};
 ghost use Rattle.calls.specs.Refusing.{refusing};
 ghost use Rattle.calls.specs.Map.{held, takenBy, runOf, remapTests};
@@ -22,6 +23,7 @@ use crate::pages::left;
 use crate::pages::map_of;
 use crate::pages::set_pages;
 use crate::segments::access_of;
+use layout::HALL_BYTES;
 use layout::Header;
 use layout::Kind;
 use rules::ENTRIES;
@@ -126,17 +128,18 @@ pub(crate) fn remap(
     t: &mut [u32],
     n: Header,
     m: [[bool; MAX_CELLS]; MAX_CELLS],
+    hall: &[u8; HALL_BYTES],
     c: Caller,
     incoming: u32,
     b: u32,
     outgoing: u32,
 ) -> Answer
-    requires { ⌜ Sound (now t) n c × (m ≡ flowMatrix (configuration (now t))) ⌝ }
+    requires { ⌜ Sound (now t) n c × Handed (configuration (now t)) m (now hall) ⌝ }
     ensures { λ r. ⌜ ((buffer : List ℕ) → Left (now (t .entry)) (λ h q. remap h q (c .slot) incoming b outgoing buffer) r (now (t .exit))) ⌝ }
 {
     let s = entry_of(t, n, Kind::Segment, c.slot, incoming).held;
     let u = entry_of(t, n, Kind::Segment, c.slot, outgoing).held;
-    let g = look(t, n, &m, c, Kind::Segment, s);
+    let g = look(t, n, &m, hall, c, Kind::Segment, s);
     let run = run_of(t, n, g.slot);
     let map = map_of(t, n, c.slot);
     let rest = left(map, outgoing);
@@ -154,10 +157,11 @@ pub(crate) fn page_access(
     t: &[u32],
     n: Header,
     m: [[bool; MAX_CELLS]; MAX_CELLS],
+    hall: &[u8; HALL_BYTES],
     c: Caller,
     a: u32,
 ) -> Answer
-    requires { ⌜ Sound (now t) n c × (m ≡ flowMatrix (configuration (now t))) ⌝ }
+    requires { ⌜ Sound (now t) n c × Handed (configuration (now t)) m (now hall) ⌝ }
     ensures { λ r. ⌜ ((buffer : List ℕ) → Left (now (t .entry)) (λ h q. pageAccess h q (c .slot) a buffer) r (now (t .entry))) ⌝ }
 {
     let w = read(t, n, Kind::Process, c.slot, PAGES_AT + wide(a));
@@ -166,5 +170,5 @@ pub(crate) fn page_access(
     if e != XOK {
         return refused(e);
     }
-    access_of(t, n, m, c, one_less(w))
+    access_of(t, n, m, hall, c, one_less(w))
 }

@@ -2,18 +2,20 @@
 ghost use mathlib.Core.Path.{_≡_};
 ghost use mathlib.Core.Bool.{Bool, false, not};
 ghost use mathlib.Core.List.{[], _∷_};
+ghost use Prim.Native.Nat.{_+_, _<_};
 ghost use lib.ListN.{getD};
-ghost use Rattle.rules.specs.Layout.{process, segment, file, configuration, flowMatrix};
+ghost use Rattle.rules.specs.Layout.{maxSlots, process, segment, file, configuration};
 ghost use Rattle.rules.specs.Seid.{orSelf};
 ghost use Rattle.rules.specs.Find.{absent};
 ghost use Rattle.layout.specs.Kinds.{kindOf};
+ghost use Rattle.layout.specs.Hall.{cellsAt};
 ghost use Rattle.calls.specs.World.{Known, Sound, wordsOf};
+ghost use Rattle.calls.specs.Handed.{Handed};
 ghost use Rattle.calls.specs.Refusing.{refusing};
 ghost use Rattle.calls.specs.Seen.{namedOf, kindBy, Sixteen, unseen, seenOf, findTests, ownTests};
 use crate::Caller;
 use crate::base::or_refuse;
 use crate::base::read;
-use crate::room::cell_of;
 use ids::FileId;
 use ids::FileIs;
 use ids::ProcessId;
@@ -21,6 +23,7 @@ use ids::ProcessIs;
 use ids::SegmentId;
 use ids::SegmentIs;
 use ids::seid;
+use layout::HALL_BYTES;
 use layout::Header;
 use layout::Kind;
 use layout::class_of;
@@ -146,6 +149,22 @@ pub(crate) fn flow_at(m: &[[bool; MAX_CELLS]; MAX_CELLS], c: u32, d: u32) -> boo
     false
 }
 
+// A cell is kept in a byte.
+fn number_of(cell: u8) -> u32
+    ensures { λ r. ⌜ r ≡ cell ⌝ }
+{
+    cell as u32
+}
+
+// The cell of slot i of a kind, which the check found.
+pub(crate) fn cell_in(hall: &[u8; HALL_BYTES], kind: Kind, i: u32) -> u32
+    requires { ⌜ i < maxSlots ⌝ }
+    ensures { λ r. ⌜ r ≡ getD (now (hall .entry)) (cellsAt (kindOf kind) + i) 0 ⌝ }
+{
+    let at = kind.cells_at() + i as usize;
+    number_of(hall[at])
+}
+
 // What the caller sees of it: its slot and cell, whether that is the caller's own, whether what it holds may flow to the caller, whether the slot is live with that
 // serial, whether the owners are one, and the caller's rights today.
 pub(crate) struct Seen {
@@ -179,11 +198,12 @@ pub(crate) fn look(
     t: &[u32],
     n: Header,
     m: &[[bool; MAX_CELLS]; MAX_CELLS],
+    hall: &[u8; HALL_BYTES],
     c: Caller,
     kind: Kind,
     s: u32,
 ) -> Seen
-    requires { ⌜ Sound (now t) n c × (now m ≡ flowMatrix (configuration (now t))) ⌝ }
+    requires { ⌜ Sound (now t) n c × Handed (configuration (now t)) (now m) (now hall) ⌝ }
     ensures { λ r. ⌜ r ≡ seenOf (configuration (now (t .entry))) (wordsOf (now (t .entry))) (c .slot) (kindOf kind) (namedOf n (kindOf kind) s) ⌝ }
 {
     let x = name_of(n, kind, s);
@@ -192,7 +212,7 @@ pub(crate) fn look(
     }
     let slot = x.slot;
     let me = c.slot;
-    let cell = cell_of(t, n, kind, slot);
+    let cell = cell_in(hall, kind, slot);
     let at = n.record_at(kind, slot);
     let live = t[at + LIVE];
     let serial = t[at + SERIAL];

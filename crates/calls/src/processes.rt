@@ -3,12 +3,13 @@ ghost use mathlib.Core.Path.{_≡_};
 ghost use mathlib.Core.Bool.{true};
 ghost use mathlib.Core.List.{List};
 ghost use Prim.Native.Nat.{ℕ, _<_};
-ghost use Rattle.rules.specs.Layout.{process, configuration, entries, flowMatrix};
+ghost use Rattle.rules.specs.Layout.{process, configuration, entries};
 ghost use Rattle.rules.specs.Rule.{write};
 ghost use Rattle.rules.specs.Call01.{spawn};
 ghost use Rattle.rules.specs.Call02.{dropped, droppedTo, releaseProcess};
 ghost use Rattle.layout.specs.Kinds.{kindOf};
 ghost use Rattle.calls.specs.World.{Known, Sound, wordsOf, holdable};
+ghost use Rattle.calls.specs.Handed.{Handed};
 ghost use Rattle.calls.specs.Left.{Left};
 ghost use Rattle.calls.specs.Seen.{slotFound};
 ghost use Rattle.calls.specs.Holding.{Holding, HoldingAt};
@@ -28,6 +29,7 @@ use crate::objects::or_self;
 use crate::objects::own;
 use crate::room::Slot;
 use ids::seid;
+use layout::HALL_BYTES;
 use layout::Header;
 use layout::Kind;
 use rules::ENTRIES;
@@ -111,14 +113,15 @@ pub(crate) fn release_process(
     t: &mut [u32],
     n: Header,
     m: [[bool; MAX_CELLS]; MAX_CELLS],
+    hall: &[u8; HALL_BYTES],
     c: Caller,
     a: u32,
 ) -> Answer
-    requires { ⌜ Sound (now t) n c × (m ≡ flowMatrix (configuration (now t))) ⌝ }
+    requires { ⌜ Sound (now t) n c × Handed (configuration (now t)) m (now hall) ⌝ }
     ensures { λ r. ⌜ ((buffer : List ℕ) → Left (now (t .entry)) (λ h q. releaseProcess h q (c .slot) a buffer) r (now (t .exit))) ⌝ }
 {
     let s = or_self(t, n, c, a);
-    let q = look(t, n, &m, c, Kind::Process, s);
+    let q = look(t, n, &m, hall, c, Kind::Process, s);
     let e = own(XOK, q, Kind::Process);
     if e != XOK {
         return refused(e);

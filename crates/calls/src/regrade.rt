@@ -4,10 +4,11 @@ ghost use Prim.Native.Nat.{_+_, _*_, _≤_, _<_, _^_};
 ghost use lib.ListN.{length};
 ghost use lib.Seq.{sets};
 ghost use Rattle.rules.specs.Words.{part, word2};
-ghost use Rattle.rules.specs.Layout.{maxSlots, maxSerial, blockBytes, file, configuration, flowMatrix, storeBytes, at, serial};
+ghost use Rattle.rules.specs.Layout.{maxSlots, maxSerial, blockBytes, file, configuration, storeBytes, at, serial};
 ghost use Rattle.rules.specs.Seid.{class, seid};
 ghost use Rattle.layout.specs.Header.{recordOf};
 ghost use Rattle.calls.specs.World.{Known, Sound, wordsOf};
+ghost use Rattle.calls.specs.Handed.{Handed};
 ghost use Rattle.calls.specs.Entries.{madeAt};
 ghost use Rattle.calls.specs.Regrade.{Apart, Copyable, FoundIn, RegradeLeft};
 use crate::Answer;
@@ -24,6 +25,7 @@ use crate::objects::look;
 use crate::room::Slot;
 use crate::room::free_slot;
 use ids::seid;
+use layout::HALL_BYTES;
 use layout::Header;
 use layout::Kind;
 use rules::BLOCK_BYTES;
@@ -110,6 +112,7 @@ pub(crate) fn regrade(
     store: &mut [u8],
     n: Header,
     m: [[bool; MAX_CELLS]; MAX_CELLS],
+    hall: &[u8; HALL_BYTES],
     me: Caller,
     g: Slot,
     a: u32,
@@ -117,11 +120,11 @@ pub(crate) fn regrade(
     c: u32,
     buffer: &[u8],
 ) -> Answer
-    requires { ⌜ Sound (now t) n me × (m ≡ flowMatrix (configuration (now t))) × (length (now store) ≡ storeBytes (configuration (now t))) × FoundIn (now t) b g ⌝ }
+    requires { ⌜ Sound (now t) n me × Handed (configuration (now t)) m (now hall) × (length (now store) ≡ storeBytes (configuration (now t))) × FoundIn (now t) b g ⌝ }
     ensures { λ r. ⌜ RegradeLeft (now (t .entry)) (now (store .entry)) (me .slot) a b c (now (buffer .entry)) r (now (t .exit)) (now (store .exit)) ⌝ }
 {
     let d = entry_of(t, n, Kind::File, me.slot, a);
-    let f = look(t, n, &m, me, Kind::File, d.held);
+    let f = look(t, n, &m, hall, me, Kind::File, d.held);
     let size = read(t, n, Kind::File, f.slot, SIZE);
     let u = to_read(d.used);
     let at_desk = n.guard == me.cell + 1;

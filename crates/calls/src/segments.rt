@@ -4,13 +4,14 @@ ghost use mathlib.Core.Bool.{_&&_};
 ghost use mathlib.Core.List.{List};
 ghost use Prim.Native.Nat.{ℕ};
 ghost use lib.Dec.{eqb};
-ghost use Rattle.rules.specs.Layout.{segment, configuration, flowMatrix};
+ghost use Rattle.rules.specs.Layout.{segment, configuration};
 ghost use Rattle.rules.specs.WellFormed.{segmentSize};
 ghost use Rattle.rules.specs.Call03.{buildSegment};
 ghost use Rattle.rules.specs.Call04.{alreadyHeld, rendezvous};
 ghost use Rattle.rules.specs.Call06.{setAccess};
 ghost use Rattle.rules.specs.Call18.{accessOf};
 ghost use Rattle.calls.specs.World.{Known, Sound, wordsOf};
+ghost use Rattle.calls.specs.Handed.{Handed};
 ghost use Rattle.calls.specs.Left.{Left};
 ghost use Rattle.calls.specs.Seen.{slotFound};
 ghost use Rattle.calls.specs.Calls.{ownerAccess};
@@ -30,6 +31,7 @@ use crate::objects::or_self;
 use crate::room::Slot;
 use crate::room::free_entry;
 use ids::seid;
+use layout::HALL_BYTES;
 use layout::Header;
 use layout::Kind;
 use rights::access;
@@ -148,15 +150,16 @@ pub(crate) fn rendezvous(
     t: &mut [u32],
     n: Header,
     m: [[bool; MAX_CELLS]; MAX_CELLS],
+    hall: &[u8; HALL_BYTES],
     c: Caller,
     a: u32,
     b: u32,
 ) -> Answer
-    requires { ⌜ Sound (now t) n c × (m ≡ flowMatrix (configuration (now t))) ⌝ }
+    requires { ⌜ Sound (now t) n c × Handed (configuration (now t)) m (now hall) ⌝ }
     ensures { λ r. ⌜ ((buffer : List ℕ) → Left (now (t .entry)) (λ h q. rendezvous h q (c .slot) a b buffer) r (now (t .exit))) ⌝ }
 {
     let s = or_self(t, n, c, a);
-    let g = look(t, n, &m, c, Kind::Segment, s);
+    let g = look(t, n, &m, hall, c, Kind::Segment, s);
     let d = free_entry(t, n, Kind::Segment, c.slot);
     let sharable = read(t, n, Kind::Segment, g.slot, SHARABLE);
     let forbidden = !g.flows | (asks_write(b) & !g.own);
@@ -181,15 +184,16 @@ pub(crate) fn set_access(
     t: &mut [u32],
     n: Header,
     m: [[bool; MAX_CELLS]; MAX_CELLS],
+    hall: &[u8; HALL_BYTES],
     c: Caller,
     a: u32,
     b: u32,
 ) -> Answer
-    requires { ⌜ Sound (now t) n c × (m ≡ flowMatrix (configuration (now t))) ⌝ }
+    requires { ⌜ Sound (now t) n c × Handed (configuration (now t)) m (now hall) ⌝ }
     ensures { λ r. ⌜ ((buffer : List ℕ) → Left (now (t .entry)) (λ h q. setAccess h q (c .slot) a b buffer) r (now (t .exit))) ⌝ }
 {
     let d = entry_of(t, n, Kind::Segment, c.slot, a);
-    let g = look(t, n, &m, c, Kind::Segment, d.held);
+    let g = look(t, n, &m, hall, c, Kind::Segment, d.held);
     let e = or_refuse(XOK, !valid_access(b), XB_PARAM);
     let e = or_refuse(e, ENTRIES <= wide(a), XN_SG_DES);
     let e = or_refuse(e, d.held == 0, XB_SG_DES);
@@ -208,14 +212,15 @@ pub(crate) fn access_of(
     t: &[u32],
     n: Header,
     m: [[bool; MAX_CELLS]; MAX_CELLS],
+    hall: &[u8; HALL_BYTES],
     c: Caller,
     a: u32,
 ) -> Answer
-    requires { ⌜ Sound (now t) n c × (m ≡ flowMatrix (configuration (now t))) ⌝ }
+    requires { ⌜ Sound (now t) n c × Handed (configuration (now t)) m (now hall) ⌝ }
     ensures { λ r. ⌜ ((buffer : List ℕ) → Left (now (t .entry)) (λ h q. accessOf h q (c .slot) a buffer) r (now (t .entry))) ⌝ }
 {
     let d = entry_of(t, n, Kind::Segment, c.slot, a);
-    let g = look(t, n, &m, c, Kind::Segment, d.held);
+    let g = look(t, n, &m, hall, c, Kind::Segment, d.held);
     let e = or_refuse(XOK, ENTRIES <= wide(a), XN_SG_DES);
     let e = or_refuse(e, d.held == 0, XB_SG_DES);
     let e = or_refuse(e, !g.present, XB_SG_SD);

@@ -4,11 +4,12 @@ ghost use Prim.Native.Nat.{_<_};
 ghost use mathlib.Core.List.{[], _∷_};
 ghost use lib.Seq.{sets};
 ghost use Rattle.rules.specs.Claim.{Holds};
-ghost use Rattle.rules.specs.Layout.{cells, configuration, flowMatrix};
+ghost use Rattle.rules.specs.Layout.{cells, configuration};
 ghost use Rattle.rules.specs.WellFormed.{configured};
 ghost use Rattle.rules.specs.Call17.{statusOf, status};
 ghost use Rattle.layout.specs.Kinds.{kindOf};
 ghost use Rattle.calls.specs.World.{Known, Sound, wordsOf};
+ghost use Rattle.calls.specs.Handed.{Handed};
 ghost use Rattle.calls.specs.Left.{answerOf, bufferOf, ruleAt};
 ghost use Rattle.calls.specs.Told.{toldAt};
 use crate::Answer;
@@ -21,6 +22,7 @@ use crate::objects::find;
 use crate::objects::kind_by;
 use crate::objects::look;
 use crate::objects::or_self;
+use layout::HALL_BYTES;
 use layout::Header;
 use layout::Kind;
 use levels::level_at;
@@ -73,15 +75,16 @@ fn status_of(
     t: &[u32],
     n: Header,
     m: [[bool; MAX_CELLS]; MAX_CELLS],
+    hall: &[u8; HALL_BYTES],
     c: Caller,
     kind: Kind,
     s: u32,
     buffer: &mut [u8],
 ) -> Answer
-    requires { ⌜ Sound (now t) n c × (m ≡ flowMatrix (configuration (now t))) ⌝ }
+    requires { ⌜ Sound (now t) n c × Handed (configuration (now t)) m (now hall) ⌝ }
     ensures { λ r. ⌜ (r ≡ answerOf (ruleAt (now (t .entry)) (λ h q. statusOf h q (c .slot) s (now (buffer .entry)) (kindOf kind)))) × (now (buffer .exit) ≡ bufferOf (now (buffer .entry)) (ruleAt (now (t .entry)) (λ h q. statusOf h q (c .slot) s (now (buffer .entry)) (kindOf kind)))) ⌝ }
 {
-    let x = look(t, n, &m, c, kind, s);
+    let x = look(t, n, &m, hall, c, kind, s);
     let e = or_refuse(XOK, buffer.len() != STATUS_BYTES, XB_SZ);
     let e = find(e, x, kind, !x.flows);
     if e != XOK {
@@ -100,14 +103,15 @@ pub(crate) fn status(
     t: &[u32],
     n: Header,
     m: [[bool; MAX_CELLS]; MAX_CELLS],
+    hall: &[u8; HALL_BYTES],
     c: Caller,
     a: u32,
     buffer: &mut [u8],
 ) -> Answer
-    requires { ⌜ Sound (now t) n c × (m ≡ flowMatrix (configuration (now t))) ⌝ }
+    requires { ⌜ Sound (now t) n c × Handed (configuration (now t)) m (now hall) ⌝ }
     ensures { λ r. ⌜ (r ≡ answerOf (ruleAt (now (t .entry)) (λ h q. status h q (c .slot) a (now (buffer .entry))))) × (now (buffer .exit) ≡ bufferOf (now (buffer .entry)) (ruleAt (now (t .entry)) (λ h q. status h q (c .slot) a (now (buffer .entry))))) ⌝ }
 {
     let s = or_self(t, n, c, a);
     let kind = kind_by(s);
-    status_of(t, n, m, c, kind, s, buffer)
+    status_of(t, n, m, hall, c, kind, s, buffer)
 }

@@ -2,8 +2,12 @@
 ghost use mathlib.Core.Path.{_≡_};
 ghost use mathlib.Core.Bool.{cond};
 ghost use mathlib.Core.List.{[]};
+ghost use Prim.Native.Nat.{_<_};
 ghost use lib.Dec.{eqb, ltb};
+ghost use Rattle.rules.specs.Words.{tabFrom};
+ghost use Rattle.rules.specs.Layout.{maxCells};
 ghost use Rattle.rules.specs.Tray.{mostRecords};
+ghost use Rattle.layout.specs.Hall.{flowByte, matrixIn};
 ghost use Rattle.kept.proofs.Recorded.{outsideNumber};
 ghost use Rattle.calls.specs.World.{Known};
 ghost use Rattle.calls.specs.Left.{said};
@@ -15,6 +19,8 @@ use crate::bad_caller;
 use crate::bad_code;
 use crate::base::refused;
 use crate::call_judged;
+use layout::FLOWS_AT;
+use layout::HALL_BYTES;
 use layout::Header;
 use layout::header_of;
 use rules::MAX_CELLS;
@@ -35,32 +41,56 @@ fn too_long(count: usize) -> bool
     MOST_RECORDS < count
 }
 
-// The flow matrix of a table on which a tray of so many records is run. Where none is, a matrix in which no cell flows to any, not even to itself. The table stays.
-pub(crate) fn begin(
-    t: &mut [u32],
-    store_bytes: usize,
-    count: usize,
-) -> [[bool; MAX_CELLS]; MAX_CELLS]
-    ensures { λ m. ⌜ (m ≡ begun (now (t .entry)) «store_bytes» «count») × (now (t .exit) ≡ now (t .entry)) ⌝ }
+// What judging hands on of a table on which a tray of so many records is run. Where none is, zeros: no cell flows to any, not even to itself. The table stays.
+pub(crate) fn begin(t: &mut [u32], store_bytes: usize, count: usize) -> [u8; HALL_BYTES]
+    ensures { λ hall. ⌜ (hall ≡ begun (now (t .entry)) «store_bytes» «count») × (now (t .exit) ≡ now (t .entry)) ⌝ }
 {
-    let mut m = [[false; MAX_CELLS]; MAX_CELLS];
+    let mut hall = [0u8; HALL_BYTES];
     if too_long(count) {
-        return m;
+        return hall;
     }
-    if table::judge(t, store_bytes, &mut m) {
-        return m;
-    }
-    [[false; MAX_CELLS]; MAX_CELLS]
+    table::judge(t, store_bytes, &mut hall);
+    hall
 }
 
-// The tray's own answer, by the matrix that its judging handed on: "a longer one is refused with 4, then a bad table with 1".
-pub(crate) fn verdict(m: [[bool; MAX_CELLS]; MAX_CELLS], count: usize) -> u32
-    ensures { λ v. ⌜ v ≡ verdictOf m «count» ⌝ }
+// Row c of the flow matrix, by what the judging handed on.
+fn row_in(hall: &[u8; HALL_BYTES], c: usize) -> [bool; MAX_CELLS]
+    requires { ⌜ c < maxCells ⌝ }
+    ensures { λ r. ⌜ r ≡ tabFrom 0 maxCells (flowByte (now (hall .entry)) c) ⌝ }
+{
+    let mut row = [false; MAX_CELLS];
+    for d in 0..MAX_CELLS {
+        row[d] = hall[FLOWS_AT + (MAX_CELLS * c + d)] == 1;
+    }
+    row
+}
+
+// The flow matrix, as the call functions take it.
+pub(crate) fn matrix_in(hall: &[u8; HALL_BYTES]) -> [[bool; MAX_CELLS]; MAX_CELLS]
+    ensures { λ m. ⌜ m ≡ matrixIn (now (hall .entry)) ⌝ }
+{
+    let mut m = [[false; MAX_CELLS]; MAX_CELLS];
+    for c in 0..MAX_CELLS {
+        m[c] = row_in(hall, c);
+    }
+    m
+}
+
+// The same for `tray`, which lends nothing before its loop.
+pub(crate) fn matrix_of(hall: [u8; HALL_BYTES]) -> [[bool; MAX_CELLS]; MAX_CELLS]
+    ensures { λ m. ⌜ m ≡ matrixIn hall ⌝ }
+{
+    matrix_in(&hall)
+}
+
+// The tray's own answer, by what its judging handed on: "a longer one is refused with 4, then a bad table with 1".
+pub(crate) fn verdict(hall: [u8; HALL_BYTES], count: usize) -> u32
+    ensures { λ v. ⌜ v ≡ verdictOf hall «count» ⌝ }
 {
     if too_long(count) {
         return XB_PARAM;
     }
-    if m[0][0] {
+    if hall[FLOWS_AT] == 1 {
         return XOK;
     }
     XB_TAB
@@ -109,9 +139,10 @@ pub(crate) fn run(
     store: &mut [u8],
     bytes: &mut [u8],
     m: &[[bool; MAX_CELLS]; MAX_CELLS],
+    hall: &[u8; HALL_BYTES],
     r: Record,
 ) -> Record
-    requires { ⌜ Ready (now t) (now store) (now m) ⌝ }
+    requires { ⌜ Ready (now t) (now store) (now m) (now hall) ⌝ }
     ensures { λ y. ⌜ Ran (stateOf (now (t .entry)) (now (store .entry))) (now (bytes .entry)) r y (now (t .exit)) (now (store .exit)) (now (bytes .exit)) ⌝ }
 {
     let from = wide(r.offset);
@@ -121,6 +152,7 @@ pub(crate) fn run(
             t,
             store,
             m,
+            hall,
             r.caller,
             r.code,
             r.a,

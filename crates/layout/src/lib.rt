@@ -5,6 +5,7 @@ ghost use Rattle.rules.specs.Layout.{process, file, recordWords, cellSlotsWord,
 ghost use Rattle.rules.specs.Seid.{class, classOf, indexOf, serialOf, isSeid};
 ghost use Rattle.layout.specs.Kinds.{kindOf};
 ghost use Rattle.layout.specs.Header.{headerOf, slotsOf, baseOf, recordOf};
+ghost use Rattle.layout.specs.Hall.{cellsAt};
 use rules::BITS;
 use rules::BLOCKS;
 use rules::CELL_FILES;
@@ -18,6 +19,8 @@ use rules::FILE_WORDS;
 use rules::FILES;
 use rules::GUARD;
 use rules::HEADER_WORDS;
+use rules::MAX_CELLS;
+use rules::MAX_SLOTS;
 use rules::OPENS;
 use rules::PROCESS_BITS;
 use rules::PROCESS_CLASS;
@@ -90,7 +93,23 @@ impl Kind {
             Kind::File => OPENS,
         }
     }
+
+    // Where the cells of the kind's slots begin in what the check hands on.
+    pub fn cells_at(self) -> usize
+        ensures { λ r. ⌜ r ≡ cellsAt (kindOf self) ⌝ }
+    {
+        match self {
+            Kind::Process => 0,
+            Kind::Segment => MAX_SLOTS,
+            Kind::File => 2 * MAX_SLOTS,
+        }
+    }
 }
+
+// What the check hands on of a table, in bytes: the cell of every slot, kind by kind; then the sixteen by sixteen table of which cell may flow to which, row by row.
+pub const FLOWS_AT: usize = 3 * MAX_SLOTS;
+
+pub const HALL_BYTES: usize = FLOWS_AT + MAX_CELLS * MAX_CELLS;
 
 // The header's numbers.
 pub struct Header {

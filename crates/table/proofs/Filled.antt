@@ -1,32 +1,34 @@
--- A list that is filled from the front with the cell of each slot, run by run.
+-- A list of zeros that is filled from the front with the cell of each slot, run by run.
 use mathlib.Core.Path.{_≡_, sym, ap, _∙_}
 use mathlib.Core.List.{List}
-use Prim.Native.Nat.{ℕ, _+_, _*_, _≤_, _<_}
+use Prim.Native.Nat.{ℕ, _+_, _≤_, _<_}
 use native.Mathlib.Numerals.{add-one}
 use native.Mathlib.Omega.{arith}
-use borrow.Author.Count.{below-more}
-use lib.ListN.{length, getD, set}
-use lib.Seq.{getD-set-same, getD-set-other}
+use lib.Dec.{ltb}
+use lib.ListN.{getD, set, replicate, length-replicate, getD-replicate}
+use borrow.Author.Tests.{lt-ltb, le-ltb}
+use Rattle.rules.specs.Words.{tabFrom}
 use Rattle.rules.specs.Layout.{maxSlots, Kind, cellWords, cells, slots, cellWord, cellSlots, cellSlotsWord, firstSlot, cellOf, configuration, cellAt}
+use Rattle.laws.proofs.Tests.{cond-true, cond-false}
+use Rattle.laws.proofs.Tab.{is-tab}
+use Rattle.laws.proofs.Fill.{tab-at, upTo, upTo-more}
 use Rattle.laws.proofs.Cells.{first-next, first-grows, cell-run}
 use Rattle.layout.specs.declared.Header.{Header}
-use Rattle.table.specs.Shape.{Shaped}
+use Rattle.layout.specs.Hall.{cellByte, slotCells}
+use Rattle.table.specs.Shape.{Shaped, CellsOf}
 use Rattle.table.proofs.Config.{cell-word, slots-read, slots-small}
 
--- l has the cell of each of the first i slots
-abbrev pub CellsTo : List ℕ → Kind → ℕ → List ℕ → Type 0
-CellsTo h k i l = (j : ℕ) → j < i → getD l j 0 ≡ cellOf h k j
+-- the list that has the cell of each of the first i slots, and 0 from there on
+abbrev pub cellsTo : List ℕ → Kind → ℕ → List ℕ
+cellsTo h k i = tabFrom 0 maxSlots (upTo 0 (cellOf h k) i)
 
 module _ (t : List ℕ) (n : Header) (s : Shaped t n) (k : Kind) where
+  pub few-slots : slots (configuration t) k ≤ maxSlots
+  few-slots = omega (arith, slots-read t n (s .framed .header) k, slots-small n (s .framed .small) k)
+
   pub run-fits : (c : ℕ) → c < n .cells → n .cells ≡ cells (configuration t) → firstSlot (configuration t) k (c + 1) ≤ maxSlots
   run-fits c l e =
-      omega (
-        arith,
-        first-grows (configuration t) k (c + 1) (cells (configuration t)) (omega arith),
-        s .sums k,
-        slots-read t n (s .framed .header) k,
-        slots-small n (s .framed .small) k,
-      )
+      omega (arith, first-grows (configuration t) k (c + 1) (cells (configuration t)) (omega arith), s .sums k, few-slots)
 
   -- the run of a cell ends where its words say
   pub run-next : (c w x : ℕ) → c < getD t 0 0 → w < cellWords → cellSlotsWord k ≡ w → x ≡ getD t (cellAt c w) 0
@@ -35,9 +37,28 @@ module _ (t : List ℕ) (n : Header) (s : Shaped t n) (k : Kind) where
       rw add-one
       (ap (firstSlot (configuration t) k c +_) (q ∙ sym (cell-word t c w l m) ∙ ap (cellWord (configuration t) c) (sym e)) ∙ sym (first-next (configuration t) k c))
 
+-- zeros are a list of which nothing is filled yet
+zeros-are : (n : ℕ) (f : ℕ → ℕ) → replicate n 0 ≡ tabFrom 0 n (upTo 0 f 0)
+zeros-are n f =
+    is-tab n (upTo 0 f 0) 0 (replicate n 0) (length-replicate n 0)
+    (λ j lt. getD-replicate n j 0 0 lt ∙ sym (cond-false (ltb j 0) (f j) 0 (le-ltb j 0 (omega arith))))
+
 module _ (h : List ℕ) (k : Kind) where
-  pub filled-more : (l : List ℕ) (i c : ℕ) → i < length l → c < cells h → firstSlot h k c ≤ i → i < firstSlot h k (c + 1) → CellsTo h k i l → CellsTo h k (i + 1) (set l i c)
-  filled-more l i c m lc lo hi f =
+  pub filled-none : (l : List ℕ) → l ≡ replicate maxSlots 0 → l ≡ cellsTo h k 0
+  filled-none l e = e ∙ zeros-are maxSlots (cellOf h k)
+
+  pub filled-more : (l : List ℕ) (i c : ℕ) → i < maxSlots → c < cells h → firstSlot h k c ≤ i → i < firstSlot h k (c + 1) → l ≡ cellsTo h k i
+      → set l i c ≡ cellsTo h k (i + 1)
+  filled-more l i c m lc lo hi e =
       let end : firstSlot h k (c + 1) ≡ firstSlot h k c + cellSlots h k c = ap (firstSlot h k) (add-one c) ∙ first-next h k c in
-      below-more (λ j. getD (set l i c) j 0 ≡ cellOf h k j) i (λ j lt. getD-set-other l i j c 0 (omega arith) ∙ f j lt)
-      (getD-set-same l i c 0 m ∙ sym (cell-run h k i c lc lo (omega arith)))
+      upTo-more 0 (cellOf h k) maxSlots i l c m e (sym (cell-run h k i c lc lo (omega arith)))
+
+  pub filled-all : (l : List ℕ) (i : ℕ) → i ≡ slots h k → l ≡ cellsTo h k i → l ≡ slotCells h k
+  unfolding slotCells
+  filled-all l i q e = rw q at e
+
+  -- which has the cell of every slot
+  pub cells-of : (l : List ℕ) → slots h k ≤ maxSlots → l ≡ slotCells h k → CellsOf h k l
+  unfolding slotCells
+  cells-of l few e i lt =
+      ap (λ (x : List ℕ). getD x i 0) e ∙ tab-at maxSlots (cellByte h k) i 0 (omega arith) ∙ cond-true (ltb i (slots h k)) (cellOf h k i) 0 (lt-ltb i (slots h k) lt)

@@ -1,14 +1,14 @@
 -- The whole claim: a shape that is wrong refutes it, and once the shape is right the records decide.
 use mathlib.Core.Path.{_≡_, refl}
-use mathlib.Core.Bool.{Bool, true, false, _&&_, cond}
+use mathlib.Core.Bool.{Bool, true, false, _&&_}
 use mathlib.Core.List.{List}
 use Prim.Native.Nat.{ℕ}
 use lib.ListN.{length}
 use Rattle.rules.specs.Claim.{test, each}
-use Rattle.rules.specs.Layout.{process, segment, file, slots, flowMatrix, configuration, Addr, rd}
+use Rattle.rules.specs.Layout.{process, segment, file, slots, configuration, Addr, rd}
 use Rattle.rules.specs.WellFormed.{headerOk, configured, lengthsExact, processOk, segmentOk, fileOk, recordsOk, wellFormed}
 use Rattle.rules.specs.SetUp.{canSetUp}
-use Rattle.laws.proofs.Tests.{and-left, and-right, and-both, cond-true}
+use Rattle.laws.proofs.Tests.{and-left, and-right}
 use Rattle.laws.proofs.Claims.{holds}
 use Rattle.laws.proofs.Shape.{shape-of}
 use Rattle.layout.specs.declared.Header.{Header}
@@ -45,18 +45,6 @@ module _ (t : List ℕ) (m : ℕ) where
   pub shapen : test (canSetUp t m) ≡ true → test (recordsOk (configuration t) (rd (configuration t) t)) ≡ test (wellFormed t m)
   unfolding canSetUp wellFormed
   shapen e = both-true (test (configured (configuration t))) (test (lengthsExact (configuration t) (length t) m)) _ e
-
-  -- a table that is well formed has a right shape; so judge, when it says yes, has left the flow matrix
-  pub well-shaped : test (wellFormed t m) ≡ true → test (canSetUp t m) ≡ true
-  unfolding canSetUp wellFormed
-  well-shaped e =
-      let a = test (configured (configuration t)) in
-      let b = test (lengthsExact (configuration t) (length t) m) in
-      and-both a b (and-left a _ e) (and-left b _ (and-right a _ e))
-
-  pub flow-left : (before : List (List Bool)) → test (wellFormed t m) ≡ true
-      → cond (test (canSetUp t m)) (flowMatrix (configuration t)) before ≡ flowMatrix (configuration t)
-  flow-left before e = cond-true (test (canSetUp t m)) (flowMatrix (configuration t)) before (well-shaped e)
 
 -- ---- the records
 

@@ -10,4 +10,5 @@ pub mod Alive
 pub mod Owned
 pub mod Object
 pub mod Formed
+pub mod Told
 pub mod Begun

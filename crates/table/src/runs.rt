@@ -1,9 +1,10 @@
 // Each cell owns a run of slots of each kind, in cell order.
 ghost use mathlib.Core.Path.{_≡_};
-ghost use lib.ListN.{length};
+ghost use lib.ListN.{replicate};
 ghost use Rattle.rules.specs.Layout.{maxSlots, configuration};
 ghost use Rattle.layout.specs.Kinds.{kindOf};
-ghost use Rattle.table.specs.Shape.{Shaped, CellsOf};
+ghost use Rattle.layout.specs.Hall.{slotCells};
+ghost use Rattle.table.specs.Shape.{Shaped};
 use layout::Header;
 use layout::Kind;
 use rules::CELL_WORDS;
@@ -17,10 +18,11 @@ pub(crate) fn index(c: u8) -> usize
     c as usize
 }
 
-// The cell of every slot of a kind, filled run by run in one pass over the cells. The list is filled where it stands: to hand it back would be to copy it.
+// The cell of every slot of a kind, filled run by run in one pass over the cells; past the last slot the list stays 0. It is filled where it stands: to hand it back
+// would be to copy it.
 pub(crate) fn slot_cells(t: &[u32], n: Header, kind: Kind, of: &mut [u8])
-    requires { ⌜ Shaped (now t) n × (length (now of) ≡ maxSlots) ⌝ }
-    ensures { λ _. ⌜ CellsOf (configuration (now (t .entry))) (kindOf kind) (now (of .exit)) ⌝ }
+    requires { ⌜ Shaped (now t) n × (now of ≡ replicate maxSlots 0) ⌝ }
+    ensures { λ _. ⌜ now (of .exit) ≡ slotCells (configuration (now (t .entry))) (kindOf kind) ⌝ }
 {
     let k = kind.cell_word();
     let mut i = 0;

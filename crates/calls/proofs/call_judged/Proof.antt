@@ -1,7 +1,7 @@
 -- `call_judged` meets its contract: the caller's refusal, the code's, or the rule of the code carried out.
 use borrow.Author.Needs.{needs}
 use Rattle.calls.specs.World.{Judged}
-use Rattle.calls.proofs.Whole.{known, store-long, sound, no-caller, no-code, all-done, good-code}
+use Rattle.calls.proofs.Whole.{known, store-long, caller-few, sound, no-caller, no-code, all-done, good-code}
 use Rattle.calls.proofs.TrayLaws.{ready-judged}
 use Rattle.calls.proofs.call_judged.Statement.{statement}
 use Rattle.calls.proofs.call_judged.Tie as tie
@@ -11,6 +11,7 @@ start c = c .before .before .before .before .before
 
 -- the header that was read is the judged table's
 judged : (c : tie.After-header-of) → Judged (start c .args .t .now) (start c .args .store .now) (c .header-of .result) (start c .args .m .now)
+    (start c .args .hall .now)
 judged c = ready-judged (start c .pre) (c .header-of .ensures)
 
 header-of-requires : tie.Need-header-of-requires
@@ -46,16 +47,18 @@ returns-2 c =
     no-code (judged at-header-of) _ (at-bad-caller .bad-caller .ensures) _ _ _ _ _ (at-if1 .if1 .left) (at-bad-code .bad-code .ensures) (at-if2 .if2 .taken)
     (c .refused2 .ensures)
 
-cell-of-requires : tie.Need-cell-of-requires
-cell-of-requires c κs = known (judged (c .before .before .before .before .before .before))
+cell-in-requires : tie.Need-cell-in-requires
+cell-in-requires c κs =
+    let at-if2 = c in let at-if1 = at-if2 .before .before in let at-bad-caller = at-if1 .before in let at-header-of = at-bad-caller .before .before in
+    caller-few (judged at-header-of) _ (at-bad-caller .bad-caller .ensures) (at-if1 .if1 .left)
 
 carry-out-requires : tie.Need-carry-out-requires
 carry-out-requires c κs =
-    let at-cell-of = c .before .before .before in let at-if2 = at-cell-of .before .before in let at-bad-code = at-if2 .before in
+    let at-cell-in = c .before .before .before in let at-if2 = at-cell-in .before in let at-bad-code = at-if2 .before in
     let at-if1 = at-bad-code .before in let at-bad-caller = at-if1 .before in let at-header-of = at-bad-caller .before .before in
     let g = good-code _ (at-bad-code .bad-code .ensures) (at-if2 .if2 .left) in (
-      sound (judged at-header-of) _ (at-bad-caller .bad-caller .ensures) (at-if1 .if1 .left) (at-cell-of .cell-of .ensures),
-      start at-header-of .pre .matrix,
+      sound (judged at-header-of) _ (at-bad-caller .bad-caller .ensures) (at-if1 .if1 .left) (at-cell-in .cell-in .ensures),
+      start at-header-of .pre .handed,
       store-long (judged at-header-of),
       g .0,
       g .1,
@@ -73,7 +76,7 @@ same-length-5 c = search needs
 returns-3 : tie.Need-returns-3
 returns-3 c =
     let at-carry-out = c .before .before .before .before .before .before in
-    let at-if2 = at-carry-out .before .before .before .before .before .before in let at-bad-code = at-if2 .before in
+    let at-if2 = at-carry-out .before .before .before .before .before in let at-bad-code = at-if2 .before in
     let at-if1 = at-bad-code .before in let at-bad-caller = at-if1 .before in let at-header-of = at-bad-caller .before .before in
     all-done (judged at-header-of) _ (at-bad-caller .bad-caller .ensures) _ _ _ _ _ (at-if1 .if1 .left) (at-bad-code .bad-code .ensures) (at-if2 .if2 .left)
     (at-carry-out .carry-out .ensures)
@@ -91,7 +94,7 @@ call-judged-spec =
     refused-requires-2
     same-length-2
     returns-2
-    cell-of-requires
+    cell-in-requires
     carry-out-requires
     same-length-3
     same-length-4

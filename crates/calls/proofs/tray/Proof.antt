@@ -1,7 +1,7 @@
 -- `tray` meets its contract: a walk of its MIR, by hand, since a slice of structs is lent. The records' borrow is opened once before the loop and closed once after it; in
--- each turn the table, the store and the bytes are lent again to `run`, each for a lifetime of its own. The matrix is lent once, for a lifetime from before the loop
--- to after it, and each turn passes a copy of that reference. `Going` says what holds where a turn begins.
--- tools/walk.py writes this file: it computes the positions in the context (local k of 26 stands at base + 2 * (26 - k)).
+-- each turn the table, the store and the bytes are lent again to `run`, each for a lifetime of its own. The hall and the matrix are lent once, each for a lifetime
+-- from before the loop to after it, and each turn passes a copy of those references. `Going` says what holds where a turn begins.
+-- tools/walk.py writes this file: it computes the positions in the context (local k of 29 stands at base + 2 * (29 - k)).
 -- Assumes nothing.
 use mathlib.Core.Bool.{Bool, true, false, cond}
 use mathlib.Core.Path.{_≡_, refl, sym, ap, subst, _∙_}
@@ -33,7 +33,7 @@ use denote.RattleType.{RattleType, owns}
 use denote.Shadow.{pureI}
 use denote.Laws.{Is, shows, Makes, Tells, Lawful}
 use denote.Memory.{pointee}
-use denote.Plain.{uint-makes, uint-lawful, bool-vals, bool-tells, bool-makes, bool-lawful}
+use denote.Plain.{uint-vals, uint-tells, uint-makes, uint-lawful, bool-vals, bool-tells, bool-makes, bool-lawful}
 use denote.Array.{Array, array-vals, array-tells, array-makes, array-lawful}
 use denote.Builtin.{bool, u8, u32, usize}
 use denote.Ref.{RefT, ShrRef, shr-copy}
@@ -52,6 +52,7 @@ use denote.Triple.Walked.{says, Stays, stay-slice, walkOf, goes-slice, Walks, en
 use denote.Signature.{plain}
 use Rattle.calls.specs.declared.Record.{Record}
 use Rattle.rules.specs.Tray.{trayAnswer}
+use Rattle.layout.specs.Hall.{hallBytes, matrixIn}
 use Rattle.calls.specs.Did.{stateOf}
 use Rattle.calls.specs.Tray.{recordsOf, Ran, Ready, Trayed, begun, verdictOf}
 use Rattle.calls.proofs.Record as T
@@ -74,6 +75,10 @@ use Rattle.calls.proofs.trays.begin as begin
 use Rattle.calls.proofs.trays.begin.Symbol as begin-def
 use Rattle.calls.proofs.trays.begin.Symbol.{name as #begin}
 use Rattle.calls.proofs.trays.begin.Met as begin-thm
+use Rattle.calls.proofs.trays.matrix_of as matrix
+use Rattle.calls.proofs.trays.matrix_of.Symbol as matrix-def
+use Rattle.calls.proofs.trays.matrix_of.Symbol.{name as #matrix}
+use Rattle.calls.proofs.trays.matrix_of.Met as matrix-thm
 use Rattle.calls.proofs.tray.Key.{name as #tray}
 use Rattle.calls.proofs.tray as tr
 use Rattle.calls.proofs.tray.Statement as stated
@@ -86,9 +91,15 @@ stayed = (
   (stay-slice (1 ∷ []) tt (plain (λ _. u8)), (stay-slice (2 ∷ []) tt (plain (λ _. T.the-row)), (stay-slice (3 ∷ []) tt (plain (λ _. u8)), tt))),
 )
 
--- the rows of a record and of the flow matrix, and the types of the locals
+-- the rows of a record and of the hall, and the types of the locals
 abbrev R : RattleType
 R = T.the-row
+
+abbrev Rh : RattleType
+Rh = Array u8 hallBytes
+
+abbrev hallTy : Ty
+hallTy = tyArray (tyInt w8) hallBytes
 
 abbrev Rm : RattleType
 Rm = Array (Array bool 16) 16
@@ -118,6 +129,9 @@ lent₁ = tyRef erased mut (tyInt w8)
 abbrev none : Record
 none = record { caller = 0; code = 0; a = 0; b = 0; c = 0; offset = 0; length = 0; answer = record { error = 0; first = 0; second = 0 } }
 
+abbrev at-hall : ℕ → GName → List ℕ → RefT (List ℕ)
+at-hall b γ hs = record { ptr = (b, 0); name = γ; now = hs }
+
 abbrev at-matrix : ℕ → GName → List (List Bool) → RefT (List (List Bool))
 at-matrix b γ m = record { ptr = (b, 0); name = γ; now = m }
 
@@ -138,7 +152,19 @@ module _ {M : Type 1} (𝓤 : URA M) (H : Heap 𝓤) (A : Atoms 𝓤) (W : Given
   abbrev Begin : Contract 𝓤
   Begin = tripleOf 𝓤 H A begin.signature (begin.spec 𝓤 H A mem rn)
 
-  -- the matrix is plain data
+  abbrev Matrix : Contract 𝓤
+  Matrix = tripleOf 𝓤 H A matrix.signature (matrix.spec 𝓤 H A mem rn)
+
+  -- the hall and the matrix are plain data
+  hall-makes : Makes 𝓤 H A Rh (Is Rh)
+  hall-makes = array-makes 𝓤 H A W u8 (uint-makes 𝓤 H A W w8) hallBytes
+
+  hall-lawful : Lawful 𝓤 H A Rh
+  hall-lawful = array-lawful 𝓤 H A W u8 (uint-lawful 𝓤 H A W w8) hallBytes
+
+  hall-tells : Tells Rh (Is Rh) (array-vals (uint-vals w8))
+  hall-tells = array-tells u8 (uint-vals w8) (uint-tells w8) hallBytes
+
   matrix-makes : Makes 𝓤 H A Rm (Is Rm)
   matrix-makes = array-makes 𝓤 H A W (Array bool 16) (array-makes 𝓤 H A W bool (bool-makes 𝓤 H A W) 16) 16
 
@@ -161,16 +187,28 @@ module _ {M : Type 1} (𝓤 : URA M) (H : Heap 𝓤) (A : Atoms 𝓤) (W : Given
     said-due r = exE 𝓤 _ (λ ws. snd∗ 𝓤 (sem 𝓤 H A (lasts due.ended tt (v, (k, tt)) ws)) (fact 𝓤 (r ≡ cond (eqb v 0) k 0)))
 
   -- what `verdict` is passed, and what it says
-  module _ (m : List (List Bool)) (wm : Val) (m-is : Is Rm m (wm ∷ [])) (k : ℕ) (fits : k < 2 ^ 64) where
+  module _ (hs : List ℕ) (wh : Val) (hs-is : Is Rh hs (wh ∷ [])) (k : ℕ) (fits : k < 2 ^ 64) where
     abbrev to-verdict : Verdict .Ghost
-    to-verdict = ((tt, tt, tt, (m, (k, tt)), (wm ∷ [], (vint w64 k ∷ [], tt))), tt)
+    to-verdict = ((tt, tt, tt, (hs, (k, tt)), (wh ∷ [], (vint w64 k ∷ [], tt))), tt)
 
     asked-verdict : ent 𝓤 (emp 𝓤) (Verdict .pre to-verdict)
     asked-verdict = qed W [] ∵ nothing ! $ owned ! usize (Is usize) (uint-makes 𝓤 H A W w64) k _ (refl, fits) $ fjoin ! $
-        owned ! Rm (Is Rm) matrix-makes m _ m-is $ fjoin ! $ nothing ! $ join ! $ frame ! $ done !
+        owned ! Rh (Is Rh) hall-makes hs _ hs-is $ fjoin ! $ nothing ! $ join ! $ frame ! $ done !
 
-    said-verdict : (r : ℕ) → ent 𝓤 (ensured 𝓤 H A verdict.ended (verdict.clauses 𝓤 H A mem rn) tt (m, (k, tt)) tt r) (fact 𝓤 (r ≡ verdictOf m k))
-    said-verdict r = exE 𝓤 _ (λ ws. snd∗ 𝓤 (sem 𝓤 H A (lasts verdict.ended tt (m, (k, tt)) ws)) (fact 𝓤 (r ≡ verdictOf m k)))
+    said-verdict : (r : ℕ) → ent 𝓤 (ensured 𝓤 H A verdict.ended (verdict.clauses 𝓤 H A mem rn) tt (hs, (k, tt)) tt r) (fact 𝓤 (r ≡ verdictOf hs k))
+    said-verdict r = exE 𝓤 _ (λ ws. snd∗ 𝓤 (sem 𝓤 H A (lasts verdict.ended tt (hs, (k, tt)) ws)) (fact 𝓤 (r ≡ verdictOf hs k)))
+
+  -- what `matrix_of` is passed, and what it says
+  module _ (hs : List ℕ) (wh : Val) (hs-is : Is Rh hs (wh ∷ [])) where
+    abbrev to-matrix : Matrix .Ghost
+    to-matrix = ((tt, tt, tt, (hs, tt), (wh ∷ [], tt)), tt)
+
+    asked-matrix : ent 𝓤 (emp 𝓤) (Matrix .pre to-matrix)
+    asked-matrix = qed W [] ∵ nothing ! $ owned ! Rh (Is Rh) hall-makes hs _ hs-is $ fjoin ! $ nothing ! $ join ! $ frame ! $ done !
+
+    said-matrix : (r : List (List Bool)) → ent 𝓤 (ensured 𝓤 H A matrix.ended (matrix.clauses 𝓤 H A mem rn) tt (hs, tt) tt r) (fact 𝓤
+        (r ≡ matrixIn hs))
+    said-matrix r = exE 𝓤 _ (λ ws. snd∗ 𝓤 (sem 𝓤 H A (lasts matrix.ended tt (hs, tt) ws)) (fact 𝓤 (r ≡ matrixIn hs)))
 
   module _ (κ₀ κ₁ κ₂ κ₃ : Lft) (q₀ q₁ q₂ q₃ : Share) (b₀ o₀ b₁ o₁ b₂ o₂ b₃ o₃ : ℕ) (γ₀ γ₁ γ₂ γ₃ : GName) (xs ss bs : List ℕ) (rs : List Record) where
     -- the machine values of the four slices
@@ -265,33 +303,37 @@ module _ {M : Type 1} (𝓤 : URA M) (H : Heap 𝓤) (A : Atoms 𝓤) (W : Given
           owned ! usize (Is usize) (uint-makes 𝓤 H A W w64) (length ss) _ (refl, store-fits) $ fjoin ! $
           move ! (2 ∷ 0 ∷ []) $ fjoin ! $ move ! (1 ∷ 0 ∷ []) $ join ! $ frame ! $ done !
 
-    -- what `run` is passed: the table, the store and the bytes lent again under the names δ, ε and η, a reference to the matrix, and a record
-    module _ (α β ζ θ : ℕ) (δ ε η μ : GName) (l₅ : ℕ) (m : List (List Bool)) (x u y : List ℕ) (z : Record) where
+    -- what `run` is passed: the table, the store and the bytes lent again under the names δ, ε and η, references to the matrix and to the hall, and a record
+    module _ (α β ζ ψ θ : ℕ) (δ ε η ν μ : GName) (l₅ l₆ : ℕ) (m : List (List Bool)) (hs : List ℕ) (x u y : List ℕ) (z : Record) where
       abbrev to-run : Run .Ghost
       to-run = (
         (
-          (α ∷ [], (β ∷ [], (ζ ∷ [], (θ ∷ [], tt)))),
-          (fullShare, (fullShare, (fullShare, (fullShare, tt)))),
+          (α ∷ [], (β ∷ [], (ζ ∷ [], (ψ ∷ [], (θ ∷ [], tt))))),
+          (fullShare, (fullShare, (fullShare, (fullShare, (fullShare, tt))))),
           tt,
-          (at-list b₀ o₀ δ x, (at-list b₁ o₁ ε u, (at-list b₃ o₃ η y, (at-matrix l₅ μ m, (z, tt))))),
-          (s₀ ∷ [], (s₁ ∷ [], (s₃ ∷ [], (vptr l₅ 0 ∷ [], (T′.lowered z ∷ [], tt))))),
+          (at-list b₀ o₀ δ x, (at-list b₁ o₁ ε u, (at-list b₃ o₃ η y, (at-matrix l₆ ν m, (at-hall l₅ μ hs, (z, tt)))))),
+          (s₀ ∷ [], (s₁ ∷ [], (s₃ ∷ [], (vptr l₆ 0 ∷ [], (vptr l₅ 0 ∷ [], (T′.lowered z ∷ [], tt)))))),
         ),
         tt,
       )
 
       abbrev Lent : List (Item 𝓤)
       Lent =
-          ‵ (flft (α ∷ []) fullShare) ∷ ‵ (flft (β ∷ []) fullShare) ∷ ‵ (flft (ζ ∷ []) fullShare) ∷ ‵ (flft (θ ∷ []) fullShare)
+          ‵ (flft (α ∷ []) fullShare) ∷ ‵ (flft (β ∷ []) fullShare) ∷ ‵ (flft (ζ ∷ []) fullShare) ∷ ‵ (flft (ψ ∷ []) fullShare) ∷ ‵ (flft
+          (θ ∷ []) fullShare)
           ∷ ‵ (MutSlice (named 0) (α ∷ []) u32 .own (at-list b₀ o₀ δ x) (s₀ ∷ [])) ∷ ‵ (MutSlice (named 1) (β ∷ []) u8 .own (at-list b₁ o₁ ε u)
           (s₁ ∷ []))
           ∷ ‵ (MutSlice (named 3) (ζ ∷ []) u8 .own (at-list b₃ o₃ η y) (s₃ ∷ []))
-          ∷ ‵ (ShrRef (named 3) (θ ∷ []) Rm .own (at-matrix l₅ μ m) (vptr l₅ 0 ∷ [])) ∷ []
+          ∷ ‵ (ShrRef (named 3) (ψ ∷ []) Rm .own (at-matrix l₆ ν m) (vptr l₆ 0 ∷ []))
+          ∷ ‵ (ShrRef (named 4) (θ ∷ []) Rh .own (at-hall l₅ μ hs) (vptr l₅ 0 ∷ [])) ∷ []
 
-      asked-run : Ready x u m → Is R z (T′.lowered z ∷ []) → ent 𝓤 (⋆ 𝓤 H A Lent) (Run .pre to-run)
+      asked-run : Ready x u m hs → Is R z (T′.lowered z ∷ []) → ent 𝓤 (⋆ 𝓤 H A Lent) (Run .pre to-run)
       asked-run ready is =
-          qed W Lent ∵ says ! ready $ nothing ! $ move ! (4 ∷ 0 ∷ []) $ join ! $ move ! (3 ∷ 0 ∷ []) $ join ! $ move ! (2 ∷ 0 ∷ []) $ join ! $
+          qed W Lent ∵ says ! ready $ nothing ! $ move ! (5 ∷ 0 ∷ []) $ join ! $ move ! (4 ∷ 0 ∷ []) $ join ! $ move ! (3 ∷ 0 ∷ []) $ join ! $
+          move ! (2 ∷ 0 ∷ []) $ join ! $
           move ! (1 ∷ 0 ∷ []) $ join ! $ frame ! $
-          nothing ! $ owned ! R (Is R) (LL.makes T.the-type T′.the-plain 𝓤 H A) z _ is $ fjoin ! $ move ! (4 ∷ 0 ∷ []) $ fjoin ! $
+          nothing ! $ owned ! R (Is R) (LL.makes T.the-type T′.the-plain 𝓤 H A) z _ is $ fjoin ! $ move ! (5 ∷ 0 ∷ []) $ fjoin ! $
+          move ! (4 ∷ 0 ∷ []) $ fjoin ! $
           move ! (3 ∷ 0 ∷ []) $ fjoin ! $ move ! (2 ∷ 0 ∷ []) $ fjoin ! $ move ! (1 ∷ 0 ∷ []) $ fjoin ! $ done !
 
     module _ (𝓣 : Tables 𝓤 H) (known-run : Triple 𝓤 (𝓣 .C #run) Run) (room₀ : Room u32 (length xs)) (room₁ : Room u8 (length ss))
@@ -305,59 +347,69 @@ module _ {M : Type 1} (𝓤 : URA M) (H : Heap 𝓤) (A : Atoms 𝓤) (W : Given
       abbrev fm : FmC 𝓤 H (W .laws) C
       fm = fmOf 𝓤 H (W .laws) 𝓣
 
-      module _ (m : List (List Bool)) (wm : Val) (m-is : Is Rm m (wm ∷ [])) (v : ℕ) (v-is : v ≡ trayAnswer (stateOf xs ss) (recordsOf rs))
-          (v-fits : v < 2 ^ 32)
+      module _ (hs : List ℕ) (wh : Val) (hs-is : Is Rh hs (wh ∷ [])) (m : List (List Bool)) (wm : Val) (m-is : Is Rm m (wm ∷ [])) (v : ℕ)
+          (v-is : v ≡ trayAnswer (stateOf xs ss) (recordsOf rs)) (v-fits : v < 2 ^ 32)
           (n : ℕ) (n-is : n ≡ cond (eqb v 0) (length rs) 0) (n-fits : n < 2 ^ 64)
-          (l₀ l₁ l₂ l₃ l₄ l₅ l₆ l₇ l₈ l₉ l₁₀ l₁₁ l₁₂ l₁₃ l₁₄ l₁₅ l₁₆ l₁₇ l₁₈ l₁₉ l₂₀ l₂₁ l₂₂ l₂₃ l₂₄ l₂₅ l₂₆ θ : ℕ) (μ : GName) where
+          (l₀ l₁ l₂ l₃ l₄ l₅ l₆ l₇ l₈ l₉ l₁₀ l₁₁ l₁₂ l₁₃ l₁₄ l₁₅ l₁₆ l₁₇ l₁₈ l₁₉ l₂₀ l₂₁ l₂₂ l₂₃ l₂₄ l₂₅ l₂₆ l₂₇ l₂₈ l₂₉ θ ψ : ℕ) (μ ν : GName) where
         abbrev En : Env 𝓤 H
         En =
-            (tyInt w32, l₀) ∷ (slice₀, l₁) ∷ (slice₁, l₂) ∷ (slice₂, l₃) ∷ (slice₃, l₄) ∷ (matrixTy, l₅)
-            ∷ (tyInt w32, l₆) ∷ (tyInt w64, l₇) ∷ (tyInt w64, l₈) ∷ (T′.mir, l₉) ∷ (matrixTy, l₁₀) ∷ (lent₀, l₁₁)
-            ∷ (sliceTy lent₀, l₁₂) ∷ (tyInt w64, l₁₃) ∷ (tyInt w64, l₁₄) ∷ (tyBool, l₁₅) ∷ (tyInt w64, l₁₆) ∷ (tyPtr, l₁₇)
-            ∷ (T′.mir, l₁₈) ∷ (lent₀, l₁₉) ∷ (sliceTy lent₀, l₂₀) ∷ (lent₁, l₂₁) ∷ (sliceTy lent₁, l₂₂) ∷ (lent₁, l₂₃)
-            ∷ (sliceTy lent₁, l₂₄) ∷ (tyRef erased imm matrixTy, l₂₅) ∷ (tyPtr, l₂₆) ∷ []
+            (tyInt w32, l₀) ∷ (slice₀, l₁) ∷ (slice₁, l₂) ∷ (slice₂, l₃) ∷ (slice₃, l₄) ∷ (hallTy, l₅)
+            ∷ (matrixTy, l₆) ∷ (tyInt w32, l₇) ∷ (tyInt w64, l₈) ∷ (tyInt w64, l₉) ∷ (T′.mir, l₁₀) ∷ (hallTy, l₁₁)
+            ∷ (lent₀, l₁₂) ∷ (sliceTy lent₀, l₁₃) ∷ (tyInt w64, l₁₄) ∷ (tyInt w64, l₁₅) ∷ (matrixTy, l₁₆) ∷ (tyBool, l₁₇)
+            ∷ (tyInt w64, l₁₈) ∷ (tyPtr, l₁₉) ∷ (T′.mir, l₂₀) ∷ (lent₀, l₂₁) ∷ (sliceTy lent₀, l₂₂) ∷ (lent₁, l₂₃)
+            ∷ (sliceTy lent₁, l₂₄) ∷ (lent₁, l₂₅) ∷ (sliceTy lent₁, l₂₆) ∷ (tyRef erased imm matrixTy, l₂₇) ∷ (tyRef erased imm hallTy, l₂₈) ∷
+            (tyPtr, l₂₉) ∷ []
 
-        -- what a `&` to the matrix owns, and what is kept of the matrix's cell while it is lent
+        -- what a `&` to the hall owns, and what is kept of the hall's cell while it is lent
+        abbrev shared-hall : Fml
+        shared-hall = ShrRef (named 4) (θ ∷ []) Rh .own (at-hall l₅ μ hs) (vptr l₅ 0 ∷ [])
+
+        abbrev lent-hall : Fml
+        lent-hall = LentWhole u8 hallBytes (θ ∷ []) hs l₅
+
+        -- and of the matrix
         abbrev shared-matrix : Fml
-        shared-matrix = ShrRef (named 3) (θ ∷ []) Rm .own (at-matrix l₅ μ m) (vptr l₅ 0 ∷ [])
+        shared-matrix = ShrRef (named 3) (ψ ∷ []) Rm .own (at-matrix l₆ ν m) (vptr l₆ 0 ∷ [])
 
         abbrev lent-matrix : Fml
-        lent-matrix = LentWhole (Array bool 16) 16 (θ ∷ []) m l₅
+        lent-matrix = LentWhole (Array bool 16) 16 (ψ ∷ []) m l₆
 
         -- the locals where a turn begins
         abbrev Locals : ℕ → List (Item 𝓤)
         Locals i =
-            ‵ (froom tyPtr l₂₆ 0) ∷ ‵ (fdies tyPtr l₂₆) ∷ ‵ (froom (tyRef erased imm matrixTy) l₂₅ 0) ∷ ‵ (fdies (tyRef erased imm matrixTy) l₂₅)
-            ∷ ‵ (froom (sliceTy lent₁) l₂₄ 0) ∷ ‵ (fdies (sliceTy lent₁) l₂₄) ∷ ‵ (froom lent₁ l₂₃ 0) ∷ ‵ (fdies lent₁ l₂₃)
-            ∷ ‵ (froom (sliceTy lent₁) l₂₂ 0) ∷ ‵ (fdies (sliceTy lent₁) l₂₂) ∷ ‵ (froom lent₁ l₂₁ 0) ∷ ‵ (fdies lent₁ l₂₁)
-            ∷ ‵ (froom (sliceTy lent₀) l₂₀ 0) ∷ ‵ (fdies (sliceTy lent₀) l₂₀) ∷ ‵ (froom lent₀ l₁₉ 0) ∷ ‵ (fdies lent₀ l₁₉)
-            ∷ ‵ (froom T′.mir l₁₈ 0) ∷ ‵ (fdies T′.mir l₁₈) ∷ ‵ (froom tyPtr l₁₇ 0) ∷ ‵ (fdies tyPtr l₁₇)
-            ∷ ‵ (froom (tyInt w64) l₁₆ 0) ∷ ‵ (fdies (tyInt w64) l₁₆) ∷ ‵ (froom tyBool l₁₅ 0) ∷ ‵ (fdies tyBool l₁₅)
-            ∷ ‵ (froom (tyInt w64) l₁₄ 0) ∷ ‵ (fdies (tyInt w64) l₁₄) ∷ ‵ (froom (tyInt w64) l₁₃ 0) ∷ ‵ (fdies (tyInt w64) l₁₃)
-            ∷ ‵ (froom (sliceTy lent₀) l₁₂ 0) ∷ ‵ (fdies (sliceTy lent₀) l₁₂) ∷ ‵ (froom lent₀ l₁₁ 0) ∷ ‵ (fdies lent₀ l₁₁)
-            ∷ ‵ (froom matrixTy l₁₀ 0) ∷ ‵ (fdies matrixTy l₁₀) ∷ ‵ (froom T′.mir l₉ 0) ∷ ‵ (fdies T′.mir l₉)
-            ∷ ‵ (fat fullShare (tyInt w64) l₈ 0 (vint w64 i)) ∷ ‵ (fdies (tyInt w64) l₈) ∷ ‵ (fat fullShare (tyInt w64) l₇ 0 (vint w64 n)) ∷ ‵
-            (fdies (tyInt w64) l₇)
-            ∷ ‵ (fat fullShare (tyInt w32) l₆ 0 (vint w32 v)) ∷ ‵ (fdies (tyInt w32) l₆) ∷ ‵ lent-matrix ∷ ‵ (fdies matrixTy l₅)
-            ∷ ‵ (fat fullShare slice₃ l₄ 0 s₃) ∷ ‵ (fdies slice₃ l₄) ∷ ‵ (fat fullShare slice₂ l₃ 0 s₂) ∷ ‵ (fdies slice₂ l₃)
-            ∷ ‵ (fat fullShare slice₁ l₂ 0 s₁) ∷ ‵ (fdies slice₁ l₂) ∷ ‵ (fat fullShare slice₀ l₁ 0 s₀) ∷ ‵ (fdies slice₀ l₁)
-            ∷ ‵ (froom (tyInt w32) l₀ 0) ∷ ‵ (fdies (tyInt w32) l₀) ∷ []
+            ‵ (froom tyPtr l₂₉ 0) ∷ ‵ (fdies tyPtr l₂₉) ∷ ‵ (froom (tyRef erased imm hallTy) l₂₈ 0) ∷ ‵ (fdies (tyRef erased imm hallTy) l₂₈)
+            ∷ ‵ (froom (tyRef erased imm matrixTy) l₂₇ 0) ∷ ‵ (fdies (tyRef erased imm matrixTy) l₂₇) ∷ ‵ (froom (sliceTy lent₁) l₂₆ 0) ∷ ‵ (fdies
+            (sliceTy lent₁) l₂₆)
+            ∷ ‵ (froom lent₁ l₂₅ 0) ∷ ‵ (fdies lent₁ l₂₅) ∷ ‵ (froom (sliceTy lent₁) l₂₄ 0) ∷ ‵ (fdies (sliceTy lent₁) l₂₄)
+            ∷ ‵ (froom lent₁ l₂₃ 0) ∷ ‵ (fdies lent₁ l₂₃) ∷ ‵ (froom (sliceTy lent₀) l₂₂ 0) ∷ ‵ (fdies (sliceTy lent₀) l₂₂)
+            ∷ ‵ (froom lent₀ l₂₁ 0) ∷ ‵ (fdies lent₀ l₂₁) ∷ ‵ (froom T′.mir l₂₀ 0) ∷ ‵ (fdies T′.mir l₂₀)
+            ∷ ‵ (froom tyPtr l₁₉ 0) ∷ ‵ (fdies tyPtr l₁₉) ∷ ‵ (froom (tyInt w64) l₁₈ 0) ∷ ‵ (fdies (tyInt w64) l₁₈)
+            ∷ ‵ (froom tyBool l₁₇ 0) ∷ ‵ (fdies tyBool l₁₇) ∷ ‵ (froom matrixTy l₁₆ 0) ∷ ‵ (fdies matrixTy l₁₆)
+            ∷ ‵ (froom (tyInt w64) l₁₅ 0) ∷ ‵ (fdies (tyInt w64) l₁₅) ∷ ‵ (froom (tyInt w64) l₁₄ 0) ∷ ‵ (fdies (tyInt w64) l₁₄)
+            ∷ ‵ (froom (sliceTy lent₀) l₁₃ 0) ∷ ‵ (fdies (sliceTy lent₀) l₁₃) ∷ ‵ (froom lent₀ l₁₂ 0) ∷ ‵ (fdies lent₀ l₁₂)
+            ∷ ‵ (froom hallTy l₁₁ 0) ∷ ‵ (fdies hallTy l₁₁) ∷ ‵ (froom T′.mir l₁₀ 0) ∷ ‵ (fdies T′.mir l₁₀)
+            ∷ ‵ (fat fullShare (tyInt w64) l₉ 0 (vint w64 i)) ∷ ‵ (fdies (tyInt w64) l₉) ∷ ‵ (fat fullShare (tyInt w64) l₈ 0 (vint w64 n)) ∷ ‵
+            (fdies (tyInt w64) l₈)
+            ∷ ‵ (fat fullShare (tyInt w32) l₇ 0 (vint w32 v)) ∷ ‵ (fdies (tyInt w32) l₇) ∷ ‵ lent-matrix ∷ ‵ (fdies matrixTy l₆)
+            ∷ ‵ lent-hall ∷ ‵ (fdies hallTy l₅) ∷ ‵ (fat fullShare slice₃ l₄ 0 s₃) ∷ ‵ (fdies slice₃ l₄)
+            ∷ ‵ (fat fullShare slice₂ l₃ 0 s₂) ∷ ‵ (fdies slice₂ l₃) ∷ ‵ (fat fullShare slice₁ l₂ 0 s₁) ∷ ‵ (fdies slice₁ l₂)
+            ∷ ‵ (fat fullShare slice₀ l₁ 0 s₀) ∷ ‵ (fdies slice₀ l₁) ∷ ‵ (froom (tyInt w32) l₀ 0) ∷ ‵ (fdies (tyInt w32) l₀) ∷ []
 
         -- what holds where a turn begins
-        abbrev I : Turn xs ss bs rs m n → List (Item 𝓤)
+        abbrev I : Turn xs ss bs rs m hs n → List (Item 𝓤)
         I t =
             ‵ (row R fullShare (t .zs) b₂ o₂) ∷ ‵ (own₀ (t .t)) ∷ ‵ (flft κ₀ q₀) ∷ ‵ (own₁ (t .s)) ∷ ‵ (flft κ₁ q₁) ∷ ‵ (own₃ (t .b)) ∷ ‵ (flft κ₃ q₃)
             ∷ ‵ (fobor κ₂ q₂ (Held R (length rs) b₂ o₂ γ₂)) ∷ ‵ (fobs γ₂ (codedHoleys R .code (heres R rs))) ∷ ‵ (fauth γ₂ (codedHoleys R .code
             (heres R rs)))
-            ∷ ‵ shared-matrix ∷ ‵ (flft (θ ∷ []) fullShare) ∷ Locals (t .i)
+            ∷ ‵ shared-hall ∷ ‵ (flft (θ ∷ []) fullShare) ∷ ‵ shared-matrix ∷ ‵ (flft (ψ ∷ []) fullShare) ∷ Locals (t .i)
 
         -- when the loop is left, the rest of the body runs
         abbrev Left : Out → SProp 𝓤
-        Left = afterBlock 𝓤 H (afterSeq 𝓤 H (Wp 𝓤 H C Λ En mir′.t-14 (atReturn 𝓤 H En Post)) (atReturn 𝓤 H En Post))
+        Left = afterBlock 𝓤 H (afterSeq 𝓤 H (Wp 𝓤 H C Λ En mir′.t-17 (atReturn 𝓤 H En Post)) (atReturn 𝓤 H En Post))
 
         -- a turn that runs a record
-        turn-on : (t : Turn xs ss bs rs m n) → t .i < n
-            → Sq W (I t) (runs C Λ En mir′.turn-1 (anyQ (afterTurn 𝓤 H (Below 𝓤 H A (Less xs ss bs rs m n) I t) Left)))
+        turn-on : (t : Turn xs ss bs rs m hs n) → t .i < n
+            → Sq W (I t) (runs C Λ En mir′.turn-1 (anyQ (afterTurn 𝓤 H (Below 𝓤 H A (Less xs ss bs rs m hs n) I t) Left)))
         unfolding afterTurn
         turn-on t small =
             let i = t .i in
@@ -373,38 +425,39 @@ module _ {M : Type 1} (𝓤 : URA M) (H : Heap 𝓤) (A : Atoms 𝓤) (W : Given
             let within : i < length zs = omega arith in
             let at-fits : i * 40 < 2 ^ 64 = omega arith in
             let next-fits : i + 1 < 2 ^ 64 = omega arith in
-            assigns ! (bin ! (load ! (from ! (stop !)) (look ! 48 refl)) (load ! (from ! (stop !)) (look ! 50 refl)) tt) (from ! (stop !))
-            (init ! 34 refl (tt, tt)) $
-            rewrite ! 34 (λ (c : Bool). ‵ (fat fullShare tyBool l₁₅ 0 (vbool c))) (lt-ltb i n small) refl $
-            stays ! (load ! (from ! (stop !)) (look ! 34 refl)) $
+            assigns ! (bin ! (load ! (from ! (stop !)) (look ! 54 refl)) (load ! (from ! (stop !)) (look ! 56 refl)) tt) (from ! (stop !))
+            (init ! 38 refl (tt, tt)) $
+            rewrite ! 38 (λ (c : Bool). ‵ (fat fullShare tyBool l₁₇ 0 (vbool c))) (lt-ltb i n small) refl $
+            stays ! (load ! (from ! (stop !)) (look ! 38 refl)) $
             -- the record is read, and copied
-            assigns ! (bin ! (load ! (from ! (stop !)) (look ! 48 refl)) (lit ! tt) (record { fits = at-fits })) (from ! (stop !)) (init ! 32 refl
+            assigns ! (bin ! (load ! (from ! (stop !)) (look ! 54 refl)) (lit ! tt) (record { fits = at-fits })) (from ! (stop !)) (init ! 36 refl
             (tt, record { fits = at-fits })) $
-            assigns ! (bin ! (load ! (from ! (fld ! refl (stop !))) (look-in ! 58 (sub ! 0 refl (whole !)))) (load ! (from ! (stop !))
-            (look ! 32 refl)) tt) (from ! (stop !)) (init ! 30 refl (tt, tt)) $
-            rewrite ! 30 (λ (p : ℕ). ‵ (fat fullShare tyPtr l₁₇ 0 (vptr b₂ p))) (sym (place-is 40 o₂ i)) refl $
+            assigns ! (bin ! (load ! (from ! (fld ! refl (stop !))) (look-in ! 66 (sub ! 0 refl (whole !)))) (load ! (from ! (stop !))
+            (look ! 36 refl)) tt) (from ! (stop !)) (init ! 34 refl (tt, tt)) $
+            rewrite ! 34 (λ (p : ℕ). ‵ (fat fullShare tyPtr l₁₉ 0 (vptr b₂ p))) (sym (place-is 40 o₂ i)) refl $
             elem-out ! R (Is R) (shows 𝓤 H A R) (λ d. T′.lowered d ∷ []) (T′.lowers .val-is) fullShare zs i none b₂ o₂ within (λ is.
             let wt = LL.lawful T.the-type T′.the-laws 𝓤 H A W .typed z _ is .0 in
-            assigns ! (of-opd ! (load ! (from ! (hop ! (look ! 32 refl) (stop !))) (look-raw ! 0 refl))) (from ! (stop !)) (init ! 30 refl wt) $
-            assigns ! (of-opd ! (load ! (from ! (stop !)) (look ! 30 refl))) (from ! (stop !)) (init ! 48 refl wt) $
+            assigns ! (of-opd ! (load ! (from ! (hop ! (look ! 36 refl) (stop !))) (look-raw ! 0 refl))) (from ! (stop !)) (init ! 34 refl wt) $
+            assigns ! (of-opd ! (load ! (from ! (stop !)) (look ! 34 refl))) (from ! (stop !)) (init ! 54 refl wt) $
             elem-back ! R fullShare zs i none (T′.lowered z ∷ []) b₂ o₂ within $
             -- the table, the store and the bytes are lent again
-            assigns ! (addr ! (from ! (fld ! refl (hop ! (look-in ! 62 (sub ! 0 refl (whole !))) (stop !))))) (from ! (stop !)) (init ! 26 refl
+            assigns ! (addr ! (from ! (fld ! refl (hop ! (look-in ! 70 (sub ! 0 refl (whole !))) (stop !))))) (from ! (stop !)) (init ! 30 refl
+            (tt, tt)) $
+            assigns ! (agg ! (and-then ! (load ! (from ! (stop !)) (look ! 30 refl)) (and-then ! (load ! (from ! (fld ! refl (stop !)))
+            (look-in ! 70 (sub ! 1 refl (whole !)))) (no-more !)))) (from ! (stop !))
+            (init ! 28 refl (tt, (tt, (record { fits = room₀ .0 }, tt)))) $
+            assigns ! (addr ! (from ! (fld ! refl (hop ! (look-in ! 68 (sub ! 0 refl (whole !))) (stop !))))) (from ! (stop !)) (init ! 26 refl
             (tt, tt)) $
             assigns ! (agg ! (and-then ! (load ! (from ! (stop !)) (look ! 26 refl)) (and-then ! (load ! (from ! (fld ! refl (stop !)))
-            (look-in ! 62 (sub ! 1 refl (whole !)))) (no-more !)))) (from ! (stop !))
-            (init ! 24 refl (tt, (tt, (record { fits = room₀ .0 }, tt)))) $
-            assigns ! (addr ! (from ! (fld ! refl (hop ! (look-in ! 60 (sub ! 0 refl (whole !))) (stop !))))) (from ! (stop !)) (init ! 22 refl
+            (look-in ! 68 (sub ! 1 refl (whole !)))) (no-more !)))) (from ! (stop !))
+            (init ! 24 refl (tt, (tt, (record { fits = room₁ .0 }, tt)))) $
+            assigns ! (addr ! (from ! (fld ! refl (hop ! (look-in ! 64 (sub ! 0 refl (whole !))) (stop !))))) (from ! (stop !)) (init ! 22 refl
             (tt, tt)) $
             assigns ! (agg ! (and-then ! (load ! (from ! (stop !)) (look ! 22 refl)) (and-then ! (load ! (from ! (fld ! refl (stop !)))
-            (look-in ! 60 (sub ! 1 refl (whole !)))) (no-more !)))) (from ! (stop !))
-            (init ! 20 refl (tt, (tt, (record { fits = room₁ .0 }, tt)))) $
-            assigns ! (addr ! (from ! (fld ! refl (hop ! (look-in ! 56 (sub ! 0 refl (whole !))) (stop !))))) (from ! (stop !)) (init ! 18 refl
-            (tt, tt)) $
-            assigns ! (agg ! (and-then ! (load ! (from ! (stop !)) (look ! 18 refl)) (and-then ! (load ! (from ! (fld ! refl (stop !)))
-            (look-in ! 56 (sub ! 1 refl (whole !)))) (no-more !)))) (from ! (stop !))
-            (init ! 16 refl (tt, (tt, (record { fits = room₃ .0 }, tt)))) $
-            assigns ! (addr ! (from ! (stop !))) (from ! (stop !)) (init ! 14 refl (tt, tt)) $
+            (look-in ! 64 (sub ! 1 refl (whole !)))) (no-more !)))) (from ! (stop !))
+            (init ! 20 refl (tt, (tt, (record { fits = room₃ .0 }, tt)))) $
+            assigns ! (addr ! (from ! (stop !))) (from ! (stop !)) (init ! 18 refl (tt, tt)) $
+            assigns ! (addr ! (from ! (stop !))) (from ! (stop !)) (init ! 16 refl (tt, tt)) $
             lft-new ! tt (λ α. move ! (2 ∷ 3 ∷ []) $
             use2 W (later (some (λ (δ : GName). ‵ (MutSlice (named 0) (α ∷ []) u32 .own (at-list b₀ o₀ δ x) (s₀ ∷ []))
             ⊛ ‵ (LentAgain u32 κ₀ (α ∷ []) q₀ γ₀ b₀ o₀ δ x))))
@@ -420,150 +473,164 @@ module _ {M : Type 1} (𝓤 : URA M) (H : Heap 𝓤) (A : Atoms 𝓤) (W : Given
             ⊛ ‵ (LentAgain u8 κ₃ (ζ ∷ []) q₃ γ₃ b₃ o₃ η y))))
             (lends-by u8 κ₃ (ζ ∷ []) q₃ γ₃ b₃ o₃ 𝓤 H A W (named 3) (named 3) y (length bs) (g .bytes-long)) $
             await ! tt $ pick ! (λ η. split ! $
-            -- [bytes lent; bytes kept; ζ; store lent; store kept; β; table lent; table kept; α; the row; …; the matrix's reference; θ; the locals]:
-            -- a copy of the reference is passed, and the reference stays
-            move ! (13 ∷ []) $ use1 W (‵ shared-matrix ⊛ ‵ shared-matrix)
-            (shr-copy 𝓤 H A W (named 3) (θ ∷ []) Rm .twice (at-matrix l₅ μ m) (vptr l₅ 0 ∷ [])) $ split ! $
-            move ! (10 ∷ 7 ∷ 4 ∷ 15 ∷ 8 ∷ 5 ∷ 2 ∷ 0 ∷ []) $ group ! 8 $
-            use1 W (raw (Run .pre (to-run α β ζ θ δ ε η μ l₅ m x u y z))) (asked-run α β ζ θ δ ε η μ l₅ m x u y z (g .ready small) is) $
-            calls-at ! fm Run known-run (to-run α β ζ θ δ ε η μ l₅ m x u y z)
-            (and-then ! (load ! (from ! (stop !)) (look ! 21 refl)) (and-then ! (load ! (from ! (stop !)) (look ! 17 refl)) (and-then ! (load !
-            (from ! (stop !)) (look ! 13 refl))
-            (and-then ! (load ! (from ! (stop !)) (look ! 11 refl)) (and-then ! (load ! (from ! (stop !)) (look ! 43 refl)) (no-more !)))))) (λ w.
+            -- [bytes lent; bytes kept; ζ; store lent; store kept; β; table lent; table kept; α; the row; …; the hall's reference; θ; the matrix's; ψ; the locals]:
+            -- a copy of each reference is passed, and the reference stays
+            move ! (13 ∷ []) $ use1 W (‵ shared-hall ⊛ ‵ shared-hall)
+            (shr-copy 𝓤 H A W (named 4) (θ ∷ []) Rh .twice (at-hall l₅ μ hs) (vptr l₅ 0 ∷ [])) $ split ! $
+            move ! (16 ∷ []) $ use1 W (‵ shared-matrix ⊛ ‵ shared-matrix)
+            (shr-copy 𝓤 H A W (named 3) (ψ ∷ []) Rm .twice (at-matrix l₆ ν m) (vptr l₆ 0 ∷ [])) $ split ! $
+            move ! (12 ∷ 9 ∷ 6 ∷ 18 ∷ 17 ∷ 10 ∷ 7 ∷ 4 ∷ 0 ∷ 2 ∷ []) $ group ! 10 $
+            use1 W (raw (Run .pre (to-run α β ζ ψ θ δ ε η ν μ l₅ l₆ m hs x u y z))) (asked-run α β ζ ψ θ δ ε η ν μ l₅ l₆ m hs x u y z
+            (g .ready small) is) $
+            calls-at ! fm Run known-run (to-run α β ζ ψ θ δ ε η ν μ l₅ l₆ m hs x u y z)
+            (and-then ! (load ! (from ! (stop !)) (look ! 24 refl)) (and-then ! (load ! (from ! (stop !)) (look ! 20 refl)) (and-then ! (load !
+            (from ! (stop !)) (look ! 16 refl))
+            (and-then ! (load ! (from ! (stop !)) (look ! 14 refl)) (and-then ! (load ! (from ! (stop !)) (look ! 12 refl)) (and-then ! (load !
+            (from ! (stop !)) (look ! 48 refl)) (no-more !))))))) (λ w.
             use1 W (later (some (λ (r : Record). ((‵ (flft (α ∷ []) fullShare) ⊛ (‵ (flft (β ∷ []) fullShare) ⊛ (‵ (flft (ζ ∷ []) fullShare) ⊛ (‵
-            (flft (θ ∷ []) fullShare) ⊛ ‵ ftrue)))) ⊛ ‵ (R .own r (w ∷ [])))
-            ⊛ raw (ensured 𝓤 H A run.ended (run.clauses 𝓤 H A mem rn) (α ∷ [], (β ∷ [], (ζ ∷ [], (θ ∷ [], tt)))) (
+            (flft (ψ ∷ []) fullShare) ⊛ (‵ (flft (θ ∷ []) fullShare) ⊛ ‵ ftrue))))) ⊛ ‵ (R .own r (w ∷ [])))
+            ⊛ raw (ensured 𝓤 H A run.ended (run.clauses 𝓤 H A mem rn) (α ∷ [], (β ∷ [], (ζ ∷ [], (ψ ∷ [], (θ ∷ [], tt))))) (
               at-list b₀ o₀ δ x,
-              (at-list b₁ o₁ ε u, (at-list b₃ o₃ η y, (at-matrix l₅ μ m, (z, tt)))),
+              (at-list b₁ o₁ ε u, (at-list b₃ o₃ η y, (at-matrix l₆ ν m, (at-hall l₅ μ hs, (z, tt))))),
             ) tt r)))) (id⊢ 𝓤 _) $ await ! tt $ pick ! (λ r.
-            split ! $ move ! (1 ∷ []) $ use1 W (some (λ (ws : List ℕ × (List ℕ × (List ℕ × (Unit {0} × (Unit {0} × Unit {0}))))).
-            ‵ (lasts run.ended (α ∷ [], (β ∷ [], (ζ ∷ [], (θ ∷ [], tt)))) (
+            split ! $ move ! (1 ∷ []) $ use1 W (some (λ (ws : List ℕ × (List ℕ × (List ℕ × (Unit {0} × (Unit {0} × (Unit {0} × Unit {0})))))).
+            ‵ (lasts run.ended (α ∷ [], (β ∷ [], (ζ ∷ [], (ψ ∷ [], (θ ∷ [], tt))))) (
               at-list b₀ o₀ δ x,
               (
                 at-list b₁ o₁ ε u,
                 (
                   at-list b₃ o₃ η y,
-                  (at-matrix l₅ μ m, (z, tt)),
+                  (at-matrix l₆ ν m, (at-hall l₅ μ hs, (z, tt))),
                 ),
               ),
-            ) ws) ⊛ raw (fact 𝓤 (Ran (stateOf x u) y z r (ws .0) (ws .1 .0) (ws .1 .1 .0))))) (id⊢ 𝓤 _) $ pick ! (λ ws.
+            ) ws) ⊛ raw (fact 𝓤 (Ran (stateOf x u) y z r (ws .0) (ws .1 .0) (ws .1 .1 .0)))))
+            (id⊢ 𝓤 _) $ pick ! (λ ws.
             split ! $ move ! (1 ∷ []) $ heard ! (Ran (stateOf x u) y z r (ws .0) (ws .1 .0) (ws .1 .1 .0)) (λ ran. fsplit ! $ fsplit ! $
             move ! (1 ∷ []) $ feqL ! (λ lx. move ! (1 ∷ []) $
             fsplit ! $ fsplit ! $ move ! (1 ∷ []) $ feqL ! (λ lu. move ! (1 ∷ []) $ fsplit ! $ fsplit ! $ move ! (1 ∷ []) $ feqL ! (λ ly.
             -- [the bytes' last list; …; the store's; the table's; the tokens and the result; the reference; bytes kept; store kept; table kept; the row; …]
             move ! (4 ∷ []) $ split ! $ move ! (1 ∷ []) $ facts ! R (Is R) (shows 𝓤 H A R) r (w ∷ []) (λ is′.
             let same : w ≡ T′.lowered r = ap only (T′.lowers .val-is r (w ∷ []) is′) in
-            land ! (from ! (stop !)) (store ! 29 refl (LL.lawful T.the-type T′.the-laws 𝓤 H A W .typed r _ is′ .0)) $
-            rewrite ! 29 (λ (k : Val). ‵ (fat fullShare T′.mir l₁₈ 0 k)) same refl $
+            land ! (from ! (stop !)) (store ! 32 refl (LL.lawful T.the-type T′.the-laws 𝓤 H A W .typed r _ is′ .0)) $
+            rewrite ! 32 (λ (k : Val). ‵ (fat fullShare T′.mir l₂₀ 0 k)) same refl $
             -- the three lifetimes are ended, and the slices come back
-            split ! $ lft-end ! tt $ move ! (0 ∷ 9 ∷ 5 ∷ []) $
+            split ! $ lft-end ! tt $ move ! (0 ∷ 10 ∷ 5 ∷ []) $
             use3 W (later (‵ (own₀ (ws .0)) ⊛ ‵ (flft κ₀ q₀)))
             (back-by u32 κ₀ (α ∷ []) q₀ γ₀ b₀ o₀ 𝓤 H A W (named 0) (named 0) x (length xs) (g .table-long) δ (ws .0) room₀ lx) $
             await ! tt $ split ! $
-            move ! (2 ∷ []) $ split ! $ lft-end ! tt $ move ! (0 ∷ 9 ∷ 6 ∷ []) $
+            move ! (2 ∷ []) $ split ! $ lft-end ! tt $ move ! (0 ∷ 10 ∷ 6 ∷ []) $
             use3 W (later (‵ (own₁ (ws .1 .0)) ⊛ ‵ (flft κ₁ q₁)))
             (back-by u8 κ₁ (β ∷ []) q₁ γ₁ b₁ o₁ 𝓤 H A W (named 1) (named 1) u (length ss) (g .store-long) ε (ws .1 .0) room₁ lu) $
             await ! tt $ split ! $
-            move ! (2 ∷ []) $ split ! $ lft-end ! tt $ move ! (0 ∷ 9 ∷ 6 ∷ []) $
+            move ! (2 ∷ []) $ split ! $ lft-end ! tt $ move ! (0 ∷ 10 ∷ 6 ∷ []) $
             use3 W (later (‵ (own₃ (ws .1 .1 .0)) ⊛ ‵ (flft κ₃ q₃)))
             (back-by u8 κ₃ (ζ ∷ []) q₃ γ₃ b₃ o₃ 𝓤 H A W (named 3) (named 3) y (length bs) (g .bytes-long) η (ws .1 .1 .0) room₃ ly) $
             await ! tt $ split ! $
-            -- [the bytes, the store and the table, each with its token; θ; …; the matrix's reference; the row; …]: in the order of `I`
-            move ! (2 ∷ []) $ split ! $ move ! (1 ∷ 8 ∷ []) $ drop ! $ drop ! $ move ! (8 ∷ 5 ∷ 6 ∷ 3 ∷ 4 ∷ 1 ∷ 2 ∷ 9 ∷ 10 ∷ 11 ∷ 7 ∷ 0 ∷ []) $
+            -- [the bytes, the store and the table, each with its token; ψ and θ; …; the matrix's reference; the hall's; the row; …]: in the order of `I`
+            move ! (2 ∷ []) $ split ! $ move ! (1 ∷ []) $ split ! $ move ! (1 ∷ 9 ∷ []) $ drop ! $ drop ! $
+            move ! (10 ∷ 6 ∷ 7 ∷ 4 ∷ 5 ∷ 2 ∷ 3 ∷ 11 ∷ 12 ∷ 13 ∷ 9 ∷ 0 ∷ 8 ∷ 1 ∷ []) $
             -- the record is stored
-            assigns ! (bin ! (load ! (from ! (stop !)) (look ! 48 refl)) (lit ! tt) (record { fits = at-fits })) (from ! (stop !)) (store ! 32 refl
+            assigns ! (bin ! (load ! (from ! (stop !)) (look ! 54 refl)) (lit ! tt) (record { fits = at-fits })) (from ! (stop !)) (store ! 36 refl
             (tt, record { fits = at-fits })) $
-            assigns ! (bin ! (load ! (from ! (fld ! refl (stop !))) (look-in ! 58 (sub ! 0 refl (whole !)))) (load ! (from ! (stop !))
-            (look ! 32 refl)) tt) (from ! (stop !)) (init ! 12 refl (tt, tt)) $
-            rewrite ! 12 (λ (p : ℕ). ‵ (fat fullShare tyPtr l₂₆ 0 (vptr b₂ p))) (sym (place-is 40 o₂ i)) refl $
+            assigns ! (bin ! (load ! (from ! (fld ! refl (stop !))) (look-in ! 66 (sub ! 0 refl (whole !)))) (load ! (from ! (stop !))
+            (look ! 36 refl)) tt) (from ! (stop !)) (init ! 14 refl (tt, tt)) $
+            rewrite ! 14 (λ (p : ℕ). ‵ (fat fullShare tyPtr l₂₉ 0 (vptr b₂ p))) (sym (place-is 40 o₂ i)) refl $
             elem-out ! R (Is R) (shows 𝓤 H A R) (λ d. T′.lowered d ∷ []) (T′.lowers .val-is) fullShare zs i none b₂ o₂ within (λ _.
             let is″ : Is R r (T′.lowered r ∷ []) = subst (λ (k : Val). Is R r (k ∷ [])) same is′ in
-            assigns ! (of-opd ! (load ! (from ! (stop !)) (look ! 30 refl))) (from ! (hop ! (look ! 14 refl) (stop !)))
+            assigns ! (of-opd ! (load ! (from ! (stop !)) (look ! 34 refl))) (from ! (hop ! (look ! 16 refl) (stop !)))
             (store-raw ! 0 refl (LL.lawful T.the-type T′.the-laws 𝓤 H A W .typed r _ is″ .0)) $
             move ! (1 ∷ []) $ drop ! $ owned ! R (Is R) (LL.makes T.the-type T′.the-plain 𝓤 H A) r _ is″ $ move ! (1 ∷ 0 ∷ []) $
             elem-put ! R fullShare zs i r (T′.lowered r ∷ []) b₂ o₂ within $
-            assigns-last ! (bin ! (load ! (from ! (stop !)) (look ! 48 refl)) (lit ! tt) (record { fits = next-fits })) (from ! (stop !))
-            (store ! 48 refl (tt, record { fits = next-fits })) $
-            forget ! 12 refl $ forget ! 14 refl $ forget ! 16 refl $ forget ! 18 refl $ forget ! 20 refl $ forget ! 22 refl $
-            forget ! 24 refl $ forget ! 26 refl $ forget ! 28 refl $ forget ! 30 refl $ forget ! 32 refl $ forget ! 34 refl $
-            forget ! 46 refl $
-            again ! (Less xs ss bs rs m n) I t (record {
+            assigns-last ! (bin ! (load ! (from ! (stop !)) (look ! 54 refl)) (lit ! tt) (record { fits = next-fits })) (from ! (stop !))
+            (store ! 54 refl (tt, record { fits = next-fits })) $
+            forget ! 14 refl $ forget ! 16 refl $ forget ! 18 refl $ forget ! 20 refl $ forget ! 22 refl $ forget ! 24 refl $
+            forget ! 26 refl $ forget ! 28 refl $ forget ! 30 refl $ forget ! 32 refl $ forget ! 34 refl $ forget ! 36 refl $
+            forget ! 38 refl $ forget ! 52 refl $
+            again ! (Less xs ss bs rs m hs n) I t (record {
               i = i + 1;
               t = ws .0;
               s = ws .1 .0;
               b = ws .1 .1 .0;
               zs = set zs i r;
-              going = more xs ss bs rs m n i x u y zs g none r (ws .0) (ws .1 .0) (ws .1 .1 .0) small ran lx lu ly;
+              going = more xs ss bs rs m hs n i x u y zs g none r (ws .0) (ws .1 .0) (ws .1 .1 .0) small ran lx lu ly;
             }) (omega arith)))))))))))))))))
 
         -- the turn that leaves the loop, and the rest of the body
-        turn-off : (t : Turn xs ss bs rs m n) → n ≤ t .i
-            → Sq W (I t) (runs C Λ En mir′.turn-1 (anyQ (afterTurn 𝓤 H (Below 𝓤 H A (Less xs ss bs rs m n) I t) Left)))
+        turn-off : (t : Turn xs ss bs rs m hs n) → n ≤ t .i
+            → Sq W (I t) (runs C Λ En mir′.turn-1 (anyQ (afterTurn 𝓤 H (Below 𝓤 H A (Less xs ss bs rs m hs n) I t) Left)))
         unfolding afterTurn
         turn-off t large =
             let i = t .i in
             let g = t .going in
-            assigns ! (bin ! (load ! (from ! (stop !)) (look ! 48 refl)) (load ! (from ! (stop !)) (look ! 50 refl)) tt) (from ! (stop !))
-            (init ! 34 refl (tt, tt)) $
-            rewrite ! 34 (λ (c : Bool). ‵ (fat fullShare tyBool l₁₅ 0 (vbool c))) (le-ltb i n large) refl $
-            leaves-loop ! (load ! (from ! (stop !)) (look ! 34 refl)) $ exec ! C Λ En mir′.t-14 (atRet En Post) $
-            assigns ! (of-opd ! (load ! (from ! (stop !)) (look ! 52 refl))) (from ! (stop !)) (init ! 64 refl (tt, record { fits = v-fits })) $
-            -- the matrix's lifetime is ended, and its cell comes back
-            move ! (11 ∷ []) $ lft-end ! tt $ move ! (11 ∷ []) $ drop ! $ move ! (0 ∷ 53 ∷ []) $
-            use2 W (later (‵ (fat fullShare matrixTy l₅ 0 wm)))
-            (regains-by (Array bool 16) 16 (θ ∷ []) m l₅ 𝓤 H A W wm m-is (array-vals (array-vals bool-vals)) matrix-tells) $ await ! tt $
+            assigns ! (bin ! (load ! (from ! (stop !)) (look ! 54 refl)) (load ! (from ! (stop !)) (look ! 56 refl)) tt) (from ! (stop !))
+            (init ! 38 refl (tt, tt)) $
+            rewrite ! 38 (λ (c : Bool). ‵ (fat fullShare tyBool l₁₇ 0 (vbool c))) (le-ltb i n large) refl $
+            leaves-loop ! (load ! (from ! (stop !)) (look ! 38 refl)) $ exec ! C Λ En mir′.t-17 (atRet En Post) $
+            assigns ! (of-opd ! (load ! (from ! (stop !)) (look ! 58 refl))) (from ! (stop !)) (init ! 72 refl (tt, record { fits = v-fits })) $
+            -- the matrix's lifetime is ended, and its cell comes back; then the hall's
+            move ! (13 ∷ []) $ lft-end ! tt $ move ! (13 ∷ []) $ drop ! $ move ! (0 ∷ 59 ∷ []) $
+            use2 W (later (‵ (fat fullShare matrixTy l₆ 0 wm)))
+            (regains-by (Array bool 16) 16 (ψ ∷ []) m l₆ 𝓤 H A W wm m-is (array-vals (array-vals bool-vals)) matrix-tells) $ await ! tt $
             move ! (1 ∷ 2 ∷ 3 ∷ 4 ∷ 5 ∷ 6 ∷ 7 ∷ 8 ∷ 9 ∷ 10 ∷ 11 ∷ 12 ∷ 13 ∷ 14 ∷ 15 ∷ 16 ∷ 17 ∷ 18 ∷ 19 ∷ 20 ∷ 21 ∷ 22 ∷ 23 ∷ 24
             ∷ 25 ∷ 26 ∷ 27 ∷ 28 ∷ 29 ∷ 30 ∷ 31 ∷ 32 ∷ 33 ∷ 34 ∷ 35 ∷ 36 ∷ 37 ∷ 38 ∷ 39 ∷ 40 ∷ 41 ∷ 42 ∷ 43 ∷ 44 ∷ 45 ∷ 46 ∷ 47 ∷ 48
-            ∷ 49 ∷ 50 ∷ 51 ∷ 52 ∷ 0 ∷ []) $
+            ∷ 49 ∷ 50 ∷ 51 ∷ 52 ∷ 53 ∷ 54 ∷ 55 ∷ 56 ∷ 57 ∷ 58 ∷ 0 ∷ []) $
+            move ! (11 ∷ []) $ lft-end ! tt $ move ! (11 ∷ []) $ drop ! $ move ! (0 ∷ 59 ∷ []) $
+            use2 W (later (‵ (fat fullShare hallTy l₅ 0 wh)))
+            (regains-by u8 hallBytes (θ ∷ []) hs l₅ 𝓤 H A W wh hs-is (array-vals (uint-vals w8)) hall-tells) $ await ! tt $
+            move ! (1 ∷ 2 ∷ 3 ∷ 4 ∷ 5 ∷ 6 ∷ 7 ∷ 8 ∷ 9 ∷ 10 ∷ 11 ∷ 12 ∷ 13 ∷ 14 ∷ 15 ∷ 16 ∷ 17 ∷ 18 ∷ 19 ∷ 20 ∷ 21 ∷ 22 ∷ 23 ∷ 24
+            ∷ 25 ∷ 26 ∷ 27 ∷ 28 ∷ 29 ∷ 30 ∷ 31 ∷ 32 ∷ 33 ∷ 34 ∷ 35 ∷ 36 ∷ 37 ∷ 38 ∷ 39 ∷ 40 ∷ 41 ∷ 42 ∷ 43 ∷ 44 ∷ 45 ∷ 46 ∷ 47 ∷ 48
+            ∷ 49 ∷ 50 ∷ 51 ∷ 52 ∷ 53 ∷ 54 ∷ 55 ∷ 56 ∷ 57 ∷ 58 ∷ 0 ∷ []) $
             -- the records' borrow is closed
             move ! (0 ∷ 7 ∷ 8 ∷ 9 ∷ []) $ closes-slice ! tt R rs (t .zs) (g .long) b₂ o₂ $
-            returns ! (look ! 61 refl) $ forget ! 31 refl $ forget ! 45 refl $ forget ! 47 refl $ forget ! 49 refl $ forget ! 51 refl $
-            forget ! 53 refl $
-            forget ! 55 refl $ forget ! 57 refl $ forget ! 59 refl $ forget ! 61 refl $
-            move ! (61 ∷ 62 ∷ []) $ free1 ! $ move ! (59 ∷ 60 ∷ []) $ free1 ! $ move ! (57 ∷ 58 ∷ []) $ free1 ! $ move ! (55 ∷ 56 ∷ []) $ free1 ! $
-            move ! (53 ∷ 54 ∷ []) $ free1 ! $ move ! (51 ∷ 52 ∷ []) $ free1 ! $ move ! (49 ∷ 50 ∷ []) $ free1 ! $ move ! (47 ∷ 48 ∷ []) $ free1 ! $
-            move ! (45 ∷ 46 ∷ []) $ free1 ! $ move ! (43 ∷ 44 ∷ []) $ free1 ! $ move ! (41 ∷ 42 ∷ []) $ free1 ! $ move ! (39 ∷ 40 ∷ []) $ free1 ! $
-            move ! (37 ∷ 38 ∷ []) $ free1 ! $ move ! (35 ∷ 36 ∷ []) $ free1 ! $ move ! (33 ∷ 34 ∷ []) $ free1 ! $ move ! (31 ∷ 32 ∷ []) $ free1 ! $
-            move ! (29 ∷ 30 ∷ []) $ free1 ! $ move ! (27 ∷ 28 ∷ []) $ free1 ! $ move ! (25 ∷ 26 ∷ []) $ free1 ! $ move ! (23 ∷ 24 ∷ []) $ free1 ! $
-            move ! (21 ∷ 22 ∷ []) $ free1 ! $ move ! (19 ∷ 20 ∷ []) $ free1 ! $ move ! (17 ∷ 18 ∷ []) $ free1 ! $ move ! (15 ∷ 16 ∷ []) $ free1 ! $
-            move ! (13 ∷ 14 ∷ []) $ free1 ! $ move ! (11 ∷ 12 ∷ []) $ free1 ! $ move ! (9 ∷ 10 ∷ []) $ free1 ! $ free0 ! $
+            returns ! (look ! 67 refl) $ forget ! 33 refl $ forget ! 49 refl $ forget ! 51 refl $ forget ! 53 refl $ forget ! 55 refl $
+            forget ! 57 refl $
+            forget ! 59 refl $ forget ! 61 refl $ forget ! 63 refl $ forget ! 65 refl $ forget ! 67 refl $
+            move ! (67 ∷ 68 ∷ []) $ free1 ! $ move ! (65 ∷ 66 ∷ []) $ free1 ! $ move ! (63 ∷ 64 ∷ []) $ free1 ! $ move ! (61 ∷ 62 ∷ []) $ free1 ! $
+            move ! (59 ∷ 60 ∷ []) $ free1 ! $ move ! (57 ∷ 58 ∷ []) $ free1 ! $ move ! (55 ∷ 56 ∷ []) $ free1 ! $ move ! (53 ∷ 54 ∷ []) $ free1 ! $
+            move ! (51 ∷ 52 ∷ []) $ free1 ! $ move ! (49 ∷ 50 ∷ []) $ free1 ! $ move ! (47 ∷ 48 ∷ []) $ free1 ! $ move ! (45 ∷ 46 ∷ []) $ free1 ! $
+            move ! (43 ∷ 44 ∷ []) $ free1 ! $ move ! (41 ∷ 42 ∷ []) $ free1 ! $ move ! (39 ∷ 40 ∷ []) $ free1 ! $ move ! (37 ∷ 38 ∷ []) $ free1 ! $
+            move ! (35 ∷ 36 ∷ []) $ free1 ! $ move ! (33 ∷ 34 ∷ []) $ free1 ! $ move ! (31 ∷ 32 ∷ []) $ free1 ! $ move ! (29 ∷ 30 ∷ []) $ free1 ! $
+            move ! (27 ∷ 28 ∷ []) $ free1 ! $ move ! (25 ∷ 26 ∷ []) $ free1 ! $ move ! (23 ∷ 24 ∷ []) $ free1 ! $ move ! (21 ∷ 22 ∷ []) $ free1 ! $
+            move ! (19 ∷ 20 ∷ []) $ free1 ! $ move ! (17 ∷ 18 ∷ []) $ free1 ! $ move ! (15 ∷ 16 ∷ []) $ free1 ! $ move ! (13 ∷ 14 ∷ []) $ free1 ! $
+            move ! (11 ∷ 12 ∷ []) $ free1 ! $ move ! (9 ∷ 10 ∷ []) $ free1 ! $ free0 ! $
             by ! (exits room₂ (t .t) (t .s) (t .b) (t .zs) v v-fits (g .table-long) (g .store-long) (g .bytes-long) (g .long)
-            (ends xs ss bs rs m n i (t .t) (t .s) (t .b) (t .zs) g none large v v-is n-is))
+            (ends xs ss bs rs m hs n i (t .t) (t .s) (t .b) (t .zs) g none large v v-is n-is))
 
-        turns : (t : Turn xs ss bs rs m n) → Sq W (I t) (runs C Λ En mir′.turn-1 (anyQ (afterTurn 𝓤 H (Below 𝓤 H A (Less xs ss bs rs m n) I t) Left)))
+        turns : (t : Turn xs ss bs rs m hs n) → Sq W (I t) (runs C Λ En mir′.turn-1 (anyQ (afterTurn 𝓤 H (Below 𝓤 H A
+            (Less xs ss bs rs m hs n) I t) Left)))
         turns t = ⊎-elim (turn-on t) (turn-off t) (below-or-not (t .i) n)
 
       -- the MIR, up to the loop: the records' borrow is opened once, before all else
-      walk : Triple 𝓤 (𝓣 .C #due) Due → Triple 𝓤 (𝓣 .C #verdict) Verdict → Triple 𝓤 (𝓣 .C #begin) Begin
+      walk : Triple 𝓤 (𝓣 .C #due) Due → Triple 𝓤 (𝓣 .C #verdict) Verdict → Triple 𝓤 (𝓣 .C #begin) Begin → Triple 𝓤 (𝓣 .C #matrix) Matrix
           → ent 𝓤 (onEntry 𝓤 H A tr.signature (κ₀, (κ₁, (κ₂, (κ₃, tt)))) (q₀, (q₁, (q₂, (q₃, tt)))) a vals)
           (WpFn 𝓤 H C Λ code.function (s₀ ∷ s₁ ∷ s₂ ∷ s₃ ∷ []) Post)
-      walk known-due known-verdict known-begin =
+      walk known-due known-verdict known-begin known-matrix =
           qed W ((‵ (flft κ₀ q₀) ⊛ (‵ (flft κ₁ q₁) ⊛ (‵ (flft κ₂ q₂) ⊛ (‵ (flft κ₃ q₃) ⊛ ‵ ftrue))))
           ∷ ‵ (owns (MutSlice (named 0) κ₀ u32 ∷ MutSlice (named 1) κ₁ u8 ∷ MutSlice (named 2) κ₂ R ∷ MutSlice (named 3) κ₃ u8 ∷ []) a vals) ∷ [])
           ∵ enter ! C Λ code.function (s₀ ∷ s₁ ∷ s₂ ∷ s₃ ∷ []) _ $
           alloc1 ! (λ l₀. alloc1 ! (λ l₁. alloc1 ! (λ l₂. alloc1 ! (λ l₃. alloc1 ! (λ l₄. alloc1 ! (λ l₅. alloc1 ! (λ l₆. alloc1 ! (λ l₇.
           alloc1 ! (λ l₈. alloc1 ! (λ l₉. alloc1 ! (λ l₁₀. alloc1 ! (λ l₁₁. alloc1 ! (λ l₁₂. alloc1 ! (λ l₁₃. alloc1 ! (λ l₁₄. alloc1 ! (λ l₁₅.
           alloc1 ! (λ l₁₆. alloc1 ! (λ l₁₇. alloc1 ! (λ l₁₈. alloc1 ! (λ l₁₉. alloc1 ! (λ l₂₀. alloc1 ! (λ l₂₁. alloc1 ! (λ l₂₂. alloc1 ! (λ l₂₃.
-          alloc1 ! (λ l₂₄. alloc1 ! (λ l₂₅. alloc1 ! (λ l₂₆. alloc0 ! $ params1 ! $
-          pass1 ! (init ! 50 refl (tt, (tt, (record { fits = room₀ .0 }, tt)))) $
-          pass1 ! (init ! 48 refl (tt, (tt, (record { fits = room₁ .0 }, tt)))) $
-          pass1 ! (init ! 46 refl (tt, (tt, (record { fits = room₂ .0 }, tt)))) $
-          pass1 ! (init ! 44 refl (tt, (tt, (record { fits = room₃ .0 }, tt)))) $ pass0 ! $
+          alloc1 ! (λ l₂₄. alloc1 ! (λ l₂₅. alloc1 ! (λ l₂₆. alloc1 ! (λ l₂₇. alloc1 ! (λ l₂₈. alloc1 ! (λ l₂₉. alloc0 ! $ params1 ! $
+          pass1 ! (init ! 56 refl (tt, (tt, (record { fits = room₀ .0 }, tt)))) $
+          pass1 ! (init ! 54 refl (tt, (tt, (record { fits = room₁ .0 }, tt)))) $
+          pass1 ! (init ! 52 refl (tt, (tt, (record { fits = room₂ .0 }, tt)))) $
+          pass1 ! (init ! 50 refl (tt, (tt, (record { fits = room₃ .0 }, tt)))) $ pass0 ! $
           -- what the slices own, and the tokens
-          move ! (55 ∷ []) $ fsplit ! $ move ! (1 ∷ []) $ fsplit ! $ move ! (1 ∷ []) $ fsplit ! $ move ! (1 ∷ []) $ fsplit ! $
-          move ! (59 ∷ []) $ split ! $ move ! (1 ∷ []) $ split ! $ move ! (1 ∷ []) $ split ! $ move ! (1 ∷ []) $ split ! $
+          move ! (61 ∷ []) $ fsplit ! $ move ! (1 ∷ []) $ fsplit ! $ move ! (1 ∷ []) $ fsplit ! $ move ! (1 ∷ []) $ fsplit ! $
+          move ! (65 ∷ []) $ split ! $ move ! (1 ∷ []) $ split ! $ move ! (1 ∷ []) $ split ! $ move ! (1 ∷ []) $ split ! $
           move ! (7 ∷ 2 ∷ []) $ fsplit ! $ drop ! $ fsplit ! $ opens-slice ! tt R rs b₂ o₂ $
           -- [the row; the open borrow; obs; auth; …; the tokens; …; the bytes; the store; the table; the locals]
-          keep ! (0 ∷ 11 ∷ 7 ∷ 10 ∷ 6 ∷ 8 ∷ 4 ∷ 1 ∷ 2 ∷ 3 ∷ 12 ∷ 13 ∷ 14 ∷ 15 ∷ 16 ∷ 17 ∷ 18 ∷ 19 ∷ 20 ∷ 21 ∷ 22 ∷ 23 ∷ 24 ∷ 25 ∷ 26 ∷ 27 ∷ 28 ∷ 29 ∷ 30 ∷ 31 ∷ 32 ∷ 33 ∷ 34 ∷ 35 ∷ 36 ∷ 37 ∷ 38 ∷ 39 ∷ 40 ∷ 41 ∷ 42 ∷ 43 ∷ 44 ∷ 45 ∷ 46 ∷ 47 ∷ 48 ∷ 49 ∷ 50 ∷ 51 ∷ 52 ∷ 53 ∷ 54 ∷ 55 ∷ 56 ∷ 57 ∷ 58 ∷ 59 ∷ 60 ∷ 61 ∷ 62 ∷ 63 ∷ 64 ∷ 65 ∷ []) $
+          keep ! (0 ∷ 11 ∷ 7 ∷ 10 ∷ 6 ∷ 8 ∷ 4 ∷ 1 ∷ 2 ∷ 3 ∷ 12 ∷ 13 ∷ 14 ∷ 15 ∷ 16 ∷ 17 ∷ 18 ∷ 19 ∷ 20 ∷ 21 ∷ 22 ∷ 23 ∷ 24 ∷ 25 ∷ 26 ∷ 27 ∷ 28 ∷ 29 ∷ 30 ∷ 31 ∷ 32 ∷ 33 ∷ 34 ∷ 35 ∷ 36 ∷ 37 ∷ 38 ∷ 39 ∷ 40 ∷ 41 ∷ 42 ∷ 43 ∷ 44 ∷ 45 ∷ 46 ∷ 47 ∷ 48 ∷ 49 ∷ 50 ∷ 51 ∷ 52 ∷ 53 ∷ 54 ∷ 55 ∷ 56 ∷ 57 ∷ 58 ∷ 59 ∷ 60 ∷ 61 ∷ 62 ∷ 63 ∷ 64 ∷ 65 ∷ 66 ∷ 67 ∷ 68 ∷ 69 ∷ 70 ∷ 71 ∷ []) $
           -- the table is lent to `begin`, and comes back as it was
-          assigns ! (addr ! (from ! (fld ! refl (hop ! (look-in ! 60 (sub ! 0 refl (whole !))) (stop !))))) (from ! (stop !)) (init ! 40 refl
+          assigns ! (addr ! (from ! (fld ! refl (hop ! (look-in ! 66 (sub ! 0 refl (whole !))) (stop !))))) (from ! (stop !)) (init ! 44 refl
           (tt, tt)) $
-          assigns ! (agg ! (and-then ! (load ! (from ! (stop !)) (look ! 40 refl)) (and-then ! (load ! (from ! (fld ! refl (stop !))) (look-in ! 60
+          assigns ! (agg ! (and-then ! (load ! (from ! (stop !)) (look ! 44 refl)) (and-then ! (load ! (from ! (fld ! refl (stop !))) (look-in ! 66
           (sub ! 1 refl (whole !)))) (no-more !)))) (from ! (stop !))
-          (init ! 38 refl (tt, (tt, (record { fits = room₀ .0 }, tt)))) $
-          assigns ! (of-opd ! (load ! (from ! (fld ! refl (stop !))) (look-in ! 58 (sub ! 1 refl (whole !))))) (from ! (stop !)) (init ! 36 refl
+          (init ! 42 refl (tt, (tt, (record { fits = room₀ .0 }, tt)))) $
+          assigns ! (of-opd ! (load ! (from ! (fld ! refl (stop !))) (look-in ! 64 (sub ! 1 refl (whole !))))) (from ! (stop !)) (init ! 40 refl
           (tt, record { fits = room₁ .0 })) $
-          assigns ! (of-opd ! (load ! (from ! (fld ! refl (stop !))) (look-in ! 56 (sub ! 1 refl (whole !))))) (from ! (stop !)) (init ! 34 refl
+          assigns ! (of-opd ! (load ! (from ! (fld ! refl (stop !))) (look-in ! 62 (sub ! 1 refl (whole !))))) (from ! (stop !)) (init ! 38 refl
           (tt, record { fits = room₂ .0 })) $
           lft-new ! tt (λ α. move ! (2 ∷ 3 ∷ []) $
           use2 W (later (some (λ (δ : GName). ‵ (MutSlice (named 0) (α ∷ []) u32 .own (at-list b₀ o₀ δ xs) (s₀ ∷ []))
@@ -572,77 +639,95 @@ module _ {M : Type 1} (𝓤 : URA M) (H : Heap 𝓤) (A : Atoms 𝓤) (W : Given
           await ! tt $ pick ! (λ δ. split ! $
           move ! (2 ∷ 0 ∷ []) $ use2 W (raw (Begin .pre (to-begin α δ (room₁ .0) (room₂ .0)))) (asked-begin α δ (room₁ .0) (room₂ .0)) $
           calls-at ! fm Begin known-begin (to-begin α δ (room₁ .0) (room₂ .0))
-          (and-then ! (load ! (from ! (stop !)) (look ! 38 refl)) (and-then ! (load ! (from ! (stop !)) (look ! 36 refl)) (and-then ! (load !
-          (from ! (stop !)) (look ! 34 refl)) (no-more !)))) (λ wm.
-          use1 W (later (some (λ (m : List (List Bool)). ((‵ (flft (α ∷ []) fullShare) ⊛ ‵ ftrue) ⊛ ‵ (Rm .own m (wm ∷ [])))
-          ⊛ raw (ensured 𝓤 H A begin.ended (begin.clauses 𝓤 H A mem rn) (α ∷ [], tt) (at-list b₀ o₀ δ xs, (length ss, (length rs, tt))) tt m))))
-          (id⊢ 𝓤 _) $ await ! tt $ pick ! (λ m.
+          (and-then ! (load ! (from ! (stop !)) (look ! 42 refl)) (and-then ! (load ! (from ! (stop !)) (look ! 40 refl)) (and-then ! (load !
+          (from ! (stop !)) (look ! 38 refl)) (no-more !)))) (λ wh.
+          use1 W (later (some (λ (hs : List ℕ). ((‵ (flft (α ∷ []) fullShare) ⊛ ‵ ftrue) ⊛ ‵ (Rh .own hs (wh ∷ [])))
+          ⊛ raw (ensured 𝓤 H A begin.ended (begin.clauses 𝓤 H A mem rn) (α ∷ [], tt) (at-list b₀ o₀ δ xs, (length ss, (length rs, tt))) tt hs))))
+          (id⊢ 𝓤 _) $ await ! tt $ pick ! (λ hs.
           split ! $ move ! (1 ∷ []) $ use1 W (some (λ (ws : List ℕ × (Unit {0} × (Unit {0} × Unit {0}))).
-          ‵ (lasts begin.ended (α ∷ [], tt) (at-list b₀ o₀ δ xs, (length ss, (length rs, tt))) ws) ⊛ raw (fact 𝓤 ((m ≡ begun xs (length ss)
+          ‵ (lasts begin.ended (α ∷ [], tt) (at-list b₀ o₀ δ xs, (length ss, (length rs, tt))) ws) ⊛ raw (fact 𝓤 ((hs ≡ begun xs (length ss)
           (length rs)) × (ws .0 ≡ xs))))) (id⊢ 𝓤 _) $ pick ! (λ ws.
-          split ! $ move ! (1 ∷ []) $ heard ! ((m ≡ begun xs (length ss) (length rs)) × (ws .0 ≡ xs)) (λ told. fsplit ! $ fsplit ! $
+          split ! $ move ! (1 ∷ []) $ heard ! ((hs ≡ begun xs (length ss) (length rs)) × (ws .0 ≡ xs)) (λ told. fsplit ! $ fsplit ! $
           move ! (1 ∷ []) $ feqL ! (λ lx.
-          move ! (2 ∷ []) $ split ! $ move ! (1 ∷ []) $ facts ! Rm (Is Rm) (shows 𝓤 H A Rm) m (wm ∷ []) (λ m-is.
-          land ! (from ! (stop !)) (init ! 44 refl (matrix-lawful .typed m _ m-is .0)) $
+          move ! (2 ∷ []) $ split ! $ move ! (1 ∷ []) $ facts ! Rh (Is Rh) (shows 𝓤 H A Rh) hs (wh ∷ []) (λ hs-is.
+          land ! (from ! (stop !)) (init ! 48 refl (hall-lawful .typed hs _ hs-is .0)) $
           split ! $ lft-end ! tt $ move ! (0 ∷ 4 ∷ 2 ∷ []) $
           use3 W (later (‵ (own₀ (ws .0)) ⊛ ‵ (flft κ₀ q₀)))
           (back-by u32 κ₀ (α ∷ []) q₀ γ₀ b₀ o₀ 𝓤 H A W (named 0) (named 0) xs (length xs) refl δ (ws .0) room₀ lx) $
           await ! tt $ split ! $
           rewrite ! 0 (λ (k : List ℕ). ‵ (own₀ k)) (told .1) refl $ move ! (2 ∷ 3 ∷ []) $ drop ! $ drop ! $ move ! (2 ∷ []) $
-          -- the verdict, on a copy of the matrix
-          assigns ! (of-opd ! (load ! (from ! (stop !)) (look ! 42 refl))) (from ! (stop !)) (init ! 52 refl (matrix-lawful .typed m _ m-is .0)) $
-          assigns ! (of-opd ! (load ! (from ! (stop !)) (look ! 52 refl))) (from ! (stop !)) (store ! 42 refl (matrix-lawful .typed m _ m-is .0)) $
-          assigns ! (of-opd ! (load ! (from ! (fld ! refl (stop !))) (look-in ! 56 (sub ! 1 refl (whole !))))) (from ! (stop !)) (store ! 34 refl
+          -- the matrix, of a copy of the hall
+          assigns ! (of-opd ! (load ! (from ! (stop !)) (look ! 46 refl))) (from ! (stop !)) (init ! 58 refl (hall-lawful .typed hs _ hs-is .0)) $
+          assigns ! (of-opd ! (load ! (from ! (stop !)) (look ! 58 refl))) (from ! (stop !)) (store ! 46 refl (hall-lawful .typed hs _ hs-is .0)) $
+          use0 W (raw (Matrix .pre (to-matrix hs wh hs-is))) (asked-matrix hs wh hs-is) $
+          calls-at ! fm Matrix known-matrix (to-matrix hs wh hs-is) (and-then ! (load ! (from ! (stop !)) (look ! 47 refl)) (no-more !)) (λ wm.
+          use1 W (later (some (λ (m : List (List Bool)). (‵ ftrue ⊛ ‵ (Rm .own m (wm ∷ [])))
+          ⊛ raw (ensured 𝓤 H A matrix.ended (matrix.clauses 𝓤 H A mem rn) tt (hs, tt) tt m)))) (id⊢ 𝓤 _) $ await ! tt $ pick ! (λ m.
+          split ! $ move ! (1 ∷ []) $ use1 W (raw (fact 𝓤 (m ≡ matrixIn hs))) (said-matrix hs wh hs-is m) $
+          heard ! (m ≡ matrixIn hs) (λ me. split ! $ drop ! $ facts ! Rm (Is Rm) (shows 𝓤 H A Rm) m (wm ∷ []) (λ m-is.
+          land ! (from ! (stop !)) (init ! 36 refl (matrix-lawful .typed m _ m-is .0)) $
+          assigns ! (of-opd ! (load ! (from ! (stop !)) (look ! 36 refl))) (from ! (stop !)) (init ! 56 refl (matrix-lawful .typed m _ m-is .0)) $
+          -- the verdict, on another
+          assigns ! (of-opd ! (load ! (from ! (stop !)) (look ! 58 refl))) (from ! (stop !)) (store ! 46 refl (hall-lawful .typed hs _ hs-is .0)) $
+          assigns ! (of-opd ! (load ! (from ! (fld ! refl (stop !))) (look-in ! 62 (sub ! 1 refl (whole !))))) (from ! (stop !)) (store ! 38 refl
           (tt, record { fits = room₂ .0 })) $
-          use0 W (raw (Verdict .pre (to-verdict m wm m-is (length rs) (room₂ .0)))) (asked-verdict m wm m-is (length rs) (room₂ .0)) $
-          calls-at ! fm Verdict known-verdict (to-verdict m wm m-is (length rs) (room₂ .0)) (and-then ! (load ! (from ! (stop !)) (look ! 43 refl))
-          (and-then ! (load ! (from ! (stop !)) (look ! 35 refl)) (no-more !))) (λ w₁.
+          use0 W (raw (Verdict .pre (to-verdict hs wh hs-is (length rs) (room₂ .0)))) (asked-verdict hs wh hs-is (length rs) (room₂ .0)) $
+          calls-at ! fm Verdict known-verdict (to-verdict hs wh hs-is (length rs) (room₂ .0)) (and-then ! (load ! (from ! (stop !))
+          (look ! 47 refl)) (and-then ! (load ! (from ! (stop !)) (look ! 39 refl)) (no-more !))) (λ w₁.
           use1 W (later (some (λ (v : ℕ). (‵ ftrue ⊛ ‵ (u32 .own v (w₁ ∷ [])))
-          ⊛ raw (ensured 𝓤 H A verdict.ended (verdict.clauses 𝓤 H A mem rn) tt (m, (length rs, tt)) tt v)))) (id⊢ 𝓤 _) $ await ! tt $ pick ! (λ v.
-          split ! $ move ! (1 ∷ []) $ use1 W (raw (fact 𝓤 (v ≡ verdictOf m (length rs)))) (said-verdict m wm m-is (length rs) (room₂ .0) v) $
-          heard ! (v ≡ verdictOf m (length rs)) (λ ve. split ! $ drop ! $ facts ! u32 (Is u32) (shows 𝓤 H A u32) v (w₁ ∷ []) (λ v-is.
-          land ! (from ! (stop !)) (init ! 50 refl (uint-lawful 𝓤 H A W w32 .typed v _ v-is .0)) $
-          rewrite ! 50 (λ (k : Val). ‵ (fat fullShare (tyInt w32) l₆ 0 k)) (ap only (v-is .0)) refl $
+          ⊛ raw (ensured 𝓤 H A verdict.ended (verdict.clauses 𝓤 H A mem rn) tt (hs, (length rs, tt)) tt v)))) (id⊢ 𝓤 _) $ await ! tt $ pick ! (λ v.
+          split ! $ move ! (1 ∷ []) $ use1 W (raw (fact 𝓤 (v ≡ verdictOf hs (length rs)))) (said-verdict hs wh hs-is (length rs) (room₂ .0) v) $
+          heard ! (v ≡ verdictOf hs (length rs)) (λ ve. split ! $ drop ! $ facts ! u32 (Is u32) (shows 𝓤 H A u32) v (w₁ ∷ []) (λ v-is.
+          land ! (from ! (stop !)) (init ! 54 refl (uint-lawful 𝓤 H A W w32 .typed v _ v-is .0)) $
+          rewrite ! 54 (λ (k : Val). ‵ (fat fullShare (tyInt w32) l₇ 0 k)) (ap only (v-is .0)) refl $
           -- how many are due
-          assigns ! (of-opd ! (load ! (from ! (fld ! refl (stop !))) (look-in ! 56 (sub ! 1 refl (whole !))))) (from ! (stop !)) (store ! 36 refl
+          assigns ! (of-opd ! (load ! (from ! (fld ! refl (stop !))) (look-in ! 62 (sub ! 1 refl (whole !))))) (from ! (stop !)) (store ! 40 refl
           (tt, record { fits = room₂ .0 })) $
           use0 W (raw (Due .pre (to-due v (length rs) (v-is .1) (room₂ .0)))) (asked-due v (length rs) (v-is .1) (room₂ .0)) $
-          calls-at ! fm Due known-due (to-due v (length rs) (v-is .1) (room₂ .0)) (and-then ! (load ! (from ! (stop !)) (look ! 51 refl))
-          (and-then ! (load ! (from ! (stop !)) (look ! 37 refl)) (no-more !))) (λ w₂.
+          calls-at ! fm Due known-due (to-due v (length rs) (v-is .1) (room₂ .0)) (and-then ! (load ! (from ! (stop !)) (look ! 55 refl))
+          (and-then ! (load ! (from ! (stop !)) (look ! 41 refl)) (no-more !))) (λ w₂.
           use1 W (later (some (λ (n : ℕ). (‵ ftrue ⊛ ‵ (usize .own n (w₂ ∷ [])))
           ⊛ raw (ensured 𝓤 H A due.ended (due.clauses 𝓤 H A mem rn) tt (v, (length rs, tt)) tt n)))) (id⊢ 𝓤 _) $ await ! tt $ pick ! (λ n.
           split ! $ move ! (1 ∷ []) $ use1 W (raw (fact 𝓤 (n ≡ cond (eqb v 0) (length rs) 0))) (said-due v (length rs) (v-is .1) (room₂ .0) n) $
           heard ! (n ≡ cond (eqb v 0) (length rs) 0) (λ e. split ! $ drop ! $ facts ! usize (Is usize) (shows 𝓤 H A usize) n (w₂ ∷ []) (λ is.
-          land ! (from ! (stop !)) (init ! 48 refl (uint-lawful 𝓤 H A W w64 .typed n _ is .0)) $
-          rewrite ! 48 (λ (k : Val). ‵ (fat fullShare (tyInt w64) l₇ 0 k)) (ap only (is .0)) refl $
-          assigns ! (of-opd ! (lit ! tt)) (from ! (stop !)) (init ! 46 refl (tt, record { fits = lit< tt })) $ forget ! 34 refl $ forget ! 36 refl $
-          forget ! 38 refl $ forget ! 40 refl $ forget ! 42 refl $
-          -- the matrix is lent for a lifetime that ends after the loop
-          lft-new ! tt (λ θ. move ! (53 ∷ []) $
-          use1 W (later (some (λ (μ : GName). ‵ (ShrRef (named 3) (θ ∷ []) Rm .own (at-matrix l₅ μ m) (vptr l₅ 0 ∷ []))
-          ⊛ ‵ (LentWhole (Array bool 16) 16 (θ ∷ []) m l₅))))
-          (shares-by (Array bool 16) 16 (θ ∷ []) m l₅ 𝓤 H A W wm m-is (named 3) matrix-makes) $ await ! tt $ pick ! (λ μ. split ! $
+          land ! (from ! (stop !)) (init ! 52 refl (uint-lawful 𝓤 H A W w64 .typed n _ is .0)) $
+          rewrite ! 52 (λ (k : Val). ‵ (fat fullShare (tyInt w64) l₈ 0 k)) (ap only (is .0)) refl $
+          assigns ! (of-opd ! (lit ! tt)) (from ! (stop !)) (init ! 50 refl (tt, record { fits = lit< tt })) $ forget ! 36 refl $ forget ! 38 refl $
+          forget ! 40 refl $ forget ! 42 refl $ forget ! 44 refl $ forget ! 46 refl $
+          -- the hall is lent for a lifetime that ends after the loop, and then the matrix
+          lft-new ! tt (λ θ. move ! (59 ∷ []) $
+          use1 W (later (some (λ (μ : GName). ‵ (ShrRef (named 4) (θ ∷ []) Rh .own (at-hall l₅ μ hs) (vptr l₅ 0 ∷ []))
+          ⊛ ‵ (LentWhole u8 hallBytes (θ ∷ []) hs l₅))))
+          (shares-by u8 hallBytes (θ ∷ []) hs l₅ 𝓤 H A W wh hs-is (named 4) hall-makes) $ await ! tt $ pick ! (λ μ. split ! $
           -- [the reference; what is kept of the cell; θ; the row; …; the locals]: in the order of `I`
           move ! (3 ∷ 4 ∷ 5 ∷ 6 ∷ 7 ∷ 8 ∷ 9 ∷ 10 ∷ 11 ∷ 12 ∷ 0 ∷ 2 ∷ 13 ∷ 14 ∷ 15 ∷ 16 ∷ 17 ∷ 18 ∷ 19 ∷ 20 ∷ 21 ∷ 22 ∷ 23 ∷ 24
           ∷ 25 ∷ 26 ∷ 27 ∷ 28 ∷ 29 ∷ 30 ∷ 31 ∷ 32 ∷ 33 ∷ 34 ∷ 35 ∷ 36 ∷ 37 ∷ 38 ∷ 39 ∷ 40 ∷ 41 ∷ 42 ∷ 43 ∷ 44 ∷ 45 ∷ 46 ∷ 47 ∷ 48
-          ∷ 49 ∷ 50 ∷ 51 ∷ 52 ∷ 53 ∷ 54 ∷ 1 ∷ []) $
-          first ! $ blocks ! $ loops ! 𝓣 (Less xs ss bs rs m n) (less-ends xs ss bs rs m n)
-          (I m wm m-is v (answer-is xs ss rs m (told .0) v ve) (v-is .1) n e
-          (is .1) l₀ l₁ l₂ l₃ l₄ l₅ l₆ l₇ l₈ l₉ l₁₀ l₁₁ l₁₂ l₁₃ l₁₄ l₁₅ l₁₆ l₁₇ l₁₈ l₁₉ l₂₀ l₂₁ l₂₂ l₂₃ l₂₄ l₂₅ l₂₆ θ μ)
-          (turns m wm m-is v (answer-is xs ss rs m (told .0) v ve) (v-is .1) n e
-          (is .1) l₀ l₁ l₂ l₃ l₄ l₅ l₆ l₇ l₈ l₉ l₁₀ l₁₁ l₁₂ l₁₃ l₁₄ l₁₅ l₁₆ l₁₇ l₁₈ l₁₉ l₂₀ l₂₁ l₂₂ l₂₃ l₂₄ l₂₅ l₂₆ θ μ)
+          ∷ 49 ∷ 50 ∷ 51 ∷ 52 ∷ 53 ∷ 54 ∷ 55 ∷ 56 ∷ 57 ∷ 58 ∷ 59 ∷ 60 ∷ 1 ∷ []) $
+          lft-new ! tt (λ ψ. move ! (59 ∷ []) $
+          use1 W (later (some (λ (ν : GName). ‵ (ShrRef (named 3) (ψ ∷ []) Rm .own (at-matrix l₆ ν m) (vptr l₆ 0 ∷ []))
+          ⊛ ‵ (LentWhole (Array bool 16) 16 (ψ ∷ []) m l₆))))
+          (shares-by (Array bool 16) 16 (ψ ∷ []) m l₆ 𝓤 H A W wm m-is (named 3) matrix-makes) $ await ! tt $ pick ! (λ ν. split ! $
+          move ! (3 ∷ 4 ∷ 5 ∷ 6 ∷ 7 ∷ 8 ∷ 9 ∷ 10 ∷ 11 ∷ 12 ∷ 13 ∷ 14 ∷ 0 ∷ 2 ∷ 15 ∷ 16 ∷ 17 ∷ 18 ∷ 19 ∷ 20 ∷ 21 ∷ 22 ∷ 23 ∷ 24
+          ∷ 25 ∷ 26 ∷ 27 ∷ 28 ∷ 29 ∷ 30 ∷ 31 ∷ 32 ∷ 33 ∷ 34 ∷ 35 ∷ 36 ∷ 37 ∷ 38 ∷ 39 ∷ 40 ∷ 41 ∷ 42 ∷ 43 ∷ 44 ∷ 45 ∷ 46 ∷ 47 ∷ 48
+          ∷ 49 ∷ 50 ∷ 51 ∷ 52 ∷ 53 ∷ 54 ∷ 55 ∷ 56 ∷ 57 ∷ 58 ∷ 59 ∷ 60 ∷ 1 ∷ []) $
+          first ! $ blocks ! $ loops ! 𝓣 (Less xs ss bs rs m hs n) (less-ends xs ss bs rs m hs n)
+          (I hs wh hs-is m wm m-is v (answer-is xs ss rs hs (told .0) v ve) (v-is .1) n e
+          (is .1) l₀ l₁ l₂ l₃ l₄ l₅ l₆ l₇ l₈ l₉ l₁₀ l₁₁ l₁₂ l₁₃ l₁₄ l₁₅ l₁₆ l₁₇ l₁₈ l₁₉ l₂₀ l₂₁ l₂₂ l₂₃ l₂₄ l₂₅ l₂₆ l₂₇ l₂₈ l₂₉ θ ψ μ ν)
+          (turns hs wh hs-is m wm m-is v (answer-is xs ss rs hs (told .0) v ve) (v-is .1) n e
+          (is .1) l₀ l₁ l₂ l₃ l₄ l₅ l₆ l₇ l₈ l₉ l₁₀ l₁₁ l₁₂ l₁₃ l₁₄ l₁₅ l₁₆ l₁₇ l₁₈ l₁₉ l₂₀ l₂₁ l₂₂ l₂₃ l₂₄ l₂₅ l₂₆ l₂₇ l₂₈ l₂₉ θ ψ μ ν)
           (record {
             i = 0;
             t = xs;
             s = ss;
             b = bs;
             zs = rs;
-            going = start xs ss bs rs m n (due-fits (eqb v 0) n (length rs) e) (ready-if-due xs ss rs m (told .0) v ve n e);
-          }))))))))))))))))))))))))))))))))))))))))))))))
+            going = start xs ss bs rs m hs n (due-fits (eqb v 0) n (length rs) e) (ready-if-due xs ss rs hs (told .0) v ve m me n e);
+          })))))))))))))))))))))))))))))))))))))))))))))))))))))))
 
 module _ {M : Type 1} (𝓤 : URA M) (H : Heap 𝓤) (A : Atoms 𝓤) (W : Given 𝓤 H A) (mem : Memory → SProp 𝓤) (rn : Routine → Fun 𝓤) (𝓣 : Tables 𝓤 H)
     (known-run : Triple 𝓤 (𝓣 .C #run) (Run 𝓤 H A W mem rn)) (known-due : Triple 𝓤 (𝓣 .C #due) (Due 𝓤 H A W mem rn))
-    (known-verdict : Triple 𝓤 (𝓣 .C #verdict) (Verdict 𝓤 H A W mem rn)) (known-begin : Triple 𝓤 (𝓣 .C #begin) (Begin 𝓤 H A W mem rn)) where
+    (known-verdict : Triple 𝓤 (𝓣 .C #verdict) (Verdict 𝓤 H A W mem rn)) (known-begin : Triple 𝓤 (𝓣 .C #begin) (Begin 𝓤 H A W mem rn))
+    (known-matrix : Triple 𝓤 (𝓣 .C #matrix) (Matrix 𝓤 H A W mem rn)) where
   tray-walks : Walks 𝓤 H A tr.ended stayed (WpFn 𝓤 H (𝓣 .C) (𝓣 .Λ) code.function) (tr.clauses 𝓤 H A mem rn)
   tray-walks = walked 𝓤 H A tr.ended stayed (tr.clauses 𝓤 H A mem rn) (WpFn 𝓤 H (𝓣 .C) (𝓣 .Λ) code.function)
       (λ κs. (slice-vals, (slice-vals, (slice-vals, (slice-vals, tt)))))
@@ -655,7 +740,7 @@ module _ {M : Type 1} (𝓤 : URA M) (H : Heap 𝓤) (A : Atoms 𝓤) (W : Given
       (a .0 .ptr .0) (a .0 .ptr .1) (a .1 .0 .ptr .0) (a .1 .0 .ptr .1) (a .1 .1 .0 .ptr .0) (a .1 .1 .0 .ptr .1) (a .1 .1 .1 .0 .ptr .0)
       (a .1 .1 .1 .0 .ptr .1)
       (a .0 .name) (a .1 .0 .name) (a .1 .1 .0 .name) (a .1 .1 .1 .0 .name) (a .0 .now) (a .1 .0 .now) (a .1 .1 .1 .0 .now) (a .1 .1 .0 .now)
-      𝓣 known-run (are .0 .0 .1) (are .1 .0 .0 .1) (are .1 .1 .0 .0 .1) (are .1 .1 .1 .0 .0 .1) known-due known-verdict known-begin))
+      𝓣 known-run (are .0 .0 .1) (are .1 .0 .0 .1) (are .1 .1 .0 .0 .1) (are .1 .1 .1 .0 .0 .1) known-due known-verdict known-begin known-matrix))
 
   tray-meets : Meets 𝓤 H A tr.signature (WpFn 𝓤 H (𝓣 .C) (𝓣 .Λ) code.function) (tr.spec 𝓤 H A mem rn)
   tray-meets =
@@ -684,4 +769,6 @@ tray-spec 𝓤 H 𝓜 𝓖 𝓡 =
     (cited 𝓤 H (Verdict 𝓤 H (𝓖 .A) (givenOf 𝓤 H 𝓜 𝓖) (𝓜 .mem) (𝓡 .run)) 𝓜 𝓡 code.env #verdict verdict-def.routine code.calls-calls·trays·verdict
     (verdict-thm.met 𝓤 H 𝓜 𝓖 𝓡))
     (cited 𝓤 H (Begin 𝓤 H (𝓖 .A) (givenOf 𝓤 H 𝓜 𝓖) (𝓜 .mem) (𝓡 .run)) 𝓜 𝓡 code.env #begin begin-def.routine code.calls-calls·trays·begin
-    (begin-thm.met 𝓤 H 𝓜 𝓖 𝓡)))
+    (begin-thm.met 𝓤 H 𝓜 𝓖 𝓡))
+    (cited 𝓤 H (Matrix 𝓤 H (𝓖 .A) (givenOf 𝓤 H 𝓜 𝓖) (𝓜 .mem) (𝓡 .run)) 𝓜 𝓡 code.env #matrix matrix-def.routine code.calls-calls·trays·matrix-of
+    (matrix-thm.met 𝓤 H 𝓜 𝓖 𝓡)))

@@ -1,7 +1,16 @@
 -- `view_part` meets its contract: refused where the table or the caller is bad, and else the block's place on the judged table.
-use mathlib.Core.Path.{sym, _∙_}
+use mathlib.Core.Path.{_≡_, refl, sym, _∙_}
+use mathlib.Core.Bool.{Bool, cond}
+use mathlib.Core.List.{List}
+use Prim.Native.Nat.{ℕ}
+use lib.ListN.{length, replicate}
+use Rattle.rules.specs.Claim.{test}
+use Rattle.rules.specs.Layout.{configuration}
+use Rattle.rules.specs.WellFormed.{wellFormed}
+use Rattle.layout.specs.Hall.{hallBytes, hallOf, matrixIn}
 use Rattle.laws.proofs.Tests.{passed, failed}
-use Rattle.calls.proofs.Whole.{ready-by, store-long, sound}
+use Rattle.calls.proofs.Whole.{ready-by, store-long, caller-few, sound}
+use Rattle.calls.specs.World.{Judged}
 use Rattle.calls.proofs.TrayLaws.{ready-judged}
 use Rattle.calls.proofs.ViewLaws.{known-by, view-no-table, view-no-caller, view-done}
 use borrow.Author.Needs.{needs}
@@ -11,6 +20,9 @@ use Rattle.calls.proofs.view_part.Tie as tie
 abbrev start : tie.After-judge → tie.Start
 start c = c .before .before .before .before
 
+slice-aggregate-judge : tie.Need-slice-aggregate-judge
+slice-aggregate-judge c = search needs
+
 judge-requires : tie.Need-judge-requires
 judge-requires c κs = search needs
 
@@ -19,7 +31,7 @@ hidden-requires c κs = search needs
 
 returns : tie.Need-returns
 returns c =
-    let at-judge = c .before .before in
+    let at-judge = c .before .before .before in
     view-no-table _ _ _ _ _ (at-judge .judge .ensures .0) (failed (at-judge .judge .result) (c .before .if1 .taken)) (c .hidden .ensures)
 
 header-of-requires : tie.Need-header-of-requires
@@ -27,7 +39,7 @@ header-of-requires c κs = search needs
 
 bad-caller-requires : tie.Need-bad-caller-requires
 bad-caller-requires c κs =
-    let at-if1 = c .before in let at-judge = at-if1 .before in
+    let at-if1 = c .before in let at-judge = at-if1 .before .before in
     known-by _ (start at-judge .args .store .now) (at-judge .judge .ensures .0) (passed (at-judge .judge .result) (at-if1 .if1 .left)) (c .header-of .ensures)
 
 hidden-requires-2 : tie.Need-hidden-requires-2
@@ -35,26 +47,36 @@ hidden-requires-2 c κs = search needs
 
 returns-2 : tie.Need-returns-2
 returns-2 c =
-    let at-bad = c .before .before in let at-if1 = at-bad .before .before in let at-judge = at-if1 .before in
+    let at-bad = c .before .before in let at-if1 = at-bad .before .before in let at-judge = at-if1 .before .before in
     view-no-caller _ _ _ _ _ (sym (at-judge .judge .ensures .0) ∙ passed (at-judge .judge .result) (at-if1 .if1 .left)) (at-bad .bad-caller .ensures)
     (c .before .if2 .taken) (c .hidden2 .ensures)
 
-cell-of-requires : tie.Need-cell-of-requires
-cell-of-requires c κs =
-    let at-header = c .before .before in let at-if1 = at-header .before in let at-judge = at-if1 .before in
-    known-by _ (start at-judge .args .store .now) (at-judge .judge .ensures .0) (passed (at-judge .judge .result) (at-if1 .if1 .left)) (at-header .header-of .ensures)
+-- the table is judged, and its header read, once its caller is: hall is what the check left
+judged : (c : tie.Else2) {m : List (List Bool)} {hall : List ℕ} →
+    let s = start (c .before .before .before .before .before) in
+    m ≡ matrixIn hall → hall ≡ cond (test (wellFormed (s .args .table .now) (length (s .args .store .now)))) (hallOf (configuration (s .args .table .now)))
+    (replicate hallBytes 0) → Judged (s .args .table .now) (s .args .store .now) (c .before .before .header-of .result) m hall
+judged c is told =
+    let at-header = c .before .before in let at-if1 = at-header .before in let at-judge = at-if1 .before .before in
+    ready-judged (ready-by _ _ (at-judge .judge .ensures .0) (passed (at-judge .judge .result) (at-if1 .if1 .left)) told is) (at-header .header-of .ensures)
+
+cell-in-requires : tie.Need-cell-in-requires
+cell-in-requires c κs =
+    let at-if2 = c .before in let at-judge = at-if2 .before .before .before .before .before in
+    caller-few (judged at-if2 refl (at-judge .judge .ensures .1)) _ (at-if2 .before .bad-caller .ensures) (at-if2 .if2 .left)
+
+matrix-in-requires : tie.Need-matrix-in-requires
+matrix-in-requires c κs = search needs
 
 shown-requires : tie.Need-shown-requires
 shown-requires c κs =
-    let at-if2 = c .before in let at-bad = at-if2 .before in let at-header = at-bad .before in let at-if1 = at-header .before in let at-judge = at-if1 .before in
-    let good = passed (at-judge .judge .result) (at-if1 .if1 .left) in
-    let ready = ready-by (start at-judge .args .table .now) (start at-judge .args .store .now) _ (at-judge .judge .ensures .0) good (at-judge .judge .ensures .1) in
-    let j = ready-judged ready (at-header .header-of .ensures) in
-    (sound j _ (at-bad .bad-caller .ensures) (at-if2 .if2 .left) (c .cell-of .ensures), j .matrix, store-long j)
+    let at-matrix-in = c .before in let at-cell-in = at-matrix-in .before .before in let at-if2 = at-cell-in .before .before in
+    let at-judge = at-if2 .before .before .before .before .before in let j = judged at-if2 (at-matrix-in .matrix-in .ensures) (at-judge .judge .ensures .1) in
+    (sound j _ (at-if2 .before .bad-caller .ensures) (at-if2 .if2 .left) (at-cell-in .cell-in .ensures), j .handed, store-long j)
 
 returns-3 : tie.Need-returns-3
 returns-3 c =
-    let at-if2 = c .before .before in let at-bad = at-if2 .before in let at-if1 = at-bad .before .before in let at-judge = at-if1 .before in
+    let at-if2 = c .before .before .before .before .before .before in let at-bad = at-if2 .before in let at-if1 = at-bad .before .before in let at-judge = at-if1 .before .before in
     view-done _ _ _ _ _ (sym (at-judge .judge .ensures .0) ∙ passed (at-judge .judge .result) (at-if1 .if1 .left)) (at-bad .bad-caller .ensures)
     (at-if2 .if2 .left) (c .shown .ensures)
 
@@ -62,6 +84,7 @@ pub view-part-spec : {M : Type 1} → statement M
 view-part-spec =
     tie.close
     (tie.spec
+    slice-aggregate-judge
     judge-requires
     hidden-requires
     returns
@@ -69,6 +92,7 @@ view-part-spec =
     bad-caller-requires
     hidden-requires-2
     returns-2
-    cell-of-requires
+    cell-in-requires
+    matrix-in-requires
     shown-requires
     returns-3)

@@ -1,4 +1,4 @@
--- `judge` meets its contract: the shape, then the records; the flow matrix is made once the shape is right.
+-- `judge` meets its contract: the shape, then the records, which the hall is told of.
 use mathlib.Core.Path.{sym, _∙_}
 use Rattle.laws.proofs.Tests.{passed, failed}
 use Rattle.table.proofs.Config.{header-read}
@@ -11,31 +11,26 @@ can-set-up-requires : tie.Need-can-set-up-requires
 can-set-up-requires c κs = search needs
 
 returns : tie.Need-returns
-returns c = let wrong = sym (c .before .can-set-up .ensures) ∙ failed _ (c .if1 .taken) in (sym (misshapen _ _ wrong), rw wrong)
+returns c =
+    let wrong = misshapen _ _ (sym (c .before .can-set-up .ensures) ∙ failed _ (c .if1 .taken)) in
+    (sym wrong, rw wrong)
 
 header-of-requires : tie.Need-header-of-requires
 header-of-requires c κs = search needs
 
-flow-matrix-requires : tie.Need-flow-matrix-requires
-flow-matrix-requires c κs = search needs
+judge-records-requires : tie.Need-judge-records-requires
+judge-records-requires c κs =
+    let right = sym (c .before .before .before .can-set-up .ensures) ∙ passed _ (c .before .before .if1 .left) in
+    shaped-of _ _ right _ (header-read _ _ (c .before .header-of .ensures))
 
-records-ok-requires : tie.Need-records-ok-requires
-records-ok-requires c κs =
-    let right = sym (c .before .before .before .before .can-set-up .ensures) ∙ passed _ (c .before .before .before .if1 .left) in
-    (shaped-of _ _ right _ (header-read _ _ (c .before .before .header-of .ensures)), c .before .flow-matrix .ensures)
+same-length : tie.Need-same-length
+same-length c = search needs
 
 returns-2 : tie.Need-returns-2
 returns-2 c =
-    let right = sym (c .before .before .before .before .before .can-set-up .ensures) ∙ passed _ (c .before .before .before .before .if1 .left) in
-    (c .records-ok .ensures ∙ shapen _ _ right, rw right (c .before .before .flow-matrix .ensures))
+    let judged = c .before .before in
+    let right = sym (judged .before .before .before .before .can-set-up .ensures) ∙ passed _ (judged .before .before .before .if1 .left) in
+    (judged .judge-records .ensures .0 ∙ shapen _ _ right, judged .judge-records .ensures .1 ∙ rw (shapen _ _ right))
 
 pub judge-spec : {M : Type 1} → statement M
-judge-spec =
-    tie.close
-    (tie.spec
-    can-set-up-requires
-    returns
-    header-of-requires
-    flow-matrix-requires
-    records-ok-requires
-    returns-2)
+judge-spec = tie.close (tie.spec can-set-up-requires returns header-of-requires judge-records-requires same-length returns-2)

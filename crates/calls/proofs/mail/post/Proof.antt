@@ -24,7 +24,7 @@ waited c = allowed c .before
 judged : (c : tie.After-may-post) → Posted (start c .args .t .now) (start c .args .n) (start c .args .c) (start c .args .a) (start c .args .buffer .now)
     (seen c .look .result) (waited c .before .read .result) (waited c .wide .result) (c .may-post .result)
 judged c =
-    posted (start c .pre .0) (start c .pre .1) _ _ (seen c .before .before .before .or-self .ensures) (seen c .look .ensures) (waited c .before .read .ensures)
+    posted (start c .pre .0) (start c .pre .1 .matrix) _ _ (seen c .before .before .before .or-self .ensures) (seen c .look .ensures) (waited c .before .read .ensures)
     (waited c .wide .ensures) (allowed c .may-write .ensures) (c .before .flow-at .ensures) (c .may-post .ensures)
 
 or-self-requires : tie.Need-or-self-requires
@@ -45,7 +45,7 @@ may-write-requires c κs = search needs
 flow-at-requires : tie.Need-flow-at-requires
 flow-at-requires c κs =
     let at-may-write = c .before in let at-look = at-may-write .before .before .before .before in
-    let at-start = at-look .before .before .before .before .before .before .before in sixteen _ (at-start .pre .1)
+    let at-start = at-look .before .before .before .before .before .before .before in sixteen _ (at-start .pre .1 .matrix)
 
 may-post-requires : tie.Need-may-post-requires
 may-post-requires c κs = search needs

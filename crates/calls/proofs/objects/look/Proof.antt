@@ -1,9 +1,9 @@
 -- `objects::look` meets its contract: of what names nothing nothing is seen, and else each field is what the rules say of the slot.
-use Rattle.rules.specs.Layout.{configuration, recordWords, live, serial, owner, group}
+use Rattle.rules.specs.Layout.{configuration, slots, recordWords, live, serial, owner, group}
 use Rattle.layout.specs.Kinds.{kindOf}
 use Rattle.calls.specs.World.{wordsOf}
 use Rattle.laws.proofs.Tests.{passed, failed}
-use Rattle.calls.proofs.Names.{bits-small, sixteen, record-there, bits-in, named-in, not-seen, seen}
+use Rattle.calls.proofs.Names.{bits-small, sixteen, slot-few, cell-is, record-there, bits-in, named-in, not-seen, seen}
 use Rattle.calls.proofs.Searches.{record-some}
 use Rattle.calls.proofs.Worlds.{see}
 use mathlib.Core.Path.{refl}
@@ -26,8 +26,15 @@ returns c =
     not-seen (configuration (args .t .now)) (wordsOf (args .t .now)) (args .n) (args .c .slot) (kindOf (args .kind)) (args .s) (at-name-of .name-of .ensures)
     (failed _ (c .before .if1 .taken)) (c .unseen .ensures)
 
-cell-of-requires : tie.Need-cell-of-requires
-cell-of-requires c κs = search needs
+-- past the form the slot is one of the table's
+slot-in : (c : tie.Else1) →
+    let at-start = c .before .before .before .before in
+    c .before .before .name-of .result .slot < slots (configuration (at-start .args .t .now)) (kindOf (at-start .args .kind))
+slot-in c =
+    let at-name-of = c .before .before in named-in (at-name-of .before .before .pre .0 .known) _ _ (at-name-of .name-of .ensures) (passed _ (c .if1 .left))
+
+cell-in-requires : tie.Need-cell-in-requires
+cell-in-requires c κs = slot-few (c .before .before .before .before .pre .0 .known) _ _ (slot-in c)
 
 record-at-requires : tie.Need-record-at-requires
 record-at-requires c κs = search needs
@@ -37,8 +44,7 @@ there : (c : tie.After-record-at) (j : ℕ) →
     let args = c .before .before .before .before .before .before .args in
     j < recordWords (kindOf (args .kind)) → c .record-at .result + j < length (args .t .now)
 there c j l =
-    let at-if1 = c .before .before in let at-name-of = at-if1 .before .before in let sound = at-name-of .before .before .pre .0 in
-    record-there sound _ _ j (named-in (sound .known) _ _ (at-name-of .name-of .ensures) (passed _ (at-if1 .if1 .left))) l (c .record-at .ensures .0)
+    let at-if1 = c .before .before in record-there (at-if1 .before .before .before .before .pre .0) _ _ j (slot-in at-if1) l (c .record-at .ensures .0)
 
 -- as far as the words that every record has
 front : (c : tie.After-record-at) (j : ℕ) → j ≤ group → c .record-at .result + j < length (c .before .before .before .before .before .before .args .t .now)
@@ -130,9 +136,9 @@ shared-slice-read-my-group c = home-there (c .before .before) group (omega arith
 
 flow-at-requires : tie.Need-flow-at-requires
 flow-at-requires c κs =
-    let at-cell-of = c .before .before .before .before .before .before .before .before .before .before in
-    let at-start = at-cell-of .before .before .before .before .before in
-    sixteen _ (at-start .pre .1)
+    let at-cell-in = c .before .before .before .before .before .before .before .before .before .before in
+    let at-start = at-cell-in .before .before .before .before .before in
+    sixteen _ (at-start .pre .1 .matrix)
 
 rights-requires : tie.Need-rights-requires
 rights-requires c κs = search needs
@@ -140,10 +146,10 @@ rights-requires c κs = search needs
 returns-2 : tie.Need-returns-2
 returns-2 c =
     let at-flow = c .before .before .before in let at-home = at-flow .before .before .before in let at-bits-word = at-home .before .before in
-    let at-record-at = at-bits-word .before .before .before .before .before in let at-cell-of = at-record-at .before in
-    let at-if1 = at-cell-of .before in let at-name-of = at-if1 .before .before in let at-start = at-name-of .before .before in
+    let at-record-at = at-bits-word .before .before .before .before .before in let at-cell-in = at-record-at .before in
+    let at-if1 = at-cell-in .before in let at-name-of = at-if1 .before .before in let at-start = at-name-of .before .before in
     let known = at-start .pre .0 .known in let place = at-record-at .record-at .ensures .0 in let home = at-home .record-at2 .ensures .0 in
-    seen (at-start .pre .0) (at-start .pre .1) _ _ (at-name-of .name-of .ensures) (at-cell-of .cell-of .ensures) (see known _ _ _ place refl)
+    seen (at-start .pre .0) (at-start .pre .1 .matrix) _ _ (at-name-of .name-of .ensures) (cell-is known _ _ (at-start .pre .1 .told) (slot-in at-if1) (at-cell-in .cell-in .ensures)) (see known _ _ _ place refl)
     (see known _ _ _ place refl) (see known _ _ _ place refl) (see known _ _ _ place refl) (at-bits-word .bits-word .ensures) (see known _ _ _ place refl)
     (see known _ _ _ home refl) (see known _ _ _ home refl) (at-flow .flow-at .ensures) (c .before .before .rights .ensures) (passed _ (at-if1 .if1 .left))
 
@@ -154,7 +160,7 @@ look-spec =
     name-of-requires
     unseen-requires
     returns
-    cell-of-requires
+    cell-in-requires
     record-at-requires
     add-live
     mul-live

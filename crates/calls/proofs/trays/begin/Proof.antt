@@ -1,7 +1,7 @@
--- `begin` meets its contract: a tray that is too long, a table that is well formed, and one that is not.
+-- `begin` meets its contract: a tray that is too long, and one whose table is judged.
 use mathlib.Core.Path.{refl, sym, _∙_}
 use borrow.Author.Needs.{needs}
-use Rattle.calls.proofs.TrayLaws.{begun-long, begun-good, begun-bad}
+use Rattle.calls.proofs.TrayLaws.{begun-long, begun-short}
 use Rattle.calls.proofs.trays.begin.Statement.{statement}
 use Rattle.calls.proofs.trays.begin.Tie as tie
 
@@ -10,6 +10,9 @@ too-long-requires c κs = search needs
 
 returns : tie.Need-returns
 returns c = (begun-long _ _ _ (sym (c .before .too-long .ensures) ∙ c .if1 .taken), refl)
+
+slice-aggregate-judge : tie.Need-slice-aggregate-judge
+slice-aggregate-judge c = search needs
 
 judge-requires : tie.Need-judge-requires
 judge-requires c κs = search needs
@@ -20,17 +23,7 @@ same-length c = search needs
 returns-2 : tie.Need-returns-2
 returns-2 c =
     let at-judge = c .before in let at-else = at-judge .before .before .before in
-    let short = sym (at-else .before .too-long .ensures) ∙ at-else .if1 .left in
-    (begun-good _ _ _ short _ (at-judge .judge .ensures .0) (c .if2 .taken) (at-judge .judge .ensures .1), refl)
-
-same-length-2 : tie.Need-same-length-2
-same-length-2 c = search needs
-
-returns-3 : tie.Need-returns-3
-returns-3 c =
-    let at-judge = c .before in let at-else = at-judge .before .before .before in
-    let short = sym (at-else .before .too-long .ensures) ∙ at-else .if1 .left in
-    (begun-bad _ _ _ short (at-judge .judge .ensures .0) (c .if2 .left), refl)
+    (at-judge .judge .ensures .1 ∙ begun-short _ _ _ (sym (at-else .before .too-long .ensures) ∙ at-else .if1 .left), refl)
 
 pub begin-spec : {M : Type 1} → statement M
-begin-spec = tie.close (tie.spec too-long-requires returns judge-requires same-length returns-2 same-length-2 returns-3)
+begin-spec = tie.close (tie.spec too-long-requires returns slice-aggregate-judge judge-requires same-length returns-2)

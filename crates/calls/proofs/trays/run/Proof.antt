@@ -46,7 +46,7 @@ returns c =
     let at-start = at-wide .before .before .before .before in
     ran-inside (at-start .args .t .now) (at-start .args .store .now) (at-start .args .bytes .now) (at-start .pre) (at-start .args .r) _ _
     (at-wide .wide .ensures) (at-wide2 .wide2 .ensures) (at-then .if1 .taken) _ refl (at-call .call-judged .ensures)
-    (at-call .call-judged .kept .1 .1 .1 .1 .1 .1 .1 .1 .0) (c .answered .ensures)
+    (at-call .call-judged .kept .1 .1 .1 .1 .1 .1 .1 .1 .1 .0) (c .answered .ensures)
 
 header-of-requires : tie.Need-header-of-requires
 header-of-requires c κs = search needs

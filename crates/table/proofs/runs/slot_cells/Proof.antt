@@ -1,14 +1,13 @@
--- `runs::slot_cells` meets its contract: the runs of the cells passed are filled, and of this cell's run the slots passed.
+-- `runs::slot_cells` meets its contract: the runs of the cells passed are filled, and of this cell's run the slots passed; what lies past them is still 0.
 use native.Mathlib.Omega.{arith}
 use mathlib.Core.Path.{_≡_, sym, ap, _∙_}
-use Prim.Native.Nat.{_+_, _*_, _-_, _≤_, _<_}
-use borrow.Author.Count.{below-none}
-use lib.ListN.{length, length-set}
+use Prim.Native.Nat.{ℕ, _+_, _*_, _-_, _≤_, _<_}
+use lib.ListN.{length, length-replicate, length-set}
 use Rattle.rules.specs.Layout.{maxSlots, Kind, cells, cellSlotsWord, firstSlot, configuration, cellAt}
 use Rattle.layout.specs.Kinds.{kindOf}
 use Rattle.table.proofs.Loops.{sum-first}
 use Rattle.table.proofs.Config.{cells-read}
-use Rattle.table.proofs.Filled.{CellsTo, run-fits, run-next, filled-more}
+use Rattle.table.proofs.Filled.{cellsTo, run-fits, run-next, filled-none, filled-more, filled-all}
 use borrow.Author.Needs.{needs}
 use Rattle.table.proofs.runs.slot_cells.Statement.{statement}
 use Rattle.table.proofs.runs.slot_cells.Tie as tie
@@ -16,7 +15,7 @@ use Rattle.table.proofs.runs.slot_cells.Tie as tie
 abbrev Inv-loop2 : tie.InvT-loop2
 Inv-loop2 t of₀ k i₀ c end c-end of i =
     (i ≤ end) × (end ≤ maxSlots) × (length of ≡ maxSlots)
-    × ((κ : Kind) → cellSlotsWord κ ≡ k → (firstSlot (configuration t) κ c ≤ i) × (end ≡ firstSlot (configuration t) κ (c + 1)) × CellsTo (configuration t) κ i of)
+    × ((κ : Kind) → cellSlotsWord κ ≡ k → (firstSlot (configuration t) κ c ≤ i) × (end ≡ firstSlot (configuration t) κ (c + 1)) × (of ≡ cellsTo (configuration t) κ i))
 
 abbrev μ-loop2 : tie.MeasureT-loop2
 μ-loop2 t of₀ k i₀ c end c-end of i = end - i
@@ -24,7 +23,7 @@ abbrev μ-loop2 : tie.MeasureT-loop2
 abbrev Inv-loop : tie.InvT-loop
 Inv-loop t of₀ k i₀ c₀ c-end of i c =
     (c ≤ c-end) × (c-end ≡ cells (configuration t)) × (length of ≡ maxSlots) × (i ≤ maxSlots)
-    × ((κ : Kind) → cellSlotsWord κ ≡ k → (i ≡ firstSlot (configuration t) κ c) × CellsTo (configuration t) κ i of)
+    × ((κ : Kind) → cellSlotsWord κ ≡ k → (i ≡ firstSlot (configuration t) κ c) × (of ≡ cellsTo (configuration t) κ i))
 
 abbrev μ-loop : tie.MeasureT-loop
 μ-loop t of₀ k i₀ c₀ c-end of i c = c-end - c
@@ -40,9 +39,9 @@ unfolding firstSlot
 loop-holds c = (
   search needs,
   c .wide .ensures ∙ sym (cells-read _ _ (c .before .before .before .before .pre .0 .framed .header)),
-  c .before .before .before .before .pre .1,
+  ap length (c .before .before .before .before .pre .1) ∙ length-replicate {A = ℕ} maxSlots 0,
   search needs,
-  λ κ e. (sum-first _, below-none _),
+  λ κ e. (sum-first _, filled-none _ κ _ (c .before .before .before .before .pre .1)),
 )
 
 mul-wide : tie.Need-mul-wide Inv-loop2 μ-loop2 Inv-loop μ-loop
@@ -138,7 +137,7 @@ loop2-again c =
         omega (arith, f κ e .0),
         f κ e .1,
         filled-more _ κ (l .of) (l .i) (c .before .before .before .before .before .loop .c)
-            (omega (arith, c .loop2-test .taken, l .inv .1, l .inv .2)) (omega (
+            (omega (arith, c .loop2-test .taken, l .inv .1)) (omega (
               arith,
               c .before .before .before .before .loop-test .taken,
               c .before .before .before .before .before .loop .inv .1,
@@ -173,7 +172,7 @@ returns c =
     let κ₀ = kindOf (s .args .kind) in
     let f = l .inv .4 κ₀ (sym (c .before .before .before .cell-word .ensures .0)) in
     let all : l .c ≡ cells (configuration (s .args .t .now)) = omega (arith, l .inv .0, l .inv .1, c .loop-test .left) in
-    λ i lt. f .1 i (omega (arith, f .0, ap (firstSlot (configuration (s .args .t .now)) κ₀) all, s .pre .0 .sums κ₀))
+    filled-all _ κ₀ _ (l .i) (f .0 ∙ ap (firstSlot (configuration (s .args .t .now)) κ₀) all ∙ s .pre .0 .sums κ₀) (f .1)
 
 pub slot-cells-spec : {M : Type 1} → statement M
 slot-cells-spec =

@@ -1,0 +1,55 @@
+-- `hall::tell` meets its contract: four lists are stored, one after the other.
+use borrow.Author.Needs.{needs}
+use Rattle.table.specs.Told.{stored}
+use Rattle.table.proofs.hall.tell.Statement.{statement}
+use Rattle.table.proofs.hall.tell.Tie as tie
+
+put-cells-requires : tie.Need-put-cells-requires
+put-cells-requires c κs = search needs
+
+put-cells-requires-2 : tie.Need-put-cells-requires-2
+put-cells-requires-2 c κs = search needs
+
+put-cells-requires-3 : tie.Need-put-cells-requires-3
+put-cells-requires-3 c κs = search needs
+
+flow-bytes-requires : tie.Need-flow-bytes-requires
+flow-bytes-requires c κs = search needs
+
+slice-aggregate-put-bytes : tie.Need-slice-aggregate-put-bytes
+slice-aggregate-put-bytes c = search needs
+
+put-bytes-requires : tie.Need-put-bytes-requires
+put-bytes-requires c κs = search needs
+
+same-length : tie.Need-same-length
+same-length c = search needs
+
+returns : tie.Need-returns
+unfolding stored
+returns c =
+    let flows-put = c .before .before in
+    let flows-made = flows-put .before .before .before in
+    let files-put = flows-made .before .before .before in
+    let segments-put = files-put .before .before .before .before in
+    let processes-put = segments-put .before .before .before .before in
+    rw (
+      flows-put .put-bytes .ensures,
+      flows-made .flow-bytes .ensures,
+      files-put .put-cells3 .ensures,
+      segments-put .put-cells2 .ensures,
+      processes-put .put-cells .ensures,
+    )
+
+pub tell-spec : {M : Type 1} → statement M
+tell-spec =
+    tie.close
+    (tie.spec
+    put-cells-requires
+    put-cells-requires-2
+    put-cells-requires-3
+    flow-bytes-requires
+    slice-aggregate-put-bytes
+    put-bytes-requires
+    same-length
+    returns)
