@@ -1,5 +1,5 @@
 -- What the check hands on says: the cell of every slot, and which cell may flow to which.
-use mathlib.Core.Path.{_≡_, refl, sym, ap, _∙_}
+use mathlib.Core.Path.{_≡_, refl, ap, _∙_}
 use mathlib.Core.Bool.{Bool, true, false}
 use mathlib.Core.List.{List, []}
 use Prim.Native.Nat.{ℕ, _+_, _*_, _/_, _%_, _≤_, _<_}
@@ -14,7 +14,7 @@ use Rattle.laws.proofs.Tests.{cond-true}
 use Rattle.laws.proofs.Tab.{length-tab}
 use Rattle.laws.proofs.Fill.{tab-at, tab-same}
 use Rattle.laws.proofs.Stored.{sets-in, sets-out}
-use Rattle.layout.specs.Hall.{cellsAt, flowsAt, hallBytes, cellByte, slotCells, bit, flowBytes, toldIn, hallOf, flowByte, matrixIn}
+use Rattle.layout.specs.Hall.{cellsAt, flowsAt, hallBytes, cellByte, slotCells, bit, flowBytes, stored, toldIn, hallOf, flowByte, matrixIn}
 
 -- the cells of a kind lie before the flows
 pub cells-before : (k : Kind) → cellsAt k + maxSlots ≤ flowsAt
@@ -31,9 +31,10 @@ module _ (h : List ℕ) where
   unfolding flowBytes
   flows-long = length-tab 0 (maxCells * maxCells) (λ j. bit (flows h (j / maxCells) (j % maxCells)))
 
-  byte : (k : Kind) (i : ℕ) → slots h k ≤ maxSlots → i < slots h k → getD (slotCells h k) i 0 ≡ cellOf h k i
+  -- the list of a kind has the cell of each slot
+  pub slot-cell : (k : Kind) (i : ℕ) → slots h k ≤ maxSlots → i < slots h k → getD (slotCells h k) i 0 ≡ cellOf h k i
   unfolding slotCells
-  byte k i few l = tab-at maxSlots (cellByte h k) i 0 (omega arith) ∙ cond-true (ltb i (slots h k)) (cellOf h k i) 0 (lt-ltb i (slots h k) l)
+  slot-cell k i few l = tab-at maxSlots (cellByte h k) i 0 (omega arith) ∙ cond-true (ltb i (slots h k)) (cellOf h k i) 0 (lt-ltb i (slots h k) l)
 
   -- as far as each list goes
   abbrev first : List ℕ
@@ -57,13 +58,9 @@ module _ (h : List ℕ) where
   third-long : length third ≡ hallBytes
   third-long = length-sets second (cellsAt file) (slotCells h file) ∙ second-long
 
-  pub hall-long : length (hallOf h) ≡ hallBytes
-  unfolding toldIn
-  hall-long = length-sets third flowsAt (flowBytes h) ∙ third-long
-
   -- what stands before the flows is as the lists left it
   before-flows : (j : ℕ) → j < flowsAt → getD (hallOf h) j 0 ≡ getD third j 0
-  unfolding toldIn
+  unfolding toldIn stored
   before-flows j l = sets-out (flowBytes h) third flowsAt j (λ a b. omega arith)
 
   before-files : (j : ℕ) → j < cellsAt file → getD third j 0 ≡ getD second j 0
@@ -74,16 +71,16 @@ module _ (h : List ℕ) where
       before-flows (cellsAt process + i) (omega arith) ∙ before-files (cellsAt process + i) (omega arith)
       ∙ sets-out (slotCells h segment) first (cellsAt segment) (cellsAt process + i) (λ a b. omega arith)
       ∙ sets-in (slotCells h process) (replicate hallBytes 0) (cellsAt process) i (omega (arith, long process)) (omega (arith, zeros-long))
-      ∙ byte process i few l
+      ∙ slot-cell process i few l
   cell-told segment i few l =
       before-flows (cellsAt segment + i) (omega arith) ∙ before-files (cellsAt segment + i) (omega arith)
-      ∙ sets-in (slotCells h segment) first (cellsAt segment) i (omega (arith, long segment)) (omega (arith, first-long)) ∙ byte segment i few l
+      ∙ sets-in (slotCells h segment) first (cellsAt segment) i (omega (arith, long segment)) (omega (arith, first-long)) ∙ slot-cell segment i few l
   cell-told file i few l =
       before-flows (cellsAt file + i) (omega arith)
-      ∙ sets-in (slotCells h file) second (cellsAt file) i (omega (arith, long file)) (omega (arith, second-long)) ∙ byte file i few l
+      ∙ sets-in (slotCells h file) second (cellsAt file) i (omega (arith, long file)) (omega (arith, second-long)) ∙ slot-cell file i few l
 
   pub flow-told : (c d : ℕ) → c < maxCells → d < maxCells → getD (hallOf h) (flowsAt + (maxCells * c + d)) 0 ≡ bit (flows h c d)
-  unfolding toldIn flowBytes
+  unfolding toldIn stored flowBytes
   flow-told c d l m =
       let row : (maxCells * c + d) / maxCells ≡ c = omega arith in let column : (maxCells * c + d) % maxCells ≡ d = omega arith in
       sets-in (flowBytes h) third flowsAt (maxCells * c + d) (omega (arith, flows-long)) (omega (arith, third-long))

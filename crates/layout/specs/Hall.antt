@@ -34,10 +34,14 @@ bit b = cond b 1 0
 unfoldable pub flowBytes : List ℕ → List ℕ
 flowBytes h = tabFrom 0 (maxCells * maxCells) (λ j. bit (flows h (j / maxCells) (j % maxCells)))
 
--- all of it, as far as a list has room
+-- the cells of processes, of segments and of files and the flows, each in its place, as far as a list has room
+unfoldable pub stored : List ℕ → List ℕ → List ℕ → List ℕ → List ℕ → List ℕ
+stored l processes segments files flows =
+    sets (sets (sets (sets l (cellsAt process) processes) (cellsAt segment) segments) (cellsAt file) files) flowsAt flows
+
+-- all that is handed on of a configuration
 unfoldable pub toldIn : List ℕ → List ℕ → List ℕ
-toldIn h l =
-    sets (sets (sets (sets l (cellsAt process) (slotCells h process)) (cellsAt segment) (slotCells h segment)) (cellsAt file) (slotCells h file)) flowsAt (flowBytes h)
+toldIn h l = stored l (slotCells h process) (slotCells h segment) (slotCells h file) (flowBytes h)
 
 abbrev pub hallOf : List ℕ → List ℕ
 hallOf h = toldIn h (replicate hallBytes 0)

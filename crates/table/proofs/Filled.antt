@@ -6,15 +6,16 @@ use native.Mathlib.Numerals.{add-one}
 use native.Mathlib.Omega.{arith}
 use lib.Dec.{ltb}
 use lib.ListN.{getD, set, replicate, length-replicate, getD-replicate}
-use borrow.Author.Tests.{lt-ltb, le-ltb}
+use borrow.Author.Tests.{le-ltb}
 use Rattle.rules.specs.Words.{tabFrom}
 use Rattle.rules.specs.Layout.{maxSlots, Kind, cellWords, cells, slots, cellWord, cellSlots, cellSlotsWord, firstSlot, cellOf, configuration, cellAt}
-use Rattle.laws.proofs.Tests.{cond-true, cond-false}
+use Rattle.laws.proofs.Tests.{cond-false}
 use Rattle.laws.proofs.Tab.{is-tab}
-use Rattle.laws.proofs.Fill.{tab-at, upTo, upTo-more}
+use Rattle.laws.proofs.Fill.{upTo, upTo-more}
 use Rattle.laws.proofs.Cells.{first-next, first-grows, cell-run}
 use Rattle.layout.specs.declared.Header.{Header}
-use Rattle.layout.specs.Hall.{cellByte, slotCells}
+use Rattle.layout.specs.Hall.{slotCells}
+use Rattle.layout.proofs.Hall.{slot-cell}
 use Rattle.table.specs.Shape.{Shaped, CellsOf}
 use Rattle.table.proofs.Config.{cell-word, slots-read, slots-small}
 
@@ -59,6 +60,4 @@ module _ (h : List ℕ) (k : Kind) where
 
   -- which has the cell of every slot
   pub cells-of : (l : List ℕ) → slots h k ≤ maxSlots → l ≡ slotCells h k → CellsOf h k l
-  unfolding slotCells
-  cells-of l few e i lt =
-      ap (λ (x : List ℕ). getD x i 0) e ∙ tab-at maxSlots (cellByte h k) i 0 (omega arith) ∙ cond-true (ltb i (slots h k)) (cellOf h k i) 0 (lt-ltb i (slots h k) lt)
+  cells-of l few e i lt = ap (λ (x : List ℕ). getD x i 0) e ∙ slot-cell h k i few lt

@@ -8,9 +8,9 @@ use lib.ListN.{length, getD, set}
 use Rattle.rules.specs.Layout.{maxCells, process, segment, file, flows, flowMatrix}
 use Rattle.laws.proofs.Tab.{Filled, filled-none, filled-more, filled-all}
 use Rattle.laws.proofs.Fill.{tab-same}
-use Rattle.layout.specs.Hall.{slotCells, bit, flowBytes, toldIn}
+use Rattle.layout.specs.Hall.{slotCells, bit, flowBytes, stored, toldIn}
 use Rattle.levels.proofs.Cells.{matrix-entry}
-use Rattle.table.specs.Told.{entryByte, matrixBytes, stored}
+use Rattle.table.specs.Told.{entryByte, matrixBytes}
 
 -- ---- a matrix in bytes, made entry by entry
 
@@ -49,5 +49,5 @@ module _ (h : List ℕ) where
 
   pub told-is : (l processes segments files : List ℕ) (m : List (List Bool)) → processes ≡ slotCells h process → segments ≡ slotCells h segment → files ≡ slotCells h file
       → m ≡ flowMatrix h → stored l processes segments files (matrixBytes m) ≡ toldIn h l
-  unfolding stored toldIn
+  unfolding toldIn
   told-is l processes segments files m p s f e = rw (p, s, f, e, matrix-bytes)

@@ -2,8 +2,8 @@
 ghost use mathlib.Core.Path.{_≡_};
 ghost use lib.Seq.{sets};
 ghost use Rattle.layout.specs.Kinds.{kindOf};
-ghost use Rattle.layout.specs.Hall.{cellsAt, bit};
-ghost use Rattle.table.specs.Told.{matrixBytes, stored};
+ghost use Rattle.layout.specs.Hall.{cellsAt, bit, stored};
+ghost use Rattle.table.specs.Told.{matrixBytes};
 use layout::FLOWS_AT;
 use layout::Kind;
 use rules::MAX_CELLS;

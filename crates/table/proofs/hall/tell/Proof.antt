@@ -1,6 +1,6 @@
 -- `hall::tell` meets its contract: four lists are stored, one after the other.
 use borrow.Author.Needs.{needs}
-use Rattle.table.specs.Told.{stored}
+use Rattle.layout.specs.Hall.{stored}
 use Rattle.table.proofs.hall.tell.Statement.{statement}
 use Rattle.table.proofs.hall.tell.Tie as tie
 
