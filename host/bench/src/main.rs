@@ -38,9 +38,12 @@ fn main() {
     let tables = [("largest", largest()), ("big", big()), ("small", small())];
     if wanted("check") {
         heading("The check alone");
-        let [largest, big] = [in_turn(16, 16, 64), in_turn(16, 4, 64)];
-        for (name, worlds) in [("largest", &largest), ("big", &big), ("small", &in_turn(2, 2, 1))] {
+        let [largest, big] = [in_turn(8, 16, 16, 64), in_turn(8, 16, 4, 64)];
+        for (name, worlds) in [("largest", &largest), ("big", &big), ("small", &in_turn(8, 2, 2, 1))] {
             line(&format!("eight {name} tables in turn, in use"), check(worlds));
+        }
+        for (name, worlds) in [("big", in_turn(64, 16, 4, 64)), ("small", in_turn(64, 2, 2, 1))] {
+            line(&format!("sixty-four {name} tables in turn, in use"), check(&worlds));
         }
         for (name, world) in &tables {
             line(&format!("{name} table, in use"), check(std::slice::from_ref(world)));
@@ -129,9 +132,9 @@ fn busy(cells: u32, slots: u32, blocks: u32) -> impl Iterator<Item = World> {
     (0..).map(move |seed| tables::busy(&mut Rng::new(seed), &words))
 }
 
-/// Eight tables to be checked in turn: one over and over would let the processor learn its branches by heart.
-fn in_turn(cells: u32, slots: u32, blocks: u32) -> Vec<World> {
-    busy(cells, slots, blocks).take(8).collect()
+/// Tables to be checked in turn: one over and over would let the processor learn its branches by heart, and some learn eight.
+fn in_turn(count: usize, cells: u32, slots: u32, blocks: u32) -> Vec<World> {
+    busy(cells, slots, blocks).take(count).collect()
 }
 
 /// A table in use on which every call has an example that succeeds and one that is refused.
