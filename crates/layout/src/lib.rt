@@ -109,7 +109,9 @@ impl Kind {
 // What the check hands on of a table, in bytes: the cell of every slot, kind by kind; then the sixteen by sixteen table of which cell may flow to which, row by row.
 pub const FLOWS_AT: usize = 3 * MAX_SLOTS;
 
-pub const HALL_BYTES: usize = FLOWS_AT + MAX_CELLS * MAX_CELLS;
+pub const FLOWS: usize = MAX_CELLS * MAX_CELLS;
+
+pub const HALL_BYTES: usize = FLOWS_AT + FLOWS;
 
 // The header's numbers.
 pub struct Header {

@@ -4,14 +4,12 @@ ghost use lib.Seq.{sets};
 ghost use Rattle.layout.specs.Kinds.{kindOf};
 ghost use Rattle.layout.specs.Hall.{cellsAt, bit, stored};
 ghost use Rattle.table.specs.Told.{matrixBytes};
+use layout::FLOWS;
 use layout::FLOWS_AT;
 use layout::Kind;
 use rules::MAX_CELLS;
 use rules::MAX_SLOTS;
 use words::put_bytes;
-
-// The entries of a flow matrix.
-const FLOWS: usize = MAX_CELLS * MAX_CELLS;
 
 fn flag(b: bool) -> u8
     ensures { λ r. ⌜ r ≡ bit b ⌝ }
