@@ -25,7 +25,8 @@ matrix-in-requires c κs = search needs
 
 call-judged-requires : tie.Need-call-judged-requires
 call-judged-requires c κs =
-    let at-matrix-in = c .before .before .before .before .before in let at-if1 = at-matrix-in .before .before in let at-judge = at-if1 .before .before in
+    let at-matrix-in = c .before .before .before .before .before in let at-if1 = at-matrix-in .before .before in
+    let at-judge = at-if1 .before .before in
     ready-by _ _ (at-judge .judge .ensures .0) (passed (at-judge .judge .result) (at-if1 .if1 .left)) (at-judge .judge .ensures .1)
     (at-matrix-in .matrix-in .ensures)
 
@@ -39,7 +40,9 @@ same-length-4 : tie.Need-same-length-4
 same-length-4 c = search needs
 
 returns-2 : tie.Need-returns-2
-returns-2 c = c .before .before .before .before .before .before .call-judged .ensures
+returns-2 c =
+    let at-table = c .before .before .before .before .before in let at-call-judged = at-table .before in
+    at-call-judged .call-judged .ensures
 
 pub call-spec : {M : Type 1} → statement M
 call-spec =

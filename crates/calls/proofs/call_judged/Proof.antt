@@ -28,8 +28,8 @@ same-length c = search needs
 
 returns : tie.Need-returns
 returns c =
-    let at-if1 = c .before in let at-bad-caller = at-if1 .before in let at-header-of = at-bad-caller .before .before in
-    no-caller (judged at-header-of) _ (at-bad-caller .bad-caller .ensures) _ _ _ _ _ (at-if1 .if1 .taken) (c .refused .ensures)
+    let at-bad-caller = c .before .before in let at-header-of = at-bad-caller .before .before in
+    no-caller (judged at-header-of) _ (at-bad-caller .bad-caller .ensures) _ _ _ _ _ (c .before .if1 .taken) (c .refused .ensures)
 
 bad-code-requires : tie.Need-bad-code-requires
 bad-code-requires c κs = search needs
@@ -42,14 +42,14 @@ same-length-2 c = search needs
 
 returns-2 : tie.Need-returns-2
 returns-2 c =
-    let at-if2 = c .before in let at-bad-code = at-if2 .before in let at-if1 = at-bad-code .before in let at-bad-caller = at-if1 .before in
+    let at-bad-code = c .before .before in let at-if1 = at-bad-code .before in let at-bad-caller = at-if1 .before in
     let at-header-of = at-bad-caller .before .before in
-    no-code (judged at-header-of) _ (at-bad-caller .bad-caller .ensures) _ _ _ _ _ (at-if1 .if1 .left) (at-bad-code .bad-code .ensures) (at-if2 .if2 .taken)
-    (c .refused2 .ensures)
+    no-code (judged at-header-of) _ (at-bad-caller .bad-caller .ensures) _ _ _ _ _ (at-if1 .if1 .left) (at-bad-code .bad-code .ensures)
+    (c .before .if2 .taken) (c .refused2 .ensures)
 
 cell-in-requires : tie.Need-cell-in-requires
 cell-in-requires c κs =
-    let at-if2 = c in let at-if1 = at-if2 .before .before in let at-bad-caller = at-if1 .before in let at-header-of = at-bad-caller .before .before in
+    let at-if1 = c .before .before in let at-bad-caller = at-if1 .before in let at-header-of = at-bad-caller .before .before in
     caller-few (judged at-header-of) _ (at-bad-caller .bad-caller .ensures) (at-if1 .if1 .left)
 
 carry-out-requires : tie.Need-carry-out-requires
@@ -75,11 +75,11 @@ same-length-5 c = search needs
 
 returns-3 : tie.Need-returns-3
 returns-3 c =
-    let at-carry-out = c .before .before .before .before .before .before in
-    let at-if2 = at-carry-out .before .before .before .before .before in let at-bad-code = at-if2 .before in
-    let at-if1 = at-bad-code .before in let at-bad-caller = at-if1 .before in let at-header-of = at-bad-caller .before .before in
-    all-done (judged at-header-of) _ (at-bad-caller .bad-caller .ensures) _ _ _ _ _ (at-if1 .if1 .left) (at-bad-code .bad-code .ensures) (at-if2 .if2 .left)
-    (at-carry-out .carry-out .ensures)
+    let at-t = c .before .before .before .before .before in let at-carry-out = at-t .before in
+    let at-if2 = at-carry-out .before .before .before .before .before in let at-bad-code = at-if2 .before in let at-if1 = at-bad-code .before in
+    let at-bad-caller = at-if1 .before in let at-header-of = at-bad-caller .before .before in
+    all-done (judged at-header-of) _ (at-bad-caller .bad-caller .ensures) _ _ _ _ _ (at-if1 .if1 .left) (at-bad-code .bad-code .ensures)
+    (at-if2 .if2 .left) (at-carry-out .carry-out .ensures)
 
 pub call-judged-spec : {M : Type 1} → statement M
 call-judged-spec =

@@ -47,9 +47,9 @@ hidden-requires-2 c κs = search needs
 
 returns-2 : tie.Need-returns-2
 returns-2 c =
-    let at-bad = c .before .before in let at-if1 = at-bad .before .before in let at-judge = at-if1 .before .before in
-    view-no-caller _ _ _ _ _ (sym (at-judge .judge .ensures .0) ∙ passed (at-judge .judge .result) (at-if1 .if1 .left)) (at-bad .bad-caller .ensures)
-    (c .before .if2 .taken) (c .hidden2 .ensures)
+    let at-bad-caller = c .before .before in let at-if1 = at-bad-caller .before .before in let at-judge = at-if1 .before .before in
+    view-no-caller _ _ _ _ _ (sym (at-judge .judge .ensures .0) ∙ passed (at-judge .judge .result) (at-if1 .if1 .left))
+    (at-bad-caller .bad-caller .ensures) (c .before .if2 .taken) (c .hidden2 .ensures)
 
 -- the table is judged, and its header read, once its caller is: hall is what the check left
 judged : (c : tie.Else2) {m : List (List Bool)} {hall : List ℕ} →
@@ -57,28 +57,31 @@ judged : (c : tie.Else2) {m : List (List Bool)} {hall : List ℕ} →
     m ≡ matrixIn hall → hall ≡ cond (test (wellFormed (s .args .table .now) (length (s .args .store .now)))) (hallOf (configuration (s .args .table .now)))
     (replicate hallBytes 0) → Judged (s .args .table .now) (s .args .store .now) (c .before .before .header-of .result) m hall
 judged c is told =
-    let at-header = c .before .before in let at-if1 = at-header .before in let at-judge = at-if1 .before .before in
-    ready-judged (ready-by _ _ (at-judge .judge .ensures .0) (passed (at-judge .judge .result) (at-if1 .if1 .left)) told is) (at-header .header-of .ensures)
+    let at-header-of = c .before .before in let at-if1 = at-header-of .before in let at-judge = at-if1 .before .before in
+    ready-judged (ready-by _ _ (at-judge .judge .ensures .0) (passed (at-judge .judge .result) (at-if1 .if1 .left)) told is)
+    (at-header-of .header-of .ensures)
 
 cell-in-requires : tie.Need-cell-in-requires
 cell-in-requires c κs =
-    let at-if2 = c .before in let at-judge = at-if2 .before .before .before .before .before in
-    caller-few (judged at-if2 refl (at-judge .judge .ensures .1)) _ (at-if2 .before .bad-caller .ensures) (at-if2 .if2 .left)
+    let at-bad-caller = c .before .before in let at-judge = at-bad-caller .before .before .before .before in
+    caller-few (judged (c .before) refl (at-judge .judge .ensures .1)) _ (at-bad-caller .bad-caller .ensures) (c .before .if2 .left)
 
 matrix-in-requires : tie.Need-matrix-in-requires
 matrix-in-requires c κs = search needs
 
 shown-requires : tie.Need-shown-requires
 shown-requires c κs =
-    let at-matrix-in = c .before in let at-cell-in = at-matrix-in .before .before in let at-if2 = at-cell-in .before .before in
-    let at-judge = at-if2 .before .before .before .before .before in let j = judged at-if2 (at-matrix-in .matrix-in .ensures) (at-judge .judge .ensures .1) in
-    (sound j _ (at-if2 .before .bad-caller .ensures) (at-if2 .if2 .left) (at-cell-in .cell-in .ensures), j .handed, store-long j)
+    let at-cell-in = c .before .before .before in let at-if2 = at-cell-in .before .before in let at-bad-caller = at-if2 .before in
+    let at-judge = at-bad-caller .before .before .before .before in
+    let j = judged at-if2 (c .before .matrix-in .ensures) (at-judge .judge .ensures .1) in
+    (sound j _ (at-bad-caller .bad-caller .ensures) (at-if2 .if2 .left) (at-cell-in .cell-in .ensures), j .handed, store-long j)
 
 returns-3 : tie.Need-returns-3
 returns-3 c =
-    let at-if2 = c .before .before .before .before .before .before in let at-bad = at-if2 .before in let at-if1 = at-bad .before .before in let at-judge = at-if1 .before .before in
-    view-done _ _ _ _ _ (sym (at-judge .judge .ensures .0) ∙ passed (at-judge .judge .result) (at-if1 .if1 .left)) (at-bad .bad-caller .ensures)
-    (at-if2 .if2 .left) (c .shown .ensures)
+    let at-hall3 = c .before .before .before .before .before in let at-if2 = at-hall3 .before in let at-bad-caller = at-if2 .before in
+    let at-if1 = at-bad-caller .before .before in let at-judge = at-if1 .before .before in
+    view-done _ _ _ _ _ (sym (at-judge .judge .ensures .0) ∙ passed (at-judge .judge .result) (at-if1 .if1 .left))
+    (at-bad-caller .bad-caller .ensures) (at-if2 .if2 .left) (c .shown .ensures)
 
 pub view-part-spec : {M : Type 1} → statement M
 view-part-spec =

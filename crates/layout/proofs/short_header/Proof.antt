@@ -25,14 +25,17 @@ word-requires-6 c κs = search needs
 
 returns : tie.Need-returns
 unfolding cells slots blocks guard
-returns c = λ i. record {
-  cells = c .before .before .before .before .before .word .ensures i;
-  processes = c .before .before .before .before .word2 .ensures i;
-  segments = c .before .before .before .word3 .ensures i;
-  files = c .before .before .word4 .ensures i;
-  blocks = c .before .word5 .ensures i;
-  guard = c .word6 .ensures i;
-}
+returns c =
+    let at-word4 = c .before .before in let at-word3 = at-word4 .before in let at-word2 = at-word3 .before in let at-word = at-word2 .before in
+    λ i. record {
+      cells = at-word .word .ensures i;
+      processes = at-word2 .word2 .ensures i;
+      segments = at-word3 .word3 .ensures i;
+      files = at-word4 .word4 .ensures
+          i;
+      blocks = c .before .word5 .ensures i;
+      guard = c .word6 .ensures i;
+    }
 
 pub short-header-spec : {M : Type 1} → statement M
 short-header-spec =

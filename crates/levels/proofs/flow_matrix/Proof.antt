@@ -41,11 +41,12 @@ array-copy-out-from : tie.Need-array-copy-out-from Inv-loop2 μ-loop2 Inv-loop �
 array-copy-out-from c = search needs
 
 loop2-holds : tie.Need-loop2-holds Inv-loop2 μ-loop2 Inv-loop μ-loop
-loop2-holds c = (
-  omega arith,
-  row-begun _ _ (c .before .before .before .levels .result) _ _
-      (omega (arith, c .before .loop-test .taken, c .before .before .before .before .count .ensures)) (c .before .before .loop .inv .1),
-)
+loop2-holds c =
+    let at-loop = c .before .before in let at-levels = at-loop .before in let at-count = at-levels .before in (
+      omega arith,
+      row-begun _ _ (at-levels .levels .result) _ _
+          (omega (arith, c .before .loop-test .taken, at-count .count .ensures)) (at-loop .loop .inv .1),
+    )
 
 mul-level : tie.Need-mul-level Inv-loop2 μ-loop2 Inv-loop μ-loop
 mul-level c = search needs
@@ -73,8 +74,8 @@ loop2-less c = search needs
 
 loop2-again : tie.Need-loop2-again Inv-loop2 μ-loop2 Inv-loop μ-loop
 loop2-again c =
-    let at-levels = c .before .before .before .before .before .before .before in
-    (omega arith, row-more _ _ (at-levels .levels .result) _ _ _ _ (omega arith) (omega arith) (c .before .before .before .loop2 .inv .1) (c .flows-from .ensures))
+    let at-loop2 = c .before .before .before in let at-levels = at-loop2 .before .before .before .before in
+    (omega arith, row-more _ _ (at-levels .levels .result) _ _ _ _ (omega arith) (omega arith) (at-loop2 .loop2 .inv .1) (c .flows-from .ensures))
 
 add-c : tie.Need-add-c Inv-loop2 μ-loop2 Inv-loop μ-loop
 add-c c = search needs
@@ -84,11 +85,10 @@ loop-less c = search needs
 
 loop-again : tie.Need-loop-again Inv-loop2 μ-loop2 Inv-loop μ-loop
 loop-again c =
-    let at-count = c .before .before .before .before .before .before in
-    let at-loop2 = c .before in (
+    let at-in-loop = c .before .before .before in let at-levels = at-in-loop .before .before in let at-count = at-levels .before in (
       omega arith,
-      row-done _ _ (at-count .count .ensures) _ (c .before .before .before .before .before .levels .ensures) _ _ _
-          (c .before .before .before .loop-test .taken) (at-loop2 .loop2 .inv .0) (c .loop2-test .left) (at-loop2 .loop2 .inv .1),
+      row-done _ _ (at-count .count .ensures) _ (at-levels .levels .ensures) _ _ _
+          (at-in-loop .loop-test .taken) (c .before .loop2 .inv .0) (c .loop2-test .left) (c .before .loop2 .inv .1),
     )
 
 returns : tie.Need-returns Inv-loop2 μ-loop2 Inv-loop μ-loop

@@ -30,8 +30,8 @@ word-requires-4 c κs = search needs
 
 returns : tie.Need-returns
 returns c =
-    level-in _ _ _ (c .before .before .before .before .word .ensures) (c .before .before .before .if1 .taken)
-    _ _ _ (c .before .before .word2 .ensures) (c .before .word3 .ensures) (c .word4 .ensures)
+    let at-word2 = c .before .before in let at-if1 = at-word2 .before in let at-word = at-if1 .before in
+    level-in _ _ _ (at-word .word .ensures) (at-if1 .if1 .taken) _ _ _ (at-word2 .word2 .ensures) (c .before .word3 .ensures) (c .word4 .ensures)
 
 returns-2 : tie.Need-returns-2
 returns-2 c = level-past _ _ _ (c .before .word .ensures) (c .if1 .left)

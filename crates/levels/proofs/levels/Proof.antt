@@ -43,12 +43,13 @@ loop-less : tie.Need-loop-less Inv-loop μ-loop
 loop-less c = search needs
 
 loop-again : tie.Need-loop-again Inv-loop μ-loop
-loop-again c = (
-  omega arith,
-  upTo-more nil (levelIn (c .before .before .before .before .before .args .t .now)) maxCells _ _ _ (omega arith)
-      (c .before .before .loop .inv .1)
-      (ap codeLevel (c .level-at .ensures)),
-)
+loop-again c =
+    let at-loop = c .before .before in let at-start = at-loop .before .before .before in (
+      omega arith,
+      upTo-more nil (levelIn (at-start .args .t .now)) maxCells _ _ _ (omega arith)
+          (at-loop .loop .inv .1)
+          (ap codeLevel (c .level-at .ensures)),
+    )
 
 returns : tie.Need-returns Inv-loop μ-loop
 returns c = levels-all _ _ _ _ (c .before .before .count .ensures) (c .loop-test .left) (c .before .loop .inv .1)

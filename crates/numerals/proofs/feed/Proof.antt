@@ -22,10 +22,11 @@ add-if4 c = search needs
 returns-3 : tie.Need-returns-3
 unfolding fedBy
 returns-3 c =
+    let at-if2 = c .before .before in let at-if1 = at-if2 .before .before in
     rw (
-      lt-leb _ _ (c .before .before .before .before .if1 .left),
+      lt-leb _ _ (at-if1 .if1 .left),
       ← c .before .before .before .grow .ensures .0,
-      lt-leb _ _ (c .before .before .if2 .left),
+      lt-leb _ _ (at-if2 .if2 .left),
       le-leb _ _ (c .before .if3 .taken),
       le-leb _ _ (c .if4 .taken),
     )
@@ -39,10 +40,11 @@ add-t8 c = search needs
 returns-4 : tie.Need-returns-4
 unfolding fedBy
 returns-4 c =
+    let at-if2 = c .before .before in let at-if1 = at-if2 .before .before in
     rw (
-      lt-leb _ _ (c .before .before .before .before .if1 .left),
+      lt-leb _ _ (at-if1 .if1 .left),
       ← c .before .before .before .grow .ensures .0,
-      lt-leb _ _ (c .before .before .if2 .left),
+      lt-leb _ _ (at-if2 .if2 .left),
       le-leb _ _ (c .before .if3 .taken),
       lt-leb _ _ (c .if4 .left),
     )
@@ -53,10 +55,11 @@ cast-t13 c = search needs
 returns-5 : tie.Need-returns-5
 unfolding fedBy
 returns-5 c =
+    let at-if2 = c .before .before in let at-if1 = at-if2 .before .before in
     rw (
-      lt-leb _ _ (c .before .before .before .before .if1 .left),
+      lt-leb _ _ (at-if1 .if1 .left),
       ← c .before .before .before .grow .ensures .0,
-      lt-leb _ _ (c .before .before .if2 .left),
+      lt-leb _ _ (at-if2 .if2 .left),
       lt-leb _ _ (c .before .if3 .left),
       c .if5 .taken,
     )
@@ -64,10 +67,11 @@ returns-5 c =
 returns-6 : tie.Need-returns-6
 unfolding fedBy
 returns-6 c =
+    let at-if2 = c .before .before in let at-if1 = at-if2 .before .before in
     rw (
-      lt-leb _ _ (c .before .before .before .before .if1 .left),
+      lt-leb _ _ (at-if1 .if1 .left),
       ← c .before .before .before .grow .ensures .0,
-      lt-leb _ _ (c .before .before .if2 .left),
+      lt-leb _ _ (at-if2 .if2 .left),
       lt-leb _ _ (c .before .if3 .left),
       c .if5 .left,
     )

@@ -34,25 +34,24 @@ loop-less c = search needs
 
 loop-again : tie.Need-loop-again Inv-loop μ-loop
 loop-again c =
-    let at-loop = c .before .before .before .before .before .before in
-    code-more _ _ _ (c .before .before .before .before .before .loop-test .taken) _ (c .before .before .before .feed .ensures) _ (c .before .fed .given .1)
-    ∙ at-loop .loop .inv
+    let at-feed = c .before .before .before in let at-in-loop = at-feed .before .before in let at-loop = at-in-loop .before in
+    code-more _ _ _ (at-in-loop .loop-test .taken) _ (at-feed .feed .ensures) _ (c .before .fed .given .1) ∙ at-loop .loop .inv
 
 enum-told : tie.Need-enum-told Inv-loop μ-loop
 enum-told c = search needs
 
 returns : tie.Need-returns Inv-loop μ-loop
 returns c =
-    code-done _ _ _ (c .before .before .before .before .loop-test .taken) _ (c .before .before .feed .ensures) _ (c .enum-told .given .1)
-    ∙ c .before .before .before .before .before .loop .inv
+    let at-feed = c .before .before in let at-in-loop = at-feed .before .before in let at-loop = at-in-loop .before in
+    code-done _ _ _ (at-in-loop .loop-test .taken) _ (at-feed .feed .ensures) _ (c .enum-told .given .1) ∙ at-loop .loop .inv
 
 enum-told-2 : tie.Need-enum-told-2 Inv-loop μ-loop
 enum-told-2 c = search needs
 
 returns-2 : tie.Need-returns-2 Inv-loop μ-loop
 returns-2 c =
-    code-bad _ _ _ (c .before .before .before .before .loop-test .taken) _ (c .before .before .feed .ensures) (c .enum-told2 .given .1)
-    ∙ c .before .before .before .before .before .loop .inv
+    let at-feed = c .before .before in let at-in-loop = at-feed .before .before in let at-loop = at-in-loop .before in
+    code-bad _ _ _ (at-in-loop .loop-test .taken) _ (at-feed .feed .ensures) (c .enum-told2 .given .1) ∙ at-loop .loop .inv
 
 returns-3 : tie.Need-returns-3 Inv-loop μ-loop
 returns-3 c = code-end _ _ _ (c .loop-test .left) ∙ c .before .loop .inv

@@ -29,8 +29,8 @@ loop-less c = search needs
 
 loop-again : tie.Need-loop-again Inv-loop μ-loop
 loop-again c =
-    one-more _ _ _ _ _ _ _ _ (c .before .before .before .before .before .loop .inv) (c .before .before .before .before .loop-test .taken)
-    (c .before .before .put-byte .ensures)
+    let at-put-byte = c .before .before in let at-in-loop = at-put-byte .before .before in let at-loop = at-in-loop .before in
+    one-more _ _ _ _ _ _ _ _ (at-loop .loop .inv) (at-in-loop .loop-test .taken) (at-put-byte .put-byte .ensures)
 
 cast-put-byte-2 : tie.Need-cast-put-byte-2 Inv-loop μ-loop
 cast-put-byte-2 c = search needs
@@ -40,12 +40,13 @@ put-byte-requires-2 c κs = search needs
 
 same-length : tie.Need-same-length Inv-loop μ-loop
 same-length c =
-    same-size _ _ _ _ _ (end _ _ _ _ _ _ _ _ (c .before .before .before .before .before .loop .inv) (c .before .before .before .before .loop-test .left)
-    (c .before .before .put-byte2 .ensures))
+    let at-put-byte2 = c .before .before in let past-loop = at-put-byte2 .before .before in let at-loop = past-loop .before in
+    same-size _ _ _ _ _ (end _ _ _ _ _ _ _ _ (at-loop .loop .inv) (past-loop .loop-test .left) (at-put-byte2 .put-byte2 .ensures))
 
 returns : tie.Need-returns Inv-loop μ-loop
 returns c =
-    end _ _ _ _ _ _ _ _ (c .before .before .before .before .before .loop .inv) (c .before .before .before .before .loop-test .left) (c .before .before .put-byte2 .ensures)
+    let at-put-byte2 = c .before .before in let past-loop = at-put-byte2 .before .before in let at-loop = past-loop .before in
+    end _ _ _ _ _ _ _ _ (at-loop .loop .inv) (past-loop .loop-test .left) (at-put-byte2 .put-byte2 .ensures)
 
 pub put-number-spec : {M : Type 1} → statement M
 put-number-spec =

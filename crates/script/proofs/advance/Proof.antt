@@ -35,20 +35,23 @@ same-length-2 c = search needs
 
 returns : tie.Need-returns Inv-loop μ-loop
 returns c =
-    let at-loop = c .before .before .before .before .before .before .before .before .before .before in
-    let at-take-some = c .before .before .before .before .before .before in
-    rw (← at-loop .loop .inv .2) (code-stops _ _ _ _ _ _ _ _ (at-take-some .take-some .ensures) _ (c .before .is-more .ensures) (not-true _ (c .if1 .taken)))
+    let at-table = c .before .before .before .before .before in let at-take-some = at-table .before in
+    let at-loop = at-take-some .before .before .before .before in
+    rw (← at-loop .loop .inv .2) (code-stops _ _ _ _ _ _ _ _ (at-take-some .take-some .ensures) _ (c .before .is-more .ensures) (not-true _
+    (c .if1 .taken)))
 
 loop-less : tie.Need-loop-less Inv-loop μ-loop
-loop-less c = let z = c .before .before .before .before .before .before .before .take-some .ensures .past in omega arith
+loop-less c =
+    let at-buf = c .before .before .before .before in let at-take-some = at-buf .before .before .before in
+    let z = at-take-some .take-some .ensures .past in omega arith
 
 loop-again : tie.Need-loop-again Inv-loop μ-loop
 loop-again c =
-    let at-loop = c .before .before .before .before .before .before .before .before .before .before .before in
-    let at-take-some = c .before .before .before .before .before .before .before in (
+    let at-is-more = c .before .before in let at-take-some = at-is-more .before .before .before .before .before in
+    let at-loop = at-take-some .before .before .before .before in (
       search needs,
       search needs,
-      code-goes-on _ _ _ _ _ _ _ _ (at-take-some .take-some .ensures) _ (c .before .before .is-more .ensures)
+      code-goes-on _ _ _ _ _ _ _ _ (at-take-some .take-some .ensures) _ (at-is-more .is-more .ensures)
           (not-false _ (c .before .if1 .left)) ∙ at-loop .loop .inv .2,
     )
 

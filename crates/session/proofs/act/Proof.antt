@@ -54,8 +54,8 @@ same-length-3 c = search needs
 
 returns-2 : tie.Need-returns-2
 returns-2 c =
-    let at-enum-told2 = c .before .before .before .before .before .before .before .before .before .before in
-    let at-begin = c .before .before .before .before .before .before in
+    let at-table = c .before .before .before .before .before in let at-begin = at-table .before in
+    let at-enum-told2 = at-begin .before .before .before .before in
     act-configuration _ _ _ _ _ _ _ _ _ _ _ (at-enum-told2 .enum-told2 .given .1) (at-begin .begin .ensures)
 
 same-length-4 : tie.Need-same-length-4
@@ -72,19 +72,21 @@ same-length-7 c = search needs
 
 returns-3 : tie.Need-returns-3
 returns-3 c =
-    let at-enum-told3 = c .before .before .before .before .before .before .before .before .before .before .before .before .before .before .before .before in
-    let at-wrapping-add-u64 = c .before .before .before .before .before .before .before .before .before .before .before .before .before .before .before in
-    let at-run = c .before .before .before .before .before .before .before .before .before in
-    act-call _ _ _ _ _ _ _ _ _ _ _ _ _ _ (at-enum-told3 .enum-told3 .given .1) (at-wrapping-add-u64 .wrapping-add-u64 .ensures) (c .onward2 .ensures) (at-run .run .ensures)
+    let at-buf = c .before .before .before .before in let at-run = at-buf .before .before .before .before .before in
+    let at-nums = at-run .before .before .before .before .before in let at-wrapping-add-u64 = at-nums .before in
+    let at-enum-told3 = at-wrapping-add-u64 .before in
+    act-call _ _ _ _ _ _ _ _ _ _ _ _ _ _ (at-enum-told3 .enum-told3 .given .1) (at-wrapping-add-u64 .wrapping-add-u64 .ensures)
+    (c .onward2 .ensures) (at-run .run .ensures)
 
 same-length-8 : tie.Need-same-length-8
 same-length-8 c = search needs
 
 returns-4 : tie.Need-returns-4
 returns-4 c =
-    let at-enum-told4 = c .before .before .before .before .before .before .before in
-    act-fault _ _ _ _ _ _ _ _ _ _ _ (at-enum-told4 .enum-told4 .given .1) (c .before .before .before .before .is-calling .ensures) (c .onward3 .ensures)
-    (c .before .before .before .put-fault .ensures)
+    let at-put-fault = c .before .before .before in let at-is-calling = at-put-fault .before in
+    let at-enum-told4 = at-is-calling .before .before .before in
+    act-fault _ _ _ _ _ _ _ _ _ _ _ (at-enum-told4 .enum-told4 .given .1) (at-is-calling .is-calling .ensures) (c .onward3 .ensures)
+    (at-put-fault .put-fault .ensures)
 
 pub act-spec : {M : Type 1} → statement M
 act-spec =

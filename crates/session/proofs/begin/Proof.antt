@@ -21,8 +21,9 @@ same-length-3 c = search needs
 
 returns : tie.Need-returns
 returns c =
-    let at-prepare = c .before .before .before .before .before .before .before .before .before in
-    begun _ _ _ _ _ _ _ _ _ _ _ (at-prepare .prepare .ensures) (c .before .before .put-opening .ensures)
+    let at-put-opening = c .before .before in let at-store = at-put-opening .before .before .before .before in
+    let at-prepare = at-store .before .before .before in
+    begun _ _ _ _ _ _ _ _ _ _ _ (at-prepare .prepare .ensures) (at-put-opening .put-opening .ensures)
 
 pub begin-spec : {M : Type 1} → statement M
 begin-spec =

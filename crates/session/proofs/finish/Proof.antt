@@ -25,10 +25,10 @@ same-length c = search needs
 
 returns-3 : tie.Need-returns-3
 returns-3 c =
-    let at-if1 = c .before .before .before .before .before .before .before in
-    let at-is-between = c .before .before .before .before .before .before in
-    finish-mid _ _ _ _ _ (at-if1 .if1 .left) (sym (at-is-between .is-between .ensures) ∙ c .before .before .before .before .before .if2 .left)
-    (c .before .before .before .is-calling .ensures) (c .before .before .put-fault .ensures)
+    let at-put-fault = c .before .before in let at-is-calling = at-put-fault .before in let at-if2 = at-is-calling .before .before in
+    let at-is-between = at-if2 .before in let at-if1 = at-is-between .before in
+    finish-mid _ _ _ _ _ (at-if1 .if1 .left) (sym (at-is-between .is-between .ensures) ∙ at-if2 .if2 .left) (at-is-calling .is-calling .ensures)
+    (at-put-fault .put-fault .ensures)
 
 pub finish-spec : {M : Type 1} → statement M
 finish-spec =

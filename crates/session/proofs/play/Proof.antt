@@ -23,15 +23,15 @@ abbrev μ-loop : tie.MeasureT-loop
 
 loop-holds : tie.Need-loop-holds Inv-loop μ-loop
 loop-holds c =
-    let s = c .before .before .before .before .before in (
+    let at-start = c .before .before .before .before .before in (
       refl,
       refl,
       refl,
       refl,
       omega arith,
       none _ 0,
-      play-starts (s .args .x) (s .args .table .now) (s .args .store .now) (s .args .buf .now)
-          (drop (s .args .from) (s .args .s .now)) (s .args .out .now) (s .args .from),
+      play-starts (at-start .args .x) (at-start .args .table .now) (at-start .args .store .now) (at-start .args .buf .now)
+          (drop (at-start .args .from) (at-start .args .s .now)) (at-start .args .out .now) (at-start .args .from),
     )
 
 sub-if1 : tie.Need-sub-if1 Inv-loop μ-loop
@@ -42,23 +42,22 @@ step-requires c κs = search needs
 
 loop-less : tie.Need-loop-less Inv-loop μ-loop
 loop-less c =
-    let at-loop-test = c .before .before .before .before .before .before .before .before .before .before .before .before .before .before .before in
-    let at-step = c .before .before .before .before .before .before .before .before .before in
-    nearer _ _ _ _ _ _ _ (at-loop-test .loop-test .taken) (at-step .step .ensures .next)
+    let at-buf = c .before .before .before .before in let at-step = at-buf .before .before .before .before .before in
+    let at-if1 = at-step .before .before .before .before .before in let at-in-loop = at-if1 .before in
+    nearer _ _ _ _ _ _ _ (at-in-loop .loop-test .taken) (at-step .step .ensures .next)
 
 loop-again : tie.Need-loop-again Inv-loop μ-loop
 loop-again c =
-    let at-loop = c .before .before .before .before .before .before .before .before .before .before .before .before .before .before .before .before in
-    let at-loop-test = c .before .before .before .before .before .before .before .before .before .before .before .before .before .before .before in
-    let at-if1 = c .before .before .before .before .before .before .before .before .before .before .before .before .before .before in
-    let at-step = c .before .before .before .before .before .before .before .before .before in (
+    let at-buf = c .before .before .before .before in let at-step = at-buf .before .before .before .before .before in
+    let at-if1 = at-step .before .before .before .before .before in let at-in-loop = at-if1 .before in let at-loop = at-in-loop .before in (
       search needs,
       search needs,
       search needs,
       search needs,
-      inside _ _ _ _ _ _ _ _ _ _ _ _ _ (at-step .step .ensures) (at-loop-test .loop-test .taken) (at-if1 .if1 .left),
-      again-written _ _ _ _ _ _ _ _ _ _ _ _ _ (at-step .step .ensures) (at-loop-test .loop-test .taken) (at-if1 .if1 .left) _ (at-loop .loop .inv .5),
-      again-same _ _ _ _ _ _ _ _ _ _ _ _ _ (at-step .step .ensures) (at-loop-test .loop-test .taken) (at-if1 .if1 .left) _
+      inside _ _ _ _ _ _ _ _ _ _ _ _ _ (at-step .step .ensures) (at-in-loop .loop-test .taken) (at-if1 .if1 .left),
+      again-written _ _ _ _ _ _ _ _ _ _ _ _ _ (at-step .step .ensures) (at-in-loop .loop-test .taken) (at-if1 .if1 .left) _
+          (at-loop .loop .inv .5),
+      again-same _ _ _ _ _ _ _ _ _ _ _ _ _ (at-step .step .ensures) (at-in-loop .loop-test .taken) (at-if1 .if1 .left) _
           (at-loop .loop .inv .5) _ (at-loop .loop .inv .6),
     )
 

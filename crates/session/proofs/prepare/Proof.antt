@@ -29,7 +29,9 @@ slice-relend-prefix-set-up : tie.Need-slice-relend-prefix-set-up
 slice-relend-prefix-set-up c = search needs
 
 slice-aggregate-set-up : tie.Need-slice-aggregate-set-up
-slice-aggregate-set-up c = lent-length _ _ _ (c .before .before .before .before .before .before .before .before .before .least .ensures)
+slice-aggregate-set-up c =
+    let at-least3 = c .before .before .before .before .before in let at-least = at-least3 .before .before .before .before in
+    lent-length _ _ _ (at-least .least .ensures)
 
 set-up-requires : tie.Need-set-up-requires
 set-up-requires c κs = search needs
@@ -42,15 +44,12 @@ same-length-2 c = search needs
 
 returns : tie.Need-returns
 returns c =
-    let at-table-words = c .before .before .before .before .before .before .before .before .before .before .before .before .before in
-    let at-least = c .before .before .before .before .before .before .before .before .before .before .before .before in
-    let at-file-blocks = c .before .before .before .before .before .before .before .before .before .before in
-    let at-least2 = c .before .before .before .before .before .before .before .before .before in
-    let at-least3 = c .before .before .before .before .before .before .before .before in
-    let at-put-zeros = c .before .before .before .before .before .before in
-    let at-set-up = c .before .before in
-    prepared _ _ _ _ _ _ _ _ _ _ (at-table-words .table-words .ensures) (at-least .least .ensures) (at-file-blocks .file-blocks .ensures) (at-least2 .least2 .ensures)
-    (at-least3 .least3 .ensures) (at-put-zeros .put-zeros .ensures) (at-set-up .set-up .ensures .0) (at-set-up .set-up .ensures .1) (at-set-up .set-up .kept .0)
+    let at-set-up = c .before .before in let at-put-zeros = at-set-up .before .before .before .before in
+    let at-least3 = at-put-zeros .before .before in let at-least2 = at-least3 .before in let at-file-blocks = at-least2 .before in
+    let at-least = at-file-blocks .before .before in let at-table-words = at-least .before in
+    prepared _ _ _ _ _ _ _ _ _ _ (at-table-words .table-words .ensures) (at-least .least .ensures) (at-file-blocks .file-blocks .ensures)
+    (at-least2 .least2 .ensures) (at-least3 .least3 .ensures) (at-put-zeros .put-zeros .ensures) (at-set-up .set-up .ensures .0)
+    (at-set-up .set-up .ensures .1) (at-set-up .set-up .kept .0)
 
 pub prepare-spec : {M : Type 1} → statement M
 prepare-spec =

@@ -17,7 +17,9 @@ same-length c = search needs
 
 returns : tie.Need-returns
 unfolding badScript ascii
-returns c = fault-script _ _ _ _ _ (c .before .before .before .before .before .if1 .taken) (c .before .before .put-bytes .ensures)
+returns c =
+    let at-put-bytes = c .before .before in let at-if1 = at-put-bytes .before .before .before in
+    fault-script _ _ _ _ _ (at-if1 .if1 .taken) (at-put-bytes .put-bytes .ensures)
 
 slice-aggregate-put-bytes-2 : tie.Need-slice-aggregate-put-bytes-2
 slice-aggregate-put-bytes-2 c = search needs
@@ -30,7 +32,9 @@ same-length-2 c = search needs
 
 returns-2 : tie.Need-returns-2
 unfolding badConfiguration ascii
-returns-2 c = fault-configuration _ _ _ _ _ (c .before .before .before .before .before .if1 .left) (c .before .before .put-bytes2 .ensures)
+returns-2 c =
+    let at-put-bytes2 = c .before .before in let at-if1 = at-put-bytes2 .before .before .before in
+    fault-configuration _ _ _ _ _ (at-if1 .if1 .left) (at-put-bytes2 .put-bytes2 .ensures)
 
 pub put-fault-spec : {M : Type 1} → statement M
 put-fault-spec =

@@ -17,7 +17,9 @@ same-length c = search needs
 
 returns : tie.Need-returns
 unfolding heading ascii
-returns c = opening-heading _ _ _ _ _ (c .before .before .before .before .before .if1 .taken) (c .before .before .put-bytes .ensures)
+returns c =
+    let at-put-bytes = c .before .before in let at-if1 = at-put-bytes .before .before .before in
+    opening-heading _ _ _ _ _ (at-if1 .if1 .taken) (at-put-bytes .put-bytes .ensures)
 
 put-fault-requires : tie.Need-put-fault-requires
 put-fault-requires c κs = search needs
@@ -26,7 +28,9 @@ same-length-2 : tie.Need-same-length-2
 same-length-2 c = search needs
 
 returns-2 : tie.Need-returns-2
-returns-2 c = opening-bad _ _ _ _ _ (c .before .before .before .before .if1 .left) (c .before .before .put-fault .ensures)
+returns-2 c =
+    let at-put-fault = c .before .before in let at-if1 = at-put-fault .before .before in
+    opening-bad _ _ _ _ _ (at-if1 .if1 .left) (at-put-fault .put-fault .ensures)
 
 pub put-opening-spec : {M : Type 1} → statement M
 put-opening-spec =

@@ -29,13 +29,17 @@ slice-relend-prefix-call : tie.Need-slice-relend-prefix-call
 slice-relend-prefix-call c = search needs
 
 slice-aggregate-call : tie.Need-slice-aggregate-call
-slice-aggregate-call c = lent-length _ _ _ (c .before .before .before .before .before .least .ensures)
+slice-aggregate-call c =
+    let at-least = c .before .before .before .before .before in
+    lent-length _ _ _ (at-least .least .ensures)
 
 slice-relend-prefix-call-2 : tie.Need-slice-relend-prefix-call-2
 slice-relend-prefix-call-2 c = search needs
 
 slice-aggregate-call-2 : tie.Need-slice-aggregate-call-2
-slice-aggregate-call-2 c = lent-length _ _ _ (c .before .before .before .before .before .least2 .ensures)
+slice-aggregate-call-2 c =
+    let at-least2 = c .before .before .before .before .before in
+    lent-length _ _ _ (at-least2 .least2 .ensures)
 
 array-read-call : tie.Need-array-read-call
 array-read-call c = search needs
@@ -69,8 +73,8 @@ slice-reshare-prefix-put-line c = search needs
 
 slice-aggregate-put-line : tie.Need-slice-aggregate-put-line
 slice-aggregate-put-line c =
-    let at-least4 = c .before .before .before .before .before .before .before .before .before .before .before .before in
-    let at-call = c .before .before .before .before .before .before .before .before in
+    let at-store = c .before .before .before .before .before in let at-call = at-store .before .before .before in
+    let at-least4 = at-call .before .before .before .before in
     lent-again _ _ _ (at-call .call .last .1 .1 .1 .1 .1 .1 .1 .0) (at-least4 .least4 .ensures) (at-call .call .kept .1 .1 .1 .1 .1 .1 .1 .0)
 
 put-line-requires : tie.Need-put-line-requires
@@ -90,16 +94,13 @@ same-length-4 c = search needs
 
 returns : tie.Need-returns
 returns c =
-    let at-least = c .before .before .before .before .before .before .before .before .before .before .before .before .before .before .before .before .before .before .before in
-    let at-least2 = c .before .before .before .before .before .before .before .before .before .before .before .before .before .before .before .before .before .before in
-    let at-wide = c .before .before .before .before .before .before .before .before .before .before .before .before .before .before .before .before .before in
-    let at-least3 = c .before .before .before .before .before .before .before .before .before .before .before .before .before .before .before .before in
-    let at-least4 = c .before .before .before .before .before .before .before .before .before .before .before .before .before .before .before in
-    let at-call = c .before .before .before .before .before .before .before .before .before .before .before in
-    ran _ _ _ _ _ _ _ _ _ _ _ _ _ _ _ _ _ _ _ (at-least .least .ensures) (at-least2 .least2 .ensures)
-    (at-least3 .least3 .ensures ∙ ap (λ (z : ℕ). min z maxBuffer) (at-wide .wide .ensures)) (at-least4 .least4 .ensures) refl (at-call .call .ensures .answered)
-    (at-call .call .ensures .table) (at-call .call .ensures .store) (at-call .call .ensures .buffer) (at-call .call .kept .0) (at-call .call .kept .1 .0)
-    (at-call .call .kept .1 .1 .1 .1 .1 .1 .1 .0) (c .before .before .put-line .ensures)
+    let at-put-line = c .before .before in let at-buf = at-put-line .before .before .before .before in
+    let at-call = at-buf .before .before .before .before .before in let at-least4 = at-call .before .before .before .before in
+    let at-least3 = at-least4 .before in let at-wide = at-least3 .before in let at-least2 = at-wide .before in let at-least = at-least2 .before in
+    ran _ _ _ _ _ _ _ _ _ _ _ _ _ _ _ _ _ _ _ (at-least .least .ensures) (at-least2 .least2 .ensures) (at-least3 .least3 .ensures ∙ ap (λ
+    (z : ℕ). min z maxBuffer) (at-wide .wide .ensures)) (at-least4 .least4 .ensures) refl (at-call .call .ensures .answered)
+    (at-call .call .ensures .table) (at-call .call .ensures .store) (at-call .call .ensures .buffer) (at-call .call .kept .0)
+    (at-call .call .kept .1 .0) (at-call .call .kept .1 .1 .1 .1 .1 .1 .1 .0) (at-put-line .put-line .ensures)
 
 pub run-spec : {M : Type 1} → statement M
 run-spec =

@@ -16,7 +16,9 @@ same-length : tie.Need-same-length
 same-length c = search needs
 
 returns : tie.Need-returns
-returns c = (rw (c .new .ensures), rw (c .before .before .before .put2 .ensures, c .before .before .before .before .before .before .before .put .ensures))
+returns c =
+    let at-put2 = c .before .before .before in let at-put = at-put2 .before .before .before .before in
+    (rw (c .new .ensures), rw (at-put2 .put2 .ensures, at-put .put .ensures))
 
 pub start-spec : {M : Type 1} → statement M
 start-spec =

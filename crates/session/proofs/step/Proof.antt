@@ -30,9 +30,9 @@ same-length-4 c = search needs
 
 returns-2 : tie.Need-returns-2
 returns-2 c =
-    let at-if1 = c .before .before .before .before .before .before .before .before .before .before .before .before .before .before .before .before .before .before .before .before .before in
-    let at-advance = c .before .before .before .before .before .before .before .before .before .before .before .before .before .before .before .before .before in
-    let at-act = c .before .before .before .before .before .before .before .before in
+    let at-store = c .before .before .before .before .before in let at-act = at-store .before .before .before in
+    let at-slice-known6 = at-act .before .before .before .before .before in let at-advance = at-slice-known6 .before .before .before .before in
+    let at-if1 = at-advance .before .before .before .before in
     step-on _ _ _ _ _ _ _ _ _ _ _ _ _ _ _ _ (at-if1 .if1 .left) (at-advance .advance .ensures) (at-act .act .ensures)
 
 pub step-spec : {M : Type 1} → statement M

@@ -64,21 +64,21 @@ add-result-4 c = search needs
 returns : tie.Need-returns
 unfolding cells slots
 returns c =
-    let segments = c .before .before .before in
-    let processes = segments .before .before .before in
-    let first = processes .before .before .before in
+    let at-word4 = c .before .before in let at-least2 = at-word4 .before in let at-wide3 = at-least2 .before in let at-word3 = at-wide3 .before in
+    let at-least = at-word3 .before in let at-wide2 = at-least .before in let at-word2 = at-wide2 .before in let at-wide = at-word2 .before in
+    let at-word = at-wide .before in
     rw (
       c .least3 .ensures,
       c .before .wide4 .ensures,
-      c .before .before .word4 .ensures,
-      segments .least2 .ensures,
-      segments .before .wide3 .ensures,
-      segments .before .before .word3 .ensures,
-      processes .least .ensures,
-      processes .before .wide2 .ensures,
-      processes .before .before .word2 .ensures,
-      first .wide .ensures,
-      first .before .word .ensures,
+      at-word4 .word4 .ensures,
+      at-least2 .least2 .ensures,
+      at-wide3 .wide3 .ensures,
+      at-word3 .word3 .ensures,
+      at-least .least .ensures,
+      at-wide2 .wide2 .ensures,
+      at-word2 .word2 .ensures,
+      at-wide .wide .ensures,
+      at-word .word .ensures,
     )
 
 pub table-words-spec : {M : Type 1} → statement M

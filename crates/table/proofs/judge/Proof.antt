@@ -28,9 +28,9 @@ same-length c = search needs
 
 returns-2 : tie.Need-returns-2
 returns-2 c =
-    let judged = c .before .before in
-    let right = sym (judged .before .before .before .before .can-set-up .ensures) ∙ passed _ (judged .before .before .before .if1 .left) in
-    (judged .judge-records .ensures .0 ∙ shapen _ _ right, judged .judge-records .ensures .1 ∙ rw (shapen _ _ right))
+    let at-judge-records = c .before .before in let at-if1 = at-judge-records .before .before .before in let at-can-set-up = at-if1 .before in
+    let right = sym (at-can-set-up .can-set-up .ensures) ∙ passed _ (at-if1 .if1 .left) in
+    (at-judge-records .judge-records .ensures .0 ∙ shapen _ _ right, at-judge-records .judge-records .ensures .1 ∙ rw (shapen _ _ right))
 
 pub judge-spec : {M : Type 1} → statement M
 judge-spec = tie.close (tie.spec can-set-up-requires returns header-of-requires judge-records-requires same-length returns-2)

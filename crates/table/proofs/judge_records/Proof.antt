@@ -30,15 +30,14 @@ slot-cells-requires-3 c κs = search needs
 
 records-ok-requires : tie.Need-records-ok-requires
 records-ok-requires c κs =
-    let files = c .before .before .before .before .before in
-    let segments = files .before .before .before in
-    let processes = segments .before .before .before in
-    let start = processes .before .before .before .before .before in (
-      start .pre,
-      cells-of _ _ _ (few-slots _ _ (start .pre) _) (processes .slot-cells .ensures),
-      cells-of _ _ _ (few-slots _ _ (start .pre) _) (segments .slot-cells2 .ensures),
-      cells-of _ _ _ (few-slots _ _ (start .pre) _) (files .slot-cells3 .ensures),
-      processes .before .before .flow-matrix .ensures,
+    let at-slot-cells3 = c .before .before .before .before .before in let at-slot-cells2 = at-slot-cells3 .before .before .before in
+    let at-slot-cells = at-slot-cells2 .before .before .before in let at-flow-matrix = at-slot-cells .before .before in
+    let at-start = at-flow-matrix .before .before .before in (
+      at-start .pre,
+      cells-of _ _ _ (few-slots _ _ (at-start .pre) _) (at-slot-cells .slot-cells .ensures),
+      cells-of _ _ _ (few-slots _ _ (at-start .pre) _) (at-slot-cells2 .slot-cells2 .ensures),
+      cells-of _ _ _ (few-slots _ _ (at-start .pre) _) (at-slot-cells3 .slot-cells3 .ensures),
+      at-flow-matrix .flow-matrix .ensures,
     )
 
 returns : tie.Need-returns
@@ -52,15 +51,15 @@ same-length c = search needs
 
 returns-2 : tie.Need-returns-2
 returns-2 c =
-    let told = c .before .before in
-    let judged = told .before .before .before .before .before .before .before in
-    let files = judged .before .before .before .before .before .before in
-    let segments = files .before .before .before in
-    let processes = segments .before .before .before in
-    let right = sym (judged .records-ok .ensures) ∙ passed _ (told .before .before .before .before .before .before .if1 .left) in
-    let flows = processes .before .before .flow-matrix .ensures in
-    let all = told-is _ _ _ _ _ _ (processes .slot-cells .ensures) (segments .slot-cells2 .ensures) (files .slot-cells3 .ensures) flows in
-    (sym right, rw right (told .tell .ensures ∙ all))
+    let at-tell = c .before .before in let at-cells4 = at-tell .before .before .before .before in let at-if1 = at-cells4 .before .before in
+    let at-records-ok = at-if1 .before in let at-file-cells2 = at-records-ok .before .before .before .before .before in
+    let at-slot-cells3 = at-file-cells2 .before in let at-slot-cells2 = at-slot-cells3 .before .before .before in
+    let at-slot-cells = at-slot-cells2 .before .before .before in let at-flow-matrix = at-slot-cells .before .before in
+    let right = sym (at-records-ok .records-ok .ensures) ∙ passed _ (at-if1 .if1 .left) in
+    let flows = at-flow-matrix .flow-matrix .ensures in
+    let all = told-is _ _ _ _ _ _ (at-slot-cells .slot-cells .ensures) (at-slot-cells2 .slot-cells2 .ensures)
+    (at-slot-cells3 .slot-cells3 .ensures) flows in
+    (sym right, rw right (at-tell .tell .ensures ∙ all))
 
 pub judge-records-spec : {M : Type 1} → statement M
 judge-records-spec =

@@ -29,22 +29,22 @@ slice-aggregate-objects-ok c = search needs
 
 objects-ok-requires : tie.Need-objects-ok-requires
 objects-ok-requires c κs =
-    let s = c .before .before .before .before .before in
-    (given s .pre .0, c .before .before .before .before .processes-ok .ensures .1 .0 (passed _ (c .before .if1 .left)))
+    let at-processes-ok = c .before .before .before .before in let at-opens = at-processes-ok .before in
+    (given at-opens .pre .0, at-processes-ok .processes-ok .ensures .1 .0 (passed _ (c .before .if1 .left)))
 
 slice-aggregate-objects-ok-2 : tie.Need-slice-aggregate-objects-ok-2
 slice-aggregate-objects-ok-2 c = search needs
 
 objects-ok-requires-2 : tie.Need-objects-ok-requires-2
 objects-ok-requires-2 c κs =
-    let s = c .before .before .before .before .before .before .before in
-    (given s .pre .0, c .before .before .before .before .before .before .processes-ok .ensures .1 .1 (passed _ (c .before .before .before .if1 .left)))
+    let at-if1 = c .before .before .before in let at-processes-ok = at-if1 .before .before .before in let at-opens = at-processes-ok .before in
+    (given at-opens .pre .0, at-processes-ok .processes-ok .ensures .1 .1 (passed _ (at-if1 .if1 .left)))
 
 returns-2 : tie.Need-returns-2
 returns-2 c =
-    let s = c .before .before .before .before .before .before .before in
-    ap₂ _&&_ (c .before .before .objects-ok .ensures) (c .objects-ok2 .ensures)
-    ∙ right-processes _ _ (sym (s .processes-ok .ensures .0) ∙ passed _ (c .before .before .before .before .if1 .left))
+    let at-objects-ok = c .before .before in let at-if1 = at-objects-ok .before .before in let at-processes-ok = at-if1 .before .before .before in
+    ap₂ _&&_ (at-objects-ok .objects-ok .ensures) (c .objects-ok2 .ensures) ∙ right-processes _ _ (sym (at-processes-ok .processes-ok .ensures .0)
+    ∙ passed _ (at-if1 .if1 .left))
 
 pub records-ok-spec : {M : Type 1} → statement M
 records-ok-spec =

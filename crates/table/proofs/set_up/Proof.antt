@@ -25,27 +25,32 @@ base-requires c κs = search needs
 
 clear-requires : tie.Need-clear-requires
 clear-requires c κs =
-    let right = sym (c .before .before .before .before .before .can-set-up .ensures) ∙ passed _ (c .before .before .before .before .if1 .left) in
-    clear-from _ _ (shaped-of _ _ right _ (header-read _ _ (c .before .before .header-of .ensures)) .framed) _ (c .before .base .ensures .0)
+    let at-header-of = c .before .before in let at-if1 = at-header-of .before .before in let at-can-set-up = at-if1 .before in
+    let right = sym (at-can-set-up .can-set-up .ensures) ∙ passed _ (at-if1 .if1 .left) in
+    clear-from _ _ (shaped-of _ _ right _ (header-read _ _ (at-header-of .header-of .ensures)) .framed) _ (c .before .base .ensures .0)
 
 begin-all-requires : tie.Need-begin-all-requires
 begin-all-requires c κs =
-    let right = sym (c .before .before .before .before .before .before .before .before .before .can-set-up .ensures)
-    ∙ passed _ (c .before .before .before .before .before .before .before .before .if1 .left) in
-    begin-from _ _ (shaped-of _ _ right _ (header-read _ _ (c .before .before .before .before .before .before .header-of .ensures)) .framed) _
-    (c .before .before .before .before .before .base .ensures .0) _ (c .before .before .before .clear .ensures) (right-configuration _ _ right)
+    let at-clear = c .before .before .before in let at-base = at-clear .before .before in let at-header-of = at-base .before in
+    let at-if1 = at-header-of .before .before in let at-can-set-up = at-if1 .before in
+    let right = sym (at-can-set-up .can-set-up .ensures)
+    ∙ passed _ (at-if1 .if1 .left) in
+    begin-from _ _ (shaped-of _ _ right _ (header-read _ _ (at-header-of .header-of .ensures)) .framed) _ (at-base .base .ensures .0) _
+    (at-clear .clear .ensures) (right-configuration _ _ right)
 
 same-length-2 : tie.Need-same-length-2
 same-length-2 c = search needs
 
 returns-2 : tie.Need-returns-2
 returns-2 c =
-    let right = sym (c .before .before .before .before .before .before .before .before .before .before .before .before .can-set-up .ensures)
-    ∙ passed _ (c .before .before .before .before .before .before .before .before .before .before .before .if1 .left) in
+    let at-begin-all = c .before .before in let at-clear = at-begin-all .before .before .before .before in let at-base = at-clear .before .before in
+    let at-header-of = at-base .before in let at-if1 = at-header-of .before .before in let at-can-set-up = at-if1 .before in
+    let right = sym (at-can-set-up .can-set-up .ensures)
+    ∙ passed _ (at-if1 .if1 .left) in
     let fresh = fresh-done _ _
-    (shaped-of _ _ right _ (header-read _ _ (c .before .before .before .before .before .before .before .before .before .header-of .ensures)) .framed) _
-    (c .before .before .before .before .before .before .before .before .base .ensures .0) _ (c .before .before .before .before .before .before .clear .ensures) in
-    (done-answer _ _ right, c .before .before .begin-all .ensures ∙ fresh ∙ done-table _ _ right)
+    (shaped-of _ _ right _ (header-read _ _ (at-header-of .header-of .ensures)) .framed) _
+    (at-base .base .ensures .0) _ (at-clear .clear .ensures) in
+    (done-answer _ _ right, at-begin-all .begin-all .ensures ∙ fresh ∙ done-table _ _ right)
 
 pub set-up-spec : {M : Type 1} → statement M
 set-up-spec =

@@ -20,11 +20,10 @@ same-length c = search needs
 
 returns : tie.Need-returns
 returns c =
-    let at-shows-buffer = c .before .before .before .before .before .before .before .before .before in
-    let at-if1 = c .before .before .before .before .before .before .before .before in
-    let at-put-byte = c .before .before .before .before .before .before in
-    as-text _ _ _ _ _ _ (sym (cond-true _ _ _ (sym (at-shows-buffer .shows-buffer .ensures) ∙ at-if1 .if1 .taken)))
-    (then _ _ _ _ _ _ _ _ (at-put-byte .put-byte .ensures) (c .before .before .put-hex .ensures))
+    let at-put-hex = c .before .before in let at-put-byte = at-put-hex .before .before .before .before in let at-if1 = at-put-byte .before .before in
+    let at-shows-buffer = at-if1 .before in
+    as-text _ _ _ _ _ _ (sym (cond-true _ _ _ (sym (at-shows-buffer .shows-buffer .ensures) ∙ at-if1 .if1 .taken))) (then _ _ _ _ _ _ _ _
+    (at-put-byte .put-byte .ensures) (at-put-hex .put-hex .ensures))
 
 returns-2 : tie.Need-returns-2
 returns-2 c = as-text _ _ _ _ _ _ (sym (cond-false _ _ _ (sym (c .before .shows-buffer .ensures) ∙ c .if1 .left))) (none _ _)

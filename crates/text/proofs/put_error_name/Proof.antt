@@ -19,7 +19,8 @@ array-share-prefix-row c = in-row _ _ _ (c .before .before .before .if1 .left) (
 
 slice-aggregate-put-bytes : tie.Need-slice-aggregate-put-bytes
 slice-aggregate-put-bytes c =
-    front-long _ _ _ (c .before .before .before .before .if1 .left) (c .before .before .name-length .ensures) (c .before .before .before .name-row .ensures)
+    let at-name-length = c .before .before in let at-name-row = at-name-length .before in let at-if1 = at-name-row .before in
+    front-long _ _ _ (at-if1 .if1 .left) (at-name-length .name-length .ensures) (at-name-row .name-row .ensures)
 
 put-bytes-requires : tie.Need-put-bytes-requires
 put-bytes-requires c κs = search needs
@@ -29,10 +30,10 @@ same-length c = search needs
 
 returns-2 : tie.Need-returns-2
 returns-2 c =
-    let at-if1 = c .before .before .before .before .before .before .before in
-    let at-name-row = c .before .before .before .before .before .before in
-    as-text _ _ _ _ _ _ (front _ _ _ (at-if1 .if1 .left) (c .before .before .before .before .before .name-length .ensures) (at-name-row .name-row .ensures))
-    (c .before .before .put-bytes .ensures)
+    let at-put-bytes = c .before .before in let at-name-length = at-put-bytes .before .before .before in let at-name-row = at-name-length .before in
+    let at-if1 = at-name-row .before in
+    as-text _ _ _ _ _ _ (front _ _ _ (at-if1 .if1 .left) (at-name-length .name-length .ensures) (at-name-row .name-row .ensures))
+    (at-put-bytes .put-bytes .ensures)
 
 pub put-error-name-spec : {M : Type 1} → statement M
 put-error-name-spec =

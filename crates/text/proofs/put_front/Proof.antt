@@ -21,11 +21,10 @@ same-length c = search needs
 
 returns : tie.Need-returns
 returns c =
-    let at-put-decimal = c .before .before .before .before .before .before .before .before .before .before .before .before .before .before in
-    let at-put-byte = c .before .before .before .before .before .before .before .before .before .before in
-    let at-put-error-name = c .before .before .before .before .before .before in
-    then _ _ _ _ _ _ _ _ (at-put-decimal .put-decimal .ensures) (then _ _ _ _ _ _ _ _ (at-put-byte .put-byte .ensures)
-    (then _ _ _ _ _ _ _ _ (at-put-error-name .put-error-name .ensures) (c .before .before .put-byte2 .ensures)))
+    let at-put-byte2 = c .before .before in let at-put-error-name = at-put-byte2 .before .before .before .before in
+    let at-put-byte = at-put-error-name .before .before .before .before in let at-put-decimal = at-put-byte .before .before .before .before in
+    then _ _ _ _ _ _ _ _ (at-put-decimal .put-decimal .ensures) (then _ _ _ _ _ _ _ _ (at-put-byte .put-byte .ensures) (then _ _ _ _ _ _ _ _
+    (at-put-error-name .put-error-name .ensures) (at-put-byte2 .put-byte2 .ensures)))
 
 pub put-front-spec : {M : Type 1} → statement M
 put-front-spec =

@@ -44,13 +44,12 @@ loop-less c = search needs
 
 loop-again : tie.Need-loop-again Inv-loop μ-loop
 loop-again c =
-    let at-loop = c .before .before .before .before .before .before .before .before .before .before .before .before in
-    let at-loop-test = c .before .before .before .before .before .before .before .before .before .before .before in
-    let at-hex-digit = c .before .before .before .before .before .before .before .before in
-    let at-put-byte = c .before .before .before .before .before .before .before in (
+    let at-put-byte2 = c .before .before in let at-hex-digit2 = at-put-byte2 .before in
+    let at-put-byte = at-hex-digit2 .before .before .before .before in let at-hex-digit = at-put-byte .before in
+    let at-in-loop = at-hex-digit .before .before .before in let at-loop = at-in-loop .before in (
       omega arith,
-      hex-more _ _ _ _ _ _ _ _ _ _ _ _ (at-loop-test .loop-test .taken) (at-hex-digit .hex-digit .ensures) (c .before .before .before .hex-digit2 .ensures)
-          (at-loop .loop .inv .1) (at-put-byte .put-byte .ensures) (c .before .before .put-byte2 .ensures),
+      hex-more _ _ _ _ _ _ _ _ _ _ _ _ (at-in-loop .loop-test .taken) (at-hex-digit .hex-digit .ensures) (at-hex-digit2 .hex-digit2 .ensures)
+          (at-loop .loop .inv .1) (at-put-byte .put-byte .ensures) (at-put-byte2 .put-byte2 .ensures),
     )
 
 same-length : tie.Need-same-length Inv-loop μ-loop

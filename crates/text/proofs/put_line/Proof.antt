@@ -36,11 +36,10 @@ same-length c = search needs
 
 returns : tie.Need-returns
 returns c =
-    let at-put-front = c .before .before .before .before .before .before .before .before .before .before .before .before .before .before in
-    let at-put-results = c .before .before .before .before .before .before .before .before .before .before in
-    let at-put-buffer = c .before .before .before .before .before .before in
-    as-text _ _ _ _ _ _ (parts _ _ _ _ _ _) (then _ _ _ _ _ _ _ _ (at-put-front .put-front .ensures)
-    (then _ _ _ _ _ _ _ _ (at-put-results .put-results .ensures) (then _ _ _ _ _ _ _ _ (at-put-buffer .put-buffer .ensures) (c .before .before .put-byte .ensures))))
+    let at-put-byte = c .before .before in let at-put-buffer = at-put-byte .before .before .before .before in
+    let at-put-results = at-put-buffer .before .before .before .before in let at-put-front = at-put-results .before .before .before .before in
+    as-text _ _ _ _ _ _ (parts _ _ _ _ _ _) (then _ _ _ _ _ _ _ _ (at-put-front .put-front .ensures) (then _ _ _ _ _ _ _ _
+    (at-put-results .put-results .ensures) (then _ _ _ _ _ _ _ _ (at-put-buffer .put-buffer .ensures) (at-put-byte .put-byte .ensures))))
 
 pub put-line-spec : {M : Type 1} → statement M
 put-line-spec =

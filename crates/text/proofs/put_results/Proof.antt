@@ -18,9 +18,10 @@ same-length c = search needs
 
 returns : tie.Need-returns
 returns c =
-    let at-put-decimal = c .before .before .before .before .before .before .before .before .before .before in
-    let at-put-byte = c .before .before .before .before .before .before in
-    then _ _ _ _ _ _ _ _ (at-put-decimal .put-decimal .ensures) (then _ _ _ _ _ _ _ _ (at-put-byte .put-byte .ensures) (c .before .before .put-decimal2 .ensures))
+    let at-put-decimal2 = c .before .before in let at-put-byte = at-put-decimal2 .before .before .before .before in
+    let at-put-decimal = at-put-byte .before .before .before .before in
+    then _ _ _ _ _ _ _ _ (at-put-decimal .put-decimal .ensures) (then _ _ _ _ _ _ _ _ (at-put-byte .put-byte .ensures)
+    (at-put-decimal2 .put-decimal2 .ensures))
 
 pub put-results-spec : {M : Type 1} → statement M
 put-results-spec =

@@ -26,16 +26,16 @@ or-refuse-requires-5 c κs = search needs
 
 returns : tie.Need-returns
 returns c =
-    let lacked = c .before in
-    let held = lacked .before .before .before in
+    let at-or-refuse4 = c .before .before in let at-or-refuse3 = at-or-refuse4 .before .before in let at-or-refuse2 = at-or-refuse3 .before .before in
+    let at-or-refuse = at-or-refuse2 .before in let at-wide = at-or-refuse .before in
     rw (
       c .or-refuse5 .ensures,
-      lacked .lacks .ensures,
-      lacked .before .or-refuse4 .ensures,
-      held .or-refuse3 .ensures,
-      held .before .before .or-refuse2 .ensures,
-      held .before .before .before .or-refuse .ensures,
-      held .before .before .before .before .wide .ensures,
+      c .before .lacks .ensures,
+      at-or-refuse4 .or-refuse4 .ensures,
+      at-or-refuse3 .or-refuse3 .ensures,
+      at-or-refuse2 .or-refuse2 .ensures,
+      at-or-refuse .or-refuse .ensures,
+      at-wide .wide .ensures,
     )
 
 pub bad-use-spec : {M : Type 1} → statement M

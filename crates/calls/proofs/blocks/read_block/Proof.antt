@@ -29,8 +29,8 @@ returns c = read-refused _ _ _ _ _ _ (number (c .before .before .before)) (c .be
 
 read-store-requires : tie.Need-read-store-requires
 read-store-requires c κs =
-    let after = c .before .before .before in
-    read-within _ _ _ _ _ (start after .args .buffer .now) (after .before .or-refuse .ensures) (after .shown .ensures) (c .before .if1 .left)
+    let at-shown = c .before .before .before in let at-or-refuse = at-shown .before in
+    read-within _ _ _ _ _ (start at-shown .args .buffer .now) (at-or-refuse .or-refuse .ensures) (at-shown .shown .ensures) (c .before .if1 .left)
 
 answered-requires : tie.Need-answered-requires
 answered-requires c κs = search needs
@@ -40,9 +40,10 @@ same-length c = search needs
 
 returns-2 : tie.Need-returns-2
 returns-2 c =
-    let copied = c .before .before .before in let at-else = copied .before .before in let after = at-else .before .before in
-    read-done _ _ _ _ _ _ (number after) (at-else .if1 .left) (c .answered .ensures)
-    (read-buffer _ _ _ _ _ (start after .args .buffer .now) (after .before .or-refuse .ensures) (after .shown .ensures) (at-else .if1 .left) (copied .read-store .ensures))
+    let at-read-store = c .before .before .before in let at-if1 = at-read-store .before .before in let at-shown = at-if1 .before .before in
+    let at-or-refuse = at-shown .before in
+    read-done _ _ _ _ _ _ (number at-shown) (at-if1 .if1 .left) (c .answered .ensures) (read-buffer _ _ _ _ _ (start at-shown .args .buffer .now)
+    (at-or-refuse .or-refuse .ensures) (at-shown .shown .ensures) (at-if1 .if1 .left) (at-read-store .read-store .ensures))
 
 pub read-block-spec : {M : Type 1} → statement M
 read-block-spec =

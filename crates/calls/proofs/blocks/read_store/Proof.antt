@@ -31,9 +31,11 @@ same-length c = search needs
 returns : tie.Need-returns
 unfolding part
 returns c =
-    let at-start = c .before .before .before .before .before .before .before in let a = at-start .args in
+    let at-put-bytes = c .before .before in let at-start = at-put-bytes .before .before .before .before .before in
+    let a = at-start .args in
     let k : a .from + blockBytes - a .from ≡ blockBytes = omega arith in
-    (rw k at (c .before .before .put-bytes .ensures)) ∙ sets-all _ _ (part-length (a .store .now) (a .from) blockBytes (at-start .pre .0) ∙ sym (at-start .pre .1))
+    (rw k at (at-put-bytes .put-bytes .ensures)) ∙ sets-all _ _ (part-length (a .store .now) (a .from) blockBytes (at-start .pre .0) ∙ sym
+    (at-start .pre .1))
 
 pub read-store-spec : {M : Type 1} → statement M
 read-store-spec =

@@ -23,9 +23,9 @@ used c = record { sound = start c .pre .0; entry = entry c .entry-of .ensures; s
 told : (c : tie.After-or-refuse2) → c .or-refuse2 .result ≡ refusing (start c .args .e) (readTests (start c .args .a) (entry c .entry-of .result)
     (found c .before .look .result) (found c .read .result) (start c .args .n .blocks) (start c .args .b))
 told c =
-    read-told (used c) (start c .args .store .now) (start c .args .b) (start c .args .e) (c .before .before .before .before .to-read .ensures)
-    (c .before .before .before .bad-use .ensures)
-    (c .before .or-refuse .ensures) (c .or-refuse2 .ensures)
+    let at-bad-use = c .before .before .before in let at-to-read = at-bad-use .before in
+    read-told (used c) (start c .args .store .now) (start c .args .b) (start c .args .e) (at-to-read .to-read .ensures)
+    (at-bad-use .bad-use .ensures) (c .before .or-refuse .ensures) (c .or-refuse2 .ensures)
 
 entry-of-requires : tie.Need-entry-of-requires
 entry-of-requires c κs = search needs
@@ -70,15 +70,15 @@ wide-requires-3 c κs = search needs
 
 block-place-requires : tie.Need-block-place-requires
 block-place-requires c κs =
-    let at-else = c .before .before .before in let after = at-else .before in
-    block-within (used after) (start after .args .store .now) (start after .args .b) (start after .args .e) (told after) (at-else .if1 .left) (start after .pre .2)
-    (c .before .before .wide .ensures) (c .before .wide2 .ensures) (c .wide3 .ensures)
+    let at-wide = c .before .before in let at-if1 = at-wide .before in let at-or-refuse2 = at-if1 .before in
+    block-within (used at-or-refuse2) (start at-or-refuse2 .args .store .now) (start at-or-refuse2 .args .b) (start at-or-refuse2 .args .e)
+    (told at-or-refuse2) (at-if1 .if1 .left) (start at-or-refuse2 .pre .2) (at-wide .wide .ensures) (c .before .wide2 .ensures) (c .wide3 .ensures)
 
 returns-2 : tie.Need-returns-2
 returns-2 c =
-    let at-wide3 = c .before in let at-else = at-wide3 .before .before .before in let after = at-else .before in
-    block-shown (used after) (start after .args .store .now) (start after .args .b) (start after .args .e) (told after) (at-else .if1 .left)
-    (at-wide3 .before .before .wide .ensures) (at-wide3 .before .wide2 .ensures) (at-wide3 .wide3 .ensures) (c .block-place .ensures)
+    let at-wide2 = c .before .before in let at-wide = at-wide2 .before in let at-if1 = at-wide .before in let at-or-refuse2 = at-if1 .before in
+    block-shown (used at-or-refuse2) (start at-or-refuse2 .args .store .now) (start at-or-refuse2 .args .b) (start at-or-refuse2 .args .e)
+    (told at-or-refuse2) (at-if1 .if1 .left) (at-wide .wide .ensures) (at-wide2 .wide2 .ensures) (c .before .wide3 .ensures) (c .block-place .ensures)
 
 pub shown-spec : {M : Type 1} → statement M
 shown-spec =

@@ -23,8 +23,10 @@ used c = record { sound = start c .pre .0; entry = entry c .entry-of .ensures; s
 
 told : (c : tie.After-or-refuse2) → c .or-refuse2 .result ≡ firstRefusal (writeTests (length (start c .args .buffer .now)) (start c .args .a) (entry c .entry-of .result)
     (found c .before .before .look .result) (start c .args .n .blocks) (start c .args .b))
-told c = write-told (used c) (start c .args .store .now) (start c .args .b) (start c .args .buffer .now) (c .before .before .before .before .writes .ensures)
-    (c .before .before .before .or-refuse .ensures) (c .before .before .bad-use .ensures) (c .or-refuse2 .ensures)
+told c =
+    let at-bad-use = c .before .before in let at-or-refuse = at-bad-use .before in let at-writes = at-or-refuse .before in
+    write-told (used c) (start c .args .store .now) (start c .args .b) (start c .args .buffer .now) (at-writes .writes .ensures)
+    (at-or-refuse .or-refuse .ensures) (at-bad-use .bad-use .ensures) (c .or-refuse2 .ensures)
 
 entry-of-requires : tie.Need-entry-of-requires
 entry-of-requires c κs = search needs
@@ -78,17 +80,20 @@ wide-requires-4 c κs = search needs
 
 write-store-requires : tie.Need-write-store-requires
 write-store-requires c κs =
-    let after = c .before .before .before .before .before .before in
-    write-within (used after) (start after .args .store .now) (start after .args .b) (start after .args .buffer .now) (told after) (c .before .before
-    .before .before .before .if1 .left) (start after .pre .2) (c .before .before .before .before .wide .ensures) (c .before .before .wide2 .ensures)
-    (c .before .wide3 .ensures) (c .wide4 .ensures)
+    let at-wide2 = c .before .before in let at-wide = at-wide2 .before .before in let at-if1 = at-wide .before in
+    let at-or-refuse2 = at-if1 .before in
+    write-within (used at-or-refuse2) (start at-or-refuse2 .args .store .now) (start at-or-refuse2 .args .b)
+    (start at-or-refuse2 .args .buffer .now) (told at-or-refuse2) (at-if1 .if1 .left) (start at-or-refuse2 .pre .2) (at-wide .wide .ensures)
+    (at-wide2 .wide2 .ensures) (c .before .wide3 .ensures) (c .wide4 .ensures)
 
 add-larger : tie.Need-add-larger
 add-larger c =
-    let after = c .before .before .before .before .before .before .before .before .before .before in
+    let at-wide3 = c .before .before .before .before .before in let at-if1 = at-wide3 .before .before .before .before in
+    let at-or-refuse2 = at-if1 .before in
     record {
-      fits = next-small (used after) (start after .args .store .now) (start after .args .b) (start after .args .buffer .now) (told after)
-          (c .before .before .before .before .before .before .before .before .before .if1 .left);
+      fits = next-small (used at-or-refuse2) (start at-or-refuse2 .args .store .now) (start at-or-refuse2 .args .b)
+          (start at-or-refuse2 .args .buffer .now) (told at-or-refuse2)
+          (at-if1 .if1 .left);
     }
 
 larger-requires : tie.Need-larger-requires
@@ -108,15 +113,16 @@ same-length-3 c = search needs
 
 returns-2 : tie.Need-returns-2
 returns-2 c =
-    let stored = c .before .before .before .before .before .before .before .before in
-    let after = stored .before .before .before .before .before .before .before in
-    write-done _ _ _ _ _ _ (write-number (used after) (start after .args .store .now) (start after .args .b) (start after .args .buffer .now) (told after))
-    (stored .before .before .before .before .before .before .if1 .left) (c .answered .ensures)
-    (write-words (used after) (start after .args .store .now) (start after .args .b) (start after .args .buffer .now) (told after)
-    (stored .before .before .before .before .before .before .if1 .left) (c .before .before .before .before .larger .ensures) (c .before .before .before .write .ensures))
-    (write-bytes (used after) (start after .args .store .now) (start after .args .b) (start after .args .buffer .now) (told after)
-    (stored .before .before .before .before .before .before .if1 .left) (stored .before .before .before .before .before .wide .ensures)
-    (stored .before .before .before .wide2 .ensures) (stored .before .before .wide3 .ensures) (stored .before .wide4 .ensures) (stored .write-store .ensures))
+    let at-write = c .before .before .before in let at-larger = at-write .before in let at-write-store = at-larger .before .before .before .before in
+    let at-wide4 = at-write-store .before in let at-wide3 = at-wide4 .before in let at-wide2 = at-wide3 .before in
+    let at-wide = at-wide2 .before .before in let at-if1 = at-wide .before in let at-or-refuse2 = at-if1 .before in
+    write-done _ _ _ _ _ _ (write-number (used at-or-refuse2) (start at-or-refuse2 .args .store .now) (start at-or-refuse2 .args .b)
+    (start at-or-refuse2 .args .buffer .now) (told at-or-refuse2)) (at-if1 .if1 .left) (c .answered .ensures) (write-words (used at-or-refuse2)
+    (start at-or-refuse2 .args .store .now) (start at-or-refuse2 .args .b) (start at-or-refuse2 .args .buffer .now) (told at-or-refuse2)
+    (at-if1 .if1 .left) (at-larger .larger .ensures) (at-write .write .ensures)) (write-bytes (used at-or-refuse2)
+    (start at-or-refuse2 .args .store .now) (start at-or-refuse2 .args .b) (start at-or-refuse2 .args .buffer .now) (told at-or-refuse2)
+    (at-if1 .if1 .left) (at-wide .wide .ensures) (at-wide2 .wide2 .ensures) (at-wide3 .wide3 .ensures) (at-wide4 .wide4 .ensures)
+    (at-write-store .write-store .ensures))
 
 pub write-block-spec : {M : Type 1} → statement M
 write-block-spec =

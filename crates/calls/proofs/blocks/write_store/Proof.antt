@@ -42,9 +42,10 @@ same-length c = search needs
 
 returns : tie.Need-returns
 returns c =
-    let at-fill-hole = c .before .before .before .before .before .before in let at-start = at-fill-hole .before .before .before .before in
+    let at-fill-block = c .before .before in let at-fill-hole = at-fill-block .before .before .before .before in
+    let at-start = at-fill-hole .before .before .before .before in
     let a = at-start .args in let k : a .f * a .n + a .n - a .f * a .n ≡ a .n = omega arith in stretch-written (a .store .now) (a .buffer .now) _ _ (a
-    .f * a .n) (a .n) _ (a .size) (a .b) k (omega arith) (omega arith) (at-fill-hole .fill-hole .ensures) (c .before .before .fill-block .ensures)
+    .f * a .n) (a .n) _ (a .size) (a .b) k (omega arith) (omega arith) (at-fill-hole .fill-hole .ensures) (at-fill-block .fill-block .ensures)
 
 pub write-store-spec : {M : Type 1} → statement M
 write-store-spec =

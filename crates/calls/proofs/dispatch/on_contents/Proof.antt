@@ -33,7 +33,9 @@ same-length-3 : tie.Need-same-length-3
 same-length-3 c = search needs
 
 returns : tie.Need-returns
-returns c = through-13 _ _ _ _ _ _ _ _ (c .before .before .before .before .before .before .before .match .keys1) (c .before .before .read-block .ensures)
+returns c =
+    let at-read-block = c .before .before in let at-match-keys1 = at-read-block .before .before .before .before .before in
+    through-13 _ _ _ _ _ _ _ _ (at-match-keys1 .match .keys1) (at-read-block .read-block .ensures)
 
 same-length-4 : tie.Need-same-length-4
 same-length-4 c = search needs
@@ -46,8 +48,8 @@ same-length-6 c = search needs
 
 returns-2 : tie.Need-returns-2
 returns-2 c =
-    let at-match = c .before .before .before .before .before .before .before .before .before in
-    through-14 _ _ _ _ _ _ _ _ (at-match .match .keys2) (c .before .before .before .before .write-block .ensures)
+    let at-write-block = c .before .before .before .before in let at-match-keys2 = at-write-block .before .before .before .before .before in
+    through-14 _ _ _ _ _ _ _ _ (at-match-keys2 .match .keys2) (at-write-block .write-block .ensures)
 
 same-length-7 : tie.Need-same-length-7
 same-length-7 c = search needs
@@ -56,7 +58,9 @@ same-length-8 : tie.Need-same-length-8
 same-length-8 c = search needs
 
 returns-3 : tie.Need-returns-3
-returns-3 c = through-15 _ _ _ _ _ _ _ _ (c .before .before .before .before .before .before .match .keys3) (c .before .before .post .ensures)
+returns-3 c =
+    let at-post = c .before .before in let at-match-keys3 = at-post .before .before .before .before in
+    through-15 _ _ _ _ _ _ _ _ (at-match-keys3 .match .keys3) (at-post .post .ensures)
 
 same-length-9 : tie.Need-same-length-9
 same-length-9 c = search needs
@@ -66,8 +70,8 @@ same-length-10 c = search needs
 
 returns-4 : tie.Need-returns-4
 returns-4 c =
-    let at-match = c .before .before .before .before .before .before .before in
-    through-16 _ _ _ _ _ _ _ _ (at-match .match .keys4) (c .before .before .before .before .receive .ensures)
+    let at-receive = c .before .before .before .before in let at-match-keys4 = at-receive .before .before .before in
+    through-16 _ _ _ _ _ _ _ _ (at-match-keys4 .match .keys4) (at-receive .receive .ensures)
 
 same-length-11 : tie.Need-same-length-11
 same-length-11 c = search needs
@@ -76,7 +80,9 @@ same-length-12 : tie.Need-same-length-12
 same-length-12 c = search needs
 
 returns-5 : tie.Need-returns-5
-returns-5 c = through-17 _ _ _ _ _ _ _ _ (c .before .before .before .before .before .before .match .keys5) (c .before .before .status .ensures)
+returns-5 c =
+    let at-status = c .before .before in let at-match-keys5 = at-status .before .before .before .before in
+    through-17 _ _ _ _ _ _ _ _ (at-match-keys5 .match .keys5) (at-status .status .ensures)
 
 same-length-13 : tie.Need-same-length-13
 same-length-13 c = search needs

@@ -11,7 +11,9 @@ free-slot-requires : tie.Need-free-slot-requires
 free-slot-requires c κs = (c .before .before .before .pre .0 .known, home-in (c .before .before .before .pre .0))
 
 create-requires : tie.Need-create-requires
-create-requires c κs = (c .before .before .before .before .before .pre .0, c .before .free-slot .ensures)
+create-requires c κs =
+    let at-start = c .before .before .before .before .before in
+    (at-start .pre .0, c .before .free-slot .ensures)
 
 open-requires : tie.Need-open-requires
 open-requires c κs = search needs
@@ -32,31 +34,41 @@ same-length : tie.Need-same-length
 same-length c = search needs
 
 returns : tie.Need-returns
-returns c = plain-7 _ _ _ _ _ _ (c .before .before .before .before .before .before .match .keys1) (c .before .before .create .ensures)
+returns c =
+    let at-create = c .before .before in let at-match-keys1 = at-create .before .before .before .before in
+    plain-7 _ _ _ _ _ _ (at-match-keys1 .match .keys1) (at-create .create .ensures)
 
 same-length-2 : tie.Need-same-length-2
 same-length-2 c = search needs
 
 returns-2 : tie.Need-returns-2
-returns-2 c = plain-8 _ _ _ _ _ _ (c .before .before .before .before .before .match .keys2) (c .before .before .«open» .ensures)
+returns-2 c =
+    let at-open = c .before .before in let at-match-keys2 = at-open .before .before .before in
+    plain-8 _ _ _ _ _ _ (at-match-keys2 .match .keys2) (at-open .«open» .ensures)
 
 same-length-3 : tie.Need-same-length-3
 same-length-3 c = search needs
 
 returns-3 : tie.Need-returns-3
-returns-3 c = plain-9 _ _ _ _ _ _ (c .before .before .before .before .match .keys3) (c .before .before .give-up .ensures)
+returns-3 c =
+    let at-give-up = c .before .before in let at-match-keys3 = at-give-up .before .before in
+    plain-9 _ _ _ _ _ _ (at-match-keys3 .match .keys3) (at-give-up .give-up .ensures)
 
 same-length-4 : tie.Need-same-length-4
 same-length-4 c = search needs
 
 returns-4 : tie.Need-returns-4
-returns-4 c = plain-10 _ _ _ _ _ _ (c .before .before .before .before .before .match .keys4) (c .before .before .link .ensures)
+returns-4 c =
+    let at-link = c .before .before in let at-match-keys4 = at-link .before .before .before in
+    plain-10 _ _ _ _ _ _ (at-match-keys4 .match .keys4) (at-link .link .ensures)
 
 same-length-5 : tie.Need-same-length-5
 same-length-5 c = search needs
 
 returns-5 : tie.Need-returns-5
-returns-5 c = plain-11 _ _ _ _ _ _ (c .before .before .before .before .before .match .keys5) (c .before .before .unlink .ensures)
+returns-5 c =
+    let at-unlink = c .before .before in let at-match-keys5 = at-unlink .before .before .before in
+    plain-11 _ _ _ _ _ _ (at-match-keys5 .match .keys5) (at-unlink .unlink .ensures)
 
 same-length-6 : tie.Need-same-length-6
 same-length-6 c = search needs

@@ -15,7 +15,9 @@ same-length : tie.Need-same-length
 same-length c = search needs
 
 returns : tie.Need-returns
-returns c = plain-19 _ _ _ _ _ _ (c .before .before .before .before .before .match .keys1) (c .before .before .remap .ensures)
+returns c =
+    let at-remap = c .before .before in let at-match-keys1 = at-remap .before .before .before in
+    plain-19 _ _ _ _ _ _ (at-match-keys1 .match .keys1) (at-remap .remap .ensures)
 
 same-length-2 : tie.Need-same-length-2
 same-length-2 c = search needs

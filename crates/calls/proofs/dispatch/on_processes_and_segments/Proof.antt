@@ -11,7 +11,9 @@ free-slot-requires : tie.Need-free-slot-requires
 free-slot-requires c κs = (c .before .before .before .pre .0 .known, home-in (c .before .before .before .pre .0))
 
 spawn-requires : tie.Need-spawn-requires
-spawn-requires c κs = (c .before .before .before .before .before .pre .0, c .before .free-slot .ensures)
+spawn-requires c κs =
+    let at-start = c .before .before .before .before .before in
+    (at-start .pre .0, c .before .free-slot .ensures)
 
 release-process-requires : tie.Need-release-process-requires
 release-process-requires c κs = search needs
@@ -20,7 +22,9 @@ free-slot-requires-2 : tie.Need-free-slot-requires-2
 free-slot-requires-2 c κs = (c .before .before .before .pre .0 .known, home-in (c .before .before .before .pre .0))
 
 build-segment-requires : tie.Need-build-segment-requires
-build-segment-requires c κs = (c .before .before .before .before .before .pre .0, c .before .free-slot2 .ensures)
+build-segment-requires c κs =
+    let at-start = c .before .before .before .before .before in
+    (at-start .pre .0, c .before .free-slot2 .ensures)
 
 rendezvous-requires : tie.Need-rendezvous-requires
 rendezvous-requires c κs = search needs
@@ -35,31 +39,41 @@ same-length : tie.Need-same-length
 same-length c = search needs
 
 returns : tie.Need-returns
-returns c = plain-1 _ _ _ _ _ _ (c .before .before .before .before .before .before .match .keys1) (c .before .before .spawn .ensures)
+returns c =
+    let at-spawn = c .before .before in let at-match-keys1 = at-spawn .before .before .before .before in
+    plain-1 _ _ _ _ _ _ (at-match-keys1 .match .keys1) (at-spawn .spawn .ensures)
 
 same-length-2 : tie.Need-same-length-2
 same-length-2 c = search needs
 
 returns-2 : tie.Need-returns-2
-returns-2 c = plain-2 _ _ _ _ _ _ (c .before .before .before .before .before .match .keys2) (c .before .before .release-process .ensures)
+returns-2 c =
+    let at-release-process = c .before .before in let at-match-keys2 = at-release-process .before .before .before in
+    plain-2 _ _ _ _ _ _ (at-match-keys2 .match .keys2) (at-release-process .release-process .ensures)
 
 same-length-3 : tie.Need-same-length-3
 same-length-3 c = search needs
 
 returns-3 : tie.Need-returns-3
-returns-3 c = plain-3 _ _ _ _ _ _ (c .before .before .before .before .before .before .match .keys3) (c .before .before .build-segment .ensures)
+returns-3 c =
+    let at-build-segment = c .before .before in let at-match-keys3 = at-build-segment .before .before .before .before in
+    plain-3 _ _ _ _ _ _ (at-match-keys3 .match .keys3) (at-build-segment .build-segment .ensures)
 
 same-length-4 : tie.Need-same-length-4
 same-length-4 c = search needs
 
 returns-4 : tie.Need-returns-4
-returns-4 c = plain-4 _ _ _ _ _ _ (c .before .before .before .before .before .match .keys4) (c .before .before .rendezvous .ensures)
+returns-4 c =
+    let at-rendezvous = c .before .before in let at-match-keys4 = at-rendezvous .before .before .before in
+    plain-4 _ _ _ _ _ _ (at-match-keys4 .match .keys4) (at-rendezvous .rendezvous .ensures)
 
 same-length-5 : tie.Need-same-length-5
 same-length-5 c = search needs
 
 returns-5 : tie.Need-returns-5
-returns-5 c = plain-5 _ _ _ _ _ _ (c .before .before .before .before .match .keys5) (c .before .before .give-up .ensures)
+returns-5 c =
+    let at-give-up = c .before .before in let at-match-keys5 = at-give-up .before .before in
+    plain-5 _ _ _ _ _ _ (at-match-keys5 .match .keys5) (at-give-up .give-up .ensures)
 
 same-length-6 : tie.Need-same-length-6
 same-length-6 c = search needs

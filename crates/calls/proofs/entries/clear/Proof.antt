@@ -31,7 +31,9 @@ loop-less : tie.Need-loop-less Inv-loop μ-loop
 loop-less c = search needs
 
 loop-again : tie.Need-loop-again Inv-loop μ-loop
-loop-again c = (omega arith, rw (clear-more, ← (c .before .before .before .before .before .loop .inv .1)) (c .before .before .put .ensures))
+loop-again c =
+    let at-put = c .before .before in let at-loop = at-put .before .before .before in
+    (omega arith, rw (clear-more, ← (at-loop .loop .inv .1)) (at-put .put .ensures))
 
 same-length : tie.Need-same-length Inv-loop μ-loop
 same-length c = ap length (c .before .loop .inv .1) ∙ simp length-sets

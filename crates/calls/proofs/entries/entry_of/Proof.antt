@@ -20,8 +20,9 @@ word-requires-2 c κs = search needs
 
 returns : tie.Need-returns
 returns c =
-    let s = c .before .before .before .before in
-    entry-read (s .pre .0) (kindOf (s .args .kind)) _ _ (s .pre .1) (c .before .before .entry-at .ensures .0) (c .before .word .ensures) (c .word2 .ensures)
+    let at-entry-at = c .before .before in let at-start = at-entry-at .before .before in
+    entry-read (at-start .pre .0) (kindOf (at-start .args .kind)) _ _ (at-start .pre .1) (at-entry-at .entry-at .ensures .0)
+    (c .before .word .ensures) (c .word2 .ensures)
 
 pub entry-of-spec : {M : Type 1} → statement M
 entry-of-spec =

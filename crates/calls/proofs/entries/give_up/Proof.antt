@@ -22,16 +22,18 @@ same-length c = search needs
 returns : tie.Need-returns
 unfolding givenUpAt
 returns c =
-    let at-if1 = c .before .before .before .before in let at-put2 = at-if1 .before .before .before in
+    let at-less = c .before .before in let at-if1 = at-less .before .before in let at-put2 = at-if1 .before .before .before in
     let at-put = at-put2 .before .before .before .before in
-    rw (at-if1 .if1 .taken, ← (at-put .put .ensures), ← (at-put2 .put2 .ensures)) (c .before .before .less .ensures)
+    rw (at-if1 .if1 .taken, ← (at-put .put .ensures), ← (at-put2 .put2 .ensures)) (at-less .less .ensures)
 
 same-length-2 : tie.Need-same-length-2
 same-length-2 c = search needs
 
 returns-2 : tie.Need-returns-2
 unfolding givenUpAt
-returns-2 c = rw (c .if1 .left, ← (c .before .before .before .before .before .before .before .put .ensures)) (c .before .before .before .put2 .ensures)
+returns-2 c =
+    let at-put2 = c .before .before .before in let at-put = at-put2 .before .before .before .before in
+    rw (c .if1 .left, ← (at-put .put .ensures)) (at-put2 .put2 .ensures)
 
 pub give-up-spec : {M : Type 1} → statement M
 give-up-spec = tie.close (tie.spec put-requires add-put put-requires-2 less-requires same-length returns same-length-2 returns-2)

@@ -27,10 +27,12 @@ holders-word-requires : tie.Need-holders-word-requires
 holders-word-requires c κs = search needs
 
 read-requires : tie.Need-read-requires
-read-requires c κs = (
-  c .before .before .before .before .before .before .before .before .before .before .before .pre .0,
-  omega (arith, c .holders-word .ensures, holders-small (kindOf (c .before .before .before .before .before .before .before .before .before .before .before .args .kind))),
-)
+read-requires c κs =
+    let at-is-kept = c .before .before .before .before in let at-index-of = at-is-kept .before .before .before .before .before in
+    let at-start = at-index-of .before .before in (
+      at-start .pre .0,
+      omega (arith, c .holders-word .ensures, holders-small (kindOf (at-start .args .kind))),
+    )
 
 clear-pages-requires : tie.Need-clear-pages-requires
 clear-pages-requires c κs = search needs
@@ -43,14 +45,14 @@ same-length c = search needs
 
 returns : tie.Need-returns
 returns c =
-    let at-clear-pages = c .before .before .before .before .before .before in let at-read = at-clear-pages .before .before in
-    let at-holders-word = at-read .before in let at-record-at = at-holders-word .before .before in
-    let at-entry-at = at-record-at .before in let at-is-kept = at-entry-at .before in
-    let at-cell-of = at-is-kept .before .before .before in let at-index-of = at-cell-of .before .before in
-    let at-start = at-index-of .before .before in
-    c .before .before .give-up .ensures ∙ given-told (at-start .pre .0) (at-start .args .c) (kindOf (at-start .args .kind)) _ _ _ (at-start .pre .1)
-    (at-start .pre .2) (at-index-of .index-of .ensures) (at-cell-of .cell-of .ensures) (at-is-kept .is-kept .ensures) (at-entry-at .entry-at .ensures .0)
-    (at-record-at .record-at .ensures .0) (rw (← (at-holders-word .holders-word .ensures)) (at-read .read .ensures)) (at-clear-pages .clear-pages .ensures)
+    let at-give-up = c .before .before in let at-clear-pages = at-give-up .before .before .before .before in
+    let at-read = at-clear-pages .before .before in let at-holders-word = at-read .before in let at-record-at = at-holders-word .before .before in
+    let at-entry-at = at-record-at .before in let at-is-kept = at-entry-at .before in let at-cell-of = at-is-kept .before .before .before in
+    let at-index-of = at-cell-of .before .before in let at-start = at-index-of .before .before in
+    at-give-up .give-up .ensures ∙ given-told (at-start .pre .0) (at-start .args .c) (kindOf (at-start .args .kind)) _ _ _ (at-start .pre .1)
+    (at-start .pre .2) (at-index-of .index-of .ensures) (at-cell-of .cell-of .ensures) (at-is-kept .is-kept .ensures)
+    (at-entry-at .entry-at .ensures .0) (at-record-at .record-at .ensures .0) (rw (← (at-holders-word .holders-word .ensures))
+    (at-read .read .ensures)) (at-clear-pages .clear-pages .ensures)
 
 pub give-up-entry-spec : {M : Type 1} → statement M
 give-up-entry-spec =

@@ -12,16 +12,20 @@ record-words-requires c κs = search needs
 
 free-record-requires : tie.Need-free-record-requires
 free-record-requires c κs =
-    let s = c .before .before .before .before in
-    (s .pre, omega (arith, c .record-words .ensures, record-some (kindOf (s .args .kind))), rw (c .record-words .ensures) (record-small (kindOf (s .args .kind))))
+    let at-start = c .before .before .before .before in (
+      at-start .pre,
+      omega (arith, c .record-words .ensures, record-some (kindOf (at-start .args .kind))),
+      rw (c .record-words .ensures)
+          (record-small (kindOf (at-start .args .kind))),
+    )
 
 holders-word-requires : tie.Need-holders-word-requires
 holders-word-requires c κs = search needs
 
 add-put : tie.Need-add-put
 add-put c =
-    let s = c .before .before .before .before in
-    record { fits = omega (arith, s .pre, c .holders-word .ensures, holders-small (kindOf (s .args .kind))) }
+    let at-start = c .before .before .before .before in
+    record { fits = omega (arith, at-start .pre, c .holders-word .ensures, holders-small (kindOf (at-start .args .kind))) }
 
 one-less-requires : tie.Need-one-less-requires
 one-less-requires c κs = search needs
@@ -35,7 +39,8 @@ same-length c = search needs
 returns : tie.Need-returns
 unfolding lessAt
 returns c =
-    rw (c .before .before .before .before .before .if1 .taken, ← (c .before .before .before .record-words .ensures)) (c .before .before .free-record .ensures)
+    let at-free-record = c .before .before in let at-record-words = at-free-record .before in let at-if1 = at-record-words .before .before in
+    rw (at-if1 .if1 .taken, ← (at-record-words .record-words .ensures)) (at-free-record .free-record .ensures)
 
 same-length-2 : tie.Need-same-length-2
 same-length-2 c = search needs
@@ -43,8 +48,9 @@ same-length-2 c = search needs
 returns-2 : tie.Need-returns-2
 unfolding lessAt
 returns-2 c =
-    let at-if1 = c .before .before .before .before .before .before in
-    rw (at-if1 .if1 .left, ← (c .before .before .before .one-less .ensures), ← (c .before .before .before .before .holders-word .ensures)) (c .before .before .put .ensures)
+    let at-put = c .before .before in let at-one-less = at-put .before in let at-holders-word = at-one-less .before in
+    let at-if1 = at-holders-word .before .before in
+    rw (at-if1 .if1 .left, ← (at-one-less .one-less .ensures), ← (at-holders-word .holders-word .ensures)) (at-put .put .ensures)
 
 pub less-spec : {M : Type 1} → statement M
 less-spec =

@@ -17,7 +17,9 @@ word-requires : tie.Need-word-requires
 word-requires c κs = search needs
 
 add-n : tie.Need-add-n
-add-n c = record { fits = omega (arith, rw (← (c .before .before .holders-word .ensures)) at (c .before .before .before .before .pre .2), c .word .ensures) }
+add-n c =
+    let at-holders-word = c .before .before in let at-start = at-holders-word .before .before in
+    record { fits = omega (arith, rw (← (at-holders-word .holders-word .ensures)) at (at-start .pre .2), c .word .ensures) }
 
 put-requires : tie.Need-put-requires
 put-requires c κs = search needs
@@ -37,7 +39,7 @@ same-length c = search needs
 returns : tie.Need-returns
 unfolding takenUpAt
 returns c =
-    let at-if1 = c .before .before .before .before in let at-put2 = at-if1 .before .before .before in
+    let at-put3 = c .before .before in let at-if1 = at-put3 .before .before in let at-put2 = at-if1 .before .before .before in
     let at-put = at-put2 .before .before .before .before in let at-word = at-put .before .before in let at-holders-word = at-word .before .before in
     rw (
       at-if1 .if1 .taken,
@@ -46,14 +48,16 @@ returns c =
       ← (at-put .put .ensures),
       ← (at-put2 .put2
           .ensures),
-    ) (c .before .before .put3 .ensures)
+    ) (at-put3 .put3 .ensures)
 
 same-length-2 : tie.Need-same-length-2
 same-length-2 c = search needs
 
 returns-2 : tie.Need-returns-2
 unfolding takenUpAt
-returns-2 c = rw (c .if1 .left, ← (c .before .before .before .before .before .before .before .put .ensures)) (c .before .before .before .put2 .ensures)
+returns-2 c =
+    let at-put2 = c .before .before .before in let at-put = at-put2 .before .before .before .before in
+    rw (c .if1 .left, ← (at-put .put .ensures)) (at-put2 .put2 .ensures)
 
 pub take-up-spec : {M : Type 1} → statement M
 take-up-spec =

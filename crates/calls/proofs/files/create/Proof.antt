@@ -15,24 +15,27 @@ use borrow.Author.Needs.{needs}
 use Rattle.calls.proofs.files.create.Statement.{statement}
 use Rattle.calls.proofs.files.create.Tie as tie
 
-number : (c : tie.After-or-refuse4) (buffer : List ℕ) → c .or-refuse4 .result ≡ firstRefusal (ruleAt (c .before .before .before .before .before
-    .before .before .before .before .args .t .now) (λ h q. create h q (c .before .before .before .before .before .before .before .before .before .args
-    .c .slot) (c .before .before .before .before .before .before .before .before .before .args .a) (c .before .before .before .before .before .before
-    .before .before .before .args .b) buffer) .refusals)
-number c buffer =
-    let at-or-refuse2 = c .before .before .before in let at-valid = at-or-refuse2 .before in let at-or-refuse = at-valid .before in
-    let at-free-entry = at-or-refuse .before in let at-start = at-free-entry .before .before .before in
-    create-number (at-start .pre .0) (at-start .args .a) (at-start .args .b) buffer (at-start .pre .1) (at-free-entry .free-entry .ensures)
-    (at-or-refuse .or-refuse .ensures) (at-valid .valid .ensures) (at-or-refuse2 .or-refuse2 .ensures) (c .before .before .wide .ensures) (c .before
-    .or-refuse3 .ensures) (c .or-refuse4 .ensures)
+-- the start
+abbrev start : tie.After-or-refuse4 → tie.Start
+start c = c .before .before .before .before .before .before .before .before .before
 
-room : (c : tie.Else1) → c .before .before .before .before .before .before .before .before .before .before .args .f .none ≡ false
-room c =
-    let at-wide = c .before .before .before in let at-or-refuse2 = at-wide .before in let at-valid = at-or-refuse2 .before in
+number : (c : tie.After-or-refuse4) (buffer : List ℕ) → c .or-refuse4 .result ≡ firstRefusal (ruleAt (start c .args .t .now) (λ h q. create h q
+    (start c .args .c .slot) (start c .args .a) (start c .args .b) buffer) .refusals)
+number c buffer =
+    let at-wide = c .before .before in let at-or-refuse2 = at-wide .before in let at-valid = at-or-refuse2 .before in
     let at-or-refuse = at-valid .before in let at-free-entry = at-or-refuse .before in let at-start = at-free-entry .before .before .before in
-    create-room (at-start .pre .0) (at-start .args .a) (at-start .args .b) [] (at-start .pre .1) (at-free-entry .free-entry .ensures) (at-or-refuse
-    .or-refuse .ensures) (at-valid .valid .ensures) (at-or-refuse2 .or-refuse2 .ensures) (at-wide .wide .ensures) (c .before .before .or-refuse3
-    .ensures) (c .before .or-refuse4 .ensures) (c .if1 .left)
+    create-number (at-start .pre .0) (at-start .args .a) (at-start .args .b) buffer (at-start .pre .1) (at-free-entry .free-entry .ensures)
+    (at-or-refuse .or-refuse .ensures) (at-valid .valid .ensures) (at-or-refuse2 .or-refuse2 .ensures) (at-wide .wide .ensures)
+    (c .before .or-refuse3 .ensures) (c .or-refuse4 .ensures)
+
+room : (c : tie.Else1) → start (c .before) .args .f .none ≡ false
+room c =
+    let at-or-refuse3 = c .before .before in let at-wide = at-or-refuse3 .before in let at-or-refuse2 = at-wide .before in
+    let at-valid = at-or-refuse2 .before in let at-or-refuse = at-valid .before in let at-free-entry = at-or-refuse .before in
+    let at-start = at-free-entry .before .before .before in
+    create-room (at-start .pre .0) (at-start .args .a) (at-start .args .b) [] (at-start .pre .1) (at-free-entry .free-entry .ensures)
+    (at-or-refuse .or-refuse .ensures) (at-valid .valid .ensures) (at-or-refuse2 .or-refuse2 .ensures) (at-wide .wide .ensures)
+    (at-or-refuse3 .or-refuse3 .ensures) (c .before .or-refuse4 .ensures) (c .if1 .left)
 
 free-entry-requires : tie.Need-free-entry-requires
 free-entry-requires c κs = search needs
@@ -69,8 +72,9 @@ read-requires c κs = search needs
 
 add-serial : tie.Need-add-serial
 add-serial c =
-    let at-start = c .before .before .before .before .before .before .before .before .before .before .before .before in
-    record { fits = omega (arith, serial-rises (at-start .pre .0) file (at-start .pre .1) (room (c .before .before)) (c .read .ensures)) }
+    let at-if1 = c .before .before in let at-valid = at-if1 .before .before .before .before .before in
+    let at-start = at-valid .before .before .before .before .before in
+    record { fits = omega (arith, serial-rises (at-start .pre .0) file (at-start .pre .1) (room at-if1) (c .read .ensures)) }
 
 read-requires-2 : tie.Need-read-requires-2
 read-requires-2 c κs = search needs
@@ -102,56 +106,22 @@ same-length-2 c = search needs
 returns-2 : tie.Need-returns-2
 unfolding create
 returns-2 c =
-    let at-if1 = c .before .before .before .before .before .before .before .before .before .before .before .before .before .before .before .before .before .before in
-    let at-or-refuse4 = at-if1 .before in
-    λ buffer. left-done _ (λ h q. create h q _ _ _ buffer) (number (at-or-refuse4) buffer) (at-if1 .if1 .left)
-    (c .answered .ensures ∙ ap₂ (said 0) (create-seid (c .before .before .before .before .before .before .before .before .before .before .before
-    .before .before .before .before .before .before .before .before .before .before .before .before .before .before .before .before .before .pre .0)
-    (c .before .before .before .before .before .before .before .before .before .before .before .before .before .before .before .before .before .before
-    .before .before .before .before .before .before .before .before .before .before .args .a) (c .before .before .before .before .before .before
-    .before .before .before .before .before .before .before .before .before .before .before .before .before .before .before .before .before .before
-    .before .before .before .before .args .b) buffer (c .before .before .before .before .before .before .before .before .before .before .before
-    .before .before .before .before .before .before .before .before .before .before .before .before .before .before .before .before .before .pre .1)
-    (c .before .before .before .before .before .before .before .before .before .before .before .before .before .before .before .before .before .before
-    .before .before .before .before .before .before .before .free-entry .ensures) (c .before .before .before .before .before .before .before .before
-    .before .before .before .before .before .before .before .before .before .before .before .before .before .before .before .before .or-refuse
-    .ensures) (c .before .before .before .before .before .before .before .before .before .before .before .before .before .before .before .before
-    .before .before .before .before .before .before .before .valid .ensures) (c .before .before .before .before .before .before .before .before
-    .before .before .before .before .before .before .before .before .before .before .before .before .before .before .or-refuse2 .ensures) (c .before
-    .before .before .before .before .before .before .before .before .before .before .before .before .before .before .before .before .before .before
-    .before .before .wide .ensures) (c .before .before .before .before .before .before .before .before .before .before .before .before .before .before
-    .before .before .before .before .before .before .or-refuse3 .ensures) (c .before .before .before .before .before .before .before .before .before
-    .before .before .before .before .before .before .before .before .before .before .or-refuse4 .ensures) (c .before .before .before .before .before
-    .before .before .before .before .before .before .before .before .before .before .before .before .before .if1 .left) (c .before .before .before
-    .before .before .before .before .before .before .before .before .before .before .before .before .before .read .ensures) (c .before .before .before
-    .before .before .before .before .before .before .before .before .before .before .before .read2 .ensures) (c .before .before .before .before
-    .before .before .before .before .before .before .before .before .read3 .ensures) (c .before .before .before .before .before .before .before
-    .before .before .before .before .seid .ensures)) (c .before .before .before .before .before .before .before .before .before .before .before
-    .before .before .before .before .before .before .before .before .before .before .before .before .before .before .free-entry .ensures))
-    (create-words (c .before .before .before .before .before .before .before .before .before .before .before .before .before .before .before .before
-    .before .before .before .before .before .before .before .before .before .before .before .before .pre .0) (c .before .before .before .before
-    .before .before .before .before .before .before .before .before .before .before .before .before .before .before .before .before .before .before
-    .before .before .before .before .before .before .args .a) (c .before .before .before .before .before .before .before .before .before .before
-    .before .before .before .before .before .before .before .before .before .before .before .before .before .before .before .before .before .before
-    .args .b) buffer (c .before .before .before .before .before .before .before .before .before .before .before .before .before .before .before
-    .before .before .before .before .before .before .before .before .before .before .before .before .before .pre .1) (c .before .before .before
-    .before .before .before .before .before .before .before .before .before .before .before .before .before .before .before .before .before .before
-    .before .before .before .before .free-entry .ensures) (c .before .before .before .before .before .before .before .before .before .before .before
-    .before .before .before .before .before .before .before .before .before .before .before .before .before .or-refuse .ensures) (c .before .before
-    .before .before .before .before .before .before .before .before .before .before .before .before .before .before .before .before .before .before
-    .before .before .before .valid .ensures) (c .before .before .before .before .before .before .before .before .before .before .before .before
-    .before .before .before .before .before .before .before .before .before .before .or-refuse2 .ensures) (c .before .before .before .before .before
-    .before .before .before .before .before .before .before .before .before .before .before .before .before .before .before .before .wide .ensures) (c
-    .before .before .before .before .before .before .before .before .before .before .before .before .before .before .before .before .before .before
-    .before .before .or-refuse3 .ensures) (c .before .before .before .before .before .before .before .before .before .before .before .before .before
-    .before .before .before .before .before .before .or-refuse4 .ensures) (c .before .before .before .before .before .before .before .before .before
-    .before .before .before .before .before .before .before .before .before .if1 .left) (c .before .before .before .before .before .before .before
-    .before .before .before .before .before .before .before .before .before .read .ensures) (c .before .before .before .before .before .before .before
-    .before .before .before .before .before .before .before .read2 .ensures) (c .before .before .before .before .before .before .before .before
-    .before .before .before .before .read3 .ensures) (c .before .before .before .before .before .before .before .before .before .before .before .seid
-    .ensures) (c .before .before .before .before .before .before .before .before .before .record-at .ensures .0) (c .before .before .before .before
-    .before .before .before .before .make .ensures) (c .before .before .before .before .entry-at .ensures .0) (c .before .before .before .enter
-    .ensures))
+    let at-enter = c .before .before .before in let at-entry-at = at-enter .before in let at-make = at-entry-at .before .before .before .before in
+    let at-record-at = at-make .before in let at-seid = at-record-at .before .before in let at-read3 = at-seid .before in
+    let at-read2 = at-read3 .before .before in let at-read = at-read2 .before .before in let at-if1 = at-read .before .before in
+    let at-or-refuse4 = at-if1 .before in let at-or-refuse3 = at-or-refuse4 .before in let at-wide = at-or-refuse3 .before in
+    let at-or-refuse2 = at-wide .before in let at-valid = at-or-refuse2 .before in let at-or-refuse = at-valid .before in
+    let at-free-entry = at-or-refuse .before in let at-start = at-free-entry .before .before .before in
+    λ buffer. left-done _ (λ h q. create h q _ _ _ buffer) (number at-or-refuse4 buffer) (at-if1 .if1 .left)
+    (c .answered .ensures ∙ ap₂ (said 0) (create-seid (at-start .pre .0) (at-start .args .a) (at-start .args .b) buffer (at-start .pre .1)
+    (at-free-entry .free-entry .ensures) (at-or-refuse .or-refuse .ensures) (at-valid .valid .ensures) (at-or-refuse2 .or-refuse2 .ensures)
+    (at-wide .wide .ensures) (at-or-refuse3 .or-refuse3 .ensures) (at-or-refuse4 .or-refuse4 .ensures) (at-if1 .if1 .left) (at-read .read .ensures)
+    (at-read2 .read2 .ensures) (at-read3 .read3 .ensures) (at-seid .seid .ensures)) (at-free-entry .free-entry .ensures)) (create-words
+    (at-start .pre .0) (at-start .args .a) (at-start .args .b) buffer (at-start .pre .1) (at-free-entry .free-entry .ensures)
+    (at-or-refuse .or-refuse .ensures) (at-valid .valid .ensures) (at-or-refuse2 .or-refuse2 .ensures) (at-wide .wide .ensures)
+    (at-or-refuse3 .or-refuse3 .ensures) (at-or-refuse4 .or-refuse4 .ensures) (at-if1 .if1 .left) (at-read .read .ensures)
+    (at-read2 .read2 .ensures) (at-read3 .read3 .ensures) (at-seid .seid .ensures) (at-record-at .record-at .ensures .0) (at-make .make .ensures)
+    (at-entry-at .entry-at .ensures .0) (at-enter .enter .ensures))
 
 pub create-spec : {M : Type 1} → statement M
 create-spec =

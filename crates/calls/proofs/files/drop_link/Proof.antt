@@ -29,20 +29,20 @@ same-length c = search needs
 
 returns : tie.Need-returns
 returns c =
-    let at-record-at = c .before .before .before in let at-if1 = at-record-at .before .before in let at-read2 = at-if1 .before in
-    let at-read = at-read2 .before .before in let at-start = at-read .before .before .before in
-    c .before .before .free-record .ensures ∙ drop-freed (at-start .pre) _ (at-read .read .ensures) (at-read2 .read2 .ensures) (at-record-at
-    .record-at .ensures .0) (at-if1 .if1 .taken)
+    let at-free-record = c .before .before in let at-record-at = at-free-record .before in let at-if1 = at-record-at .before .before in
+    let at-read2 = at-if1 .before in let at-read = at-read2 .before .before in let at-start = at-read .before .before .before in
+    at-free-record .free-record .ensures ∙ drop-freed (at-start .pre) _ (at-read .read .ensures) (at-read2 .read2 .ensures)
+    (at-record-at .record-at .ensures .0) (at-if1 .if1 .taken)
 
 same-length-2 : tie.Need-same-length-2
 same-length-2 c = search needs
 
 returns-2 : tie.Need-returns-2
 returns-2 c =
-    let at-one-less = c .before .before .before in let at-if1 = at-one-less .before .before in let at-read2 = at-if1 .before in
-    let at-read = at-read2 .before .before in let at-start = at-read .before .before .before in
-    c .before .before .write .ensures ∙ drop-counted (at-start .pre) _ (at-read .read .ensures) (at-read2 .read2 .ensures) (at-one-less .one-less
-    .ensures) (at-if1 .if1 .left)
+    let at-write = c .before .before in let at-one-less = at-write .before in let at-if1 = at-one-less .before .before in
+    let at-read2 = at-if1 .before in let at-read = at-read2 .before .before in let at-start = at-read .before .before .before in
+    at-write .write .ensures ∙ drop-counted (at-start .pre) _ (at-read .read .ensures) (at-read2 .read2 .ensures) (at-one-less .one-less .ensures)
+    (at-if1 .if1 .left)
 
 pub drop-link-spec : {M : Type 1} → statement M
 drop-link-spec =

@@ -15,16 +15,19 @@ use borrow.Author.Needs.{needs}
 use Rattle.calls.proofs.files.give_up.Statement.{statement}
 use Rattle.calls.proofs.files.give_up.Tie as tie
 
-number : (c : tie.After-or-refuse2) (buffer : List ℕ) → c .or-refuse2 .result ≡ firstRefusal (giveUpRule (configuration (c .before .before .before
-    .before .before .before .before .args .t .now)) (wordsOf (c .before .before .before .before .before .before .before .args .t .now)) (kindOf (c
-    .before .before .before .before .before .before .before .args .kind)) (c .before .before .before .before .before .before .before .args .c .slot)
-    (c .before .before .before .before .before .before .before .args .a) (c .before .before .before .before .before .before .before .args .beyond) (c
-    .before .before .before .before .before .before .before .args .empty) buffer .refusals)
+-- the start
+abbrev start : tie.After-or-refuse2 → tie.Start
+start c = c .before .before .before .before .before .before .before
+
+number : (c : tie.After-or-refuse2) (buffer : List ℕ) → c .or-refuse2 .result ≡ firstRefusal (giveUpRule (configuration (start c .args .t .now))
+    (wordsOf (start c .args .t .now)) (kindOf (start c .args .kind)) (start c .args .c .slot) (start c .args .a) (start c .args .beyond)
+    (start c .args .empty) buffer .refusals)
 number c buffer =
-    let at-wide = c .before .before .before in let at-entry-of = at-wide .before in let at-start = at-entry-of .before .before .before in
-    give-up-number (configuration (at-start .args .t .now)) (wordsOf (at-start .args .t .now)) (kindOf (at-start .args .kind)) (at-start .args .c
-    .slot) (at-start .args .a) (at-start .args .beyond) (at-start .args .empty) buffer (at-start .pre .2) (at-start .pre .3) (ap (λ (x : Entry). x
-    .held) (at-entry-of .entry-of .ensures)) (at-wide .wide .ensures) (c .before .before .or-refuse .ensures) (c .or-refuse2 .ensures)
+    let at-or-refuse = c .before .before in let at-wide = at-or-refuse .before in let at-entry-of = at-wide .before in
+    let at-start = at-entry-of .before .before .before in
+    give-up-number (configuration (at-start .args .t .now)) (wordsOf (at-start .args .t .now)) (kindOf (at-start .args .kind))
+    (at-start .args .c .slot) (at-start .args .a) (at-start .args .beyond) (at-start .args .empty) buffer (at-start .pre .2) (at-start .pre .3) (ap
+    (λ (x : Entry). x .held) (at-entry-of .entry-of .ensures)) (at-wide .wide .ensures) (at-or-refuse .or-refuse .ensures) (c .or-refuse2 .ensures)
 
 entry-of-requires : tie.Need-entry-of-requires
 entry-of-requires c κs = search needs
@@ -60,7 +63,7 @@ returns-2 : tie.Need-returns-2
 returns-2 c =
     let at-give-up-entry = c .before .before .before in let at-if1 = at-give-up-entry .before .before in let at-or-refuse2 = at-if1 .before in
     let at-entry-of = at-or-refuse2 .before .before .before .before in
-    λ buffer. left-done _ _ (number (at-or-refuse2) buffer) (at-if1 .if1 .left) (c .answered .ensures) (at-give-up-entry .give-up-entry .ensures ∙ rw
+    λ buffer. left-done _ _ (number at-or-refuse2 buffer) (at-if1 .if1 .left) (c .answered .ensures) (at-give-up-entry .give-up-entry .ensures ∙ rw
     (ap (λ (x : Entry). x .held) (at-entry-of .entry-of .ensures)))
 
 pub give-up-spec : {M : Type 1} → statement M

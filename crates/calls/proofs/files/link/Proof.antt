@@ -14,14 +14,17 @@ use borrow.Author.Needs.{needs}
 use Rattle.calls.proofs.files.link.Statement.{statement}
 use Rattle.calls.proofs.files.link.Tie as tie
 
-number : (c : tie.After-or-refuse) (buffer : List ℕ) → c .or-refuse .result ≡ firstRefusal (ruleAt (c .before .before .before .before .before .before .before
-    .before .before .before .args .t .now) (λ h q. link h q (c .before .before .before .before .before .before .before .before .before .before .args .c .slot)
-    (c .before .before .before .before .before .before .before .before .before .before .args .a) buffer) .refusals)
+-- the start
+abbrev start : tie.After-or-refuse → tie.Start
+start c = c .before .before .before .before .before .before .before .before .before .before
+
+number : (c : tie.After-or-refuse) (buffer : List ℕ) → c .or-refuse .result ≡ firstRefusal (ruleAt (start c .args .t .now) (λ h q. link h q
+    (start c .args .c .slot) (start c .args .a) buffer) .refusals)
 number c buffer =
-    let at-look = c .before .before .before .before in let at-or-self = at-look .before .before .before in
+    let at-read = c .before .before in let at-look = at-read .before .before in let at-or-self = at-look .before .before .before in
     let at-start = at-or-self .before .before .before in
-    link-number (at-start .pre .0) _ buffer (at-or-self .or-self .ensures) (at-look .look .ensures) (c .before .before .read .ensures) (c .before .own
-    .ensures) (c .or-refuse .ensures)
+    link-number (at-start .pre .0) _ buffer (at-or-self .or-self .ensures) (at-look .look .ensures) (at-read .read .ensures)
+    (c .before .own .ensures) (c .or-refuse .ensures)
 
 or-self-requires : tie.Need-or-self-requires
 or-self-requires c κs = search needs
@@ -49,13 +52,13 @@ returns c = λ buffer. left-refused _ _ (number (c .before .before) buffer) (c .
 
 add-write : tie.Need-add-write
 add-write c =
-    let at-own = c .before .before .before in let at-read = at-own .before in let at-look = at-read .before .before in
-    let at-or-self = at-look .before .before .before in let at-start = at-or-self .before .before .before in
+    let at-or-refuse = c .before .before in let at-own = at-or-refuse .before in let at-read = at-own .before in
+    let at-look = at-read .before .before in let at-or-self = at-look .before .before .before in let at-start = at-or-self .before .before .before in
     record {
       fits = omega (
         arith,
         links-few (at-start .pre .0) _ [] (at-or-self .or-self .ensures) (at-look .look .ensures) (at-read .read .ensures)
-            (at-own .own .ensures) (eqb (at-read .read .result) maxLinks) (c .before .before .or-refuse .ensures) (c .before .if1 .left),
+            (at-own .own .ensures) (eqb (at-read .read .result) maxLinks) (at-or-refuse .or-refuse .ensures) (c .before .if1 .left),
       );
     }
 
@@ -74,9 +77,9 @@ returns-2 c =
     let at-write = c .before .before .before in let at-if1 = at-write .before .before in let at-or-refuse = at-if1 .before in
     let at-own = at-or-refuse .before in let at-read = at-own .before in let at-look = at-read .before .before in
     let at-or-self = at-look .before .before .before in let at-start = at-or-self .before .before .before in
-    λ buffer. left-done _ (λ h q. link h q _ _ buffer) (number (at-or-refuse) buffer) (at-if1 .if1 .left) (c .answered .ensures) (at-write .write
-    .ensures ∙ link-words (at-start .pre .0) _ buffer (at-or-self .or-self .ensures) (at-look .look .ensures) (at-read .read .ensures) (at-own .own
-    .ensures) (eqb (at-read .read .result) maxLinks) (at-or-refuse .or-refuse .ensures) (at-if1 .if1 .left))
+    λ buffer. left-done _ (λ h q. link h q _ _ buffer) (number at-or-refuse buffer) (at-if1 .if1 .left) (c .answered .ensures) (at-write .write
+    .ensures ∙ link-words (at-start .pre .0) _ buffer (at-or-self .or-self .ensures) (at-look .look .ensures) (at-read .read .ensures)
+    (at-own .own .ensures) (eqb (at-read .read .result) maxLinks) (at-or-refuse .or-refuse .ensures) (at-if1 .if1 .left))
 
 pub link-spec : {M : Type 1} → statement M
 link-spec =

@@ -30,12 +30,12 @@ or-refuse-requires-2 c κs = search needs
 
 returns : tie.Need-returns
 returns c =
-    let at-reads = c .before .before .before in let at-find = at-reads .before in let at-or-refuse = at-find .before in
+    let at-writes2 = c .before .before in let at-reads = at-writes2 .before in let at-find = at-reads .before in let at-or-refuse = at-find .before in
     let at-valid = at-or-refuse .before in let at-writes = at-valid .before .before in
     rw (
       c .or-refuse2 .ensures,
       c .before .lacks .ensures,
-      c .before .before .writes2 .ensures,
+      at-writes2 .writes2 .ensures,
       at-reads .reads .ensures,
       at-find .find .ensures,
       at-or-refuse .or-refuse .ensures,

@@ -12,17 +12,19 @@ use borrow.Author.Needs.{needs}
 use Rattle.calls.proofs.files.open.Statement.{statement}
 use Rattle.calls.proofs.files.open.Tie as tie
 
-number : (c : tie.After-or-refuse2) (buffer : List ℕ) → c .or-refuse2 .result ≡ firstRefusal (ruleAt (c .before .before .before .before .before .before
-    .before .before .before .before .before .before .before .before .args .t .now) (λ h q. openFile h q (c .before .before .before .before .before .before
-    .before .before .before .before .before .before .before .before .args .c .slot) (c .before .before .before .before .before .before .before .before .before
-    .before .before .before .before .before .args .a) (c .before .before .before .before .before .before .before .before .before .before .before .before
-    .before .before .args .b) buffer) .refusals)
+-- the start
+abbrev start : tie.After-or-refuse2 → tie.Start
+start c = c .before .before .before .before .before .before .before .before .before .before .before .before .before .before
+
+number : (c : tie.After-or-refuse2) (buffer : List ℕ) → c .or-refuse2 .result ≡ firstRefusal (ruleAt (start c .args .t .now) (λ h q. openFile h q
+    (start c .args .c .slot) (start c .args .a) (start c .args .b) buffer) .refusals)
 number c buffer =
-    let at-busy = c .before .before .before in let at-may-open = at-busy .before .before in let at-free-entry = at-may-open .before in
-    let at-look = at-free-entry .before .before in let at-or-self = at-look .before .before .before in let at-start = at-or-self .before .before .before in
+    let at-or-refuse = c .before .before in let at-busy = at-or-refuse .before in let at-may-open = at-busy .before .before in
+    let at-free-entry = at-may-open .before in let at-look = at-free-entry .before .before in let at-or-self = at-look .before .before .before in
+    let at-start = at-or-self .before .before .before in
     open-number (at-start .pre .0) (at-start .args .a) (at-start .args .b) buffer (at-or-self .or-self .ensures) (at-look .look .ensures)
-    (at-free-entry .free-entry .ensures) (at-may-open .may-open .ensures) (at-busy .busy .ensures) (c .before .before .or-refuse .ensures) (c .before
-    .wide .ensures) (c .or-refuse2 .ensures)
+    (at-free-entry .free-entry .ensures) (at-may-open .may-open .ensures) (at-busy .busy .ensures) (at-or-refuse .or-refuse .ensures)
+    (c .before .wide .ensures) (c .or-refuse2 .ensures)
 
 or-self-requires : tie.Need-or-self-requires
 or-self-requires c κs = search needs
@@ -38,11 +40,11 @@ may-open-requires c κs = search needs
 
 busy-requires : tie.Need-busy-requires
 busy-requires c κs =
-    let at-look = c .before .before .before .before in let at-or-self = at-look .before .before .before in
+    let at-free-entry = c .before .before in let at-look = at-free-entry .before .before in let at-or-self = at-look .before .before .before in
     let at-start = at-or-self .before .before .before in (
       at-start .pre .0,
       may-clash (at-start .pre .0) (at-start .args .a) (at-start .args .b) [] (at-or-self .or-self .ensures) (at-look .look .ensures)
-          (c .before .before .free-entry .ensures) (c .before .may-open .ensures),
+          (at-free-entry .free-entry .ensures) (c .before .may-open .ensures),
       at-look .look .ensures,
     )
 
@@ -72,17 +74,18 @@ record-at-requires c κs = search needs
 
 take-up-requires : tie.Need-take-up-requires
 take-up-requires c κs =
-    let at-if1 = c .before .before .before in let at-or-refuse2 = at-if1 .before in let at-wide = at-or-refuse2 .before in
-    let at-or-refuse = at-wide .before in let at-busy = at-or-refuse .before in let at-may-open = at-busy .before .before in
-    let at-free-entry = at-may-open .before in let at-look = at-free-entry .before .before in let at-or-self = at-look .before .before .before in
-    let at-start = at-or-self .before .before .before in (
-      c .before .before .entry-at .ensures .1,
+    let at-entry-at = c .before .before in let at-if1 = at-entry-at .before in let at-or-refuse2 = at-if1 .before in
+    let at-wide = at-or-refuse2 .before in let at-or-refuse = at-wide .before in let at-busy = at-or-refuse .before in
+    let at-may-open = at-busy .before .before in let at-free-entry = at-may-open .before in let at-look = at-free-entry .before .before in
+    let at-or-self = at-look .before .before .before in let at-start = at-or-self .before .before .before in (
+      at-entry-at .entry-at .ensures .1,
       c .before .record-at .ensures .1,
       omega (
         arith,
         open-fits (at-start .pre .0) (at-start .args .a)
-            (at-start .args .b) [] (at-or-self .or-self .ensures) (at-look .look .ensures) (at-free-entry .free-entry .ensures) (at-may-open .may-open
-            .ensures) (at-busy .busy .ensures) (at-or-refuse .or-refuse .ensures) (at-wide .wide .ensures) (at-or-refuse2 .or-refuse2 .ensures) (at-if1 .if1
+            (at-start .args .b) [] (at-or-self .or-self .ensures) (at-look .look .ensures) (at-free-entry .free-entry .ensures)
+            (at-may-open .may-open .ensures) (at-busy .busy .ensures) (at-or-refuse .or-refuse .ensures) (at-wide .wide .ensures)
+            (at-or-refuse2 .or-refuse2 .ensures) (at-if1 .if1
             .left) (c .before .record-at .ensures .0),
       ),
     )
@@ -102,9 +105,8 @@ returns-2 c =
     let at-free-entry = at-may-open .before in let at-look = at-free-entry .before .before in let at-or-self = at-look .before .before .before in
     let at-start = at-or-self .before .before .before in
     λ buffer. left-done _ (λ h q. openFile h q _ _ _ buffer) (number at-or-refuse2 buffer) (at-if1 .if1 .left)
-    (c .answered .ensures ∙ ap (λ (d : ℕ). said 0 d 0) (at-free-entry .free-entry .ensures))
-    (at-take-up .take-up .ensures
-    ∙ open-words (at-start .pre .0) (at-start .args .a) (at-start .args .b) buffer (at-or-self .or-self .ensures) (at-look .look .ensures)
+    (c .answered .ensures ∙ ap (λ (d : ℕ). said 0 d 0) (at-free-entry .free-entry .ensures)) (at-take-up .take-up .ensures ∙ open-words
+    (at-start .pre .0) (at-start .args .a) (at-start .args .b) buffer (at-or-self .or-self .ensures) (at-look .look .ensures)
     (at-free-entry .free-entry .ensures) (at-may-open .may-open .ensures) (at-busy .busy .ensures) (at-or-refuse .or-refuse .ensures)
     (at-wide .wide .ensures) (at-or-refuse2 .or-refuse2 .ensures) (at-if1 .if1 .left) (at-entry-at .entry-at .ensures .0)
     (at-record-at .record-at .ensures .0))

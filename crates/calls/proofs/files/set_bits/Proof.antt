@@ -20,9 +20,9 @@ same-length c = search needs
 
 returns : tie.Need-returns
 returns c =
-    let at-kind-by = c .before .before .before .before in
+    let at-set-bits-of = c .before .before in let at-kind-by = at-set-bits-of .before .before in let at-or-self = at-kind-by .before in
     λ buffer. left-same _ _ (λ h q. setBits h q _ _ _ buffer)
-    (by-class _ _ _ _ _ buffer (at-kind-by .before .or-self .ensures) (at-kind-by .kind-by .ensures)) (c .before .before .set-bits-of .ensures buffer)
+    (by-class _ _ _ _ _ buffer (at-or-self .or-self .ensures) (at-kind-by .kind-by .ensures)) (at-set-bits-of .set-bits-of .ensures buffer)
 
 pub set-bits-spec : {M : Type 1} → statement M
 set-bits-spec = tie.close (tie.spec or-self-requires kind-by-requires set-bits-of-requires same-length returns)

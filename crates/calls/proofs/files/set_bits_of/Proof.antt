@@ -65,13 +65,13 @@ same-length-2 c = search needs
 
 returns-2 : tie.Need-returns-2
 returns-2 c =
-    let wrote = c .before .before .before in
-    let past = wrote .before .before .before in
-    let judged = past .before in
-    λ buffer. left-done _ _ (number judged buffer) (past .if1 .left) (c .answered .ensures)
-    (wrote .write .ensures ∙ bits-words (start judged .pre .0) (kindOf (start judged .args .kind)) (start judged .args .s) (start judged .args .b) buffer
-    (seen judged .look .ensures) (judged .before .before .before .is-shared .ensures) (judged .before .before .or-refuse .ensures)
-    (judged .before .own .ensures) (judged .or-refuse2 .ensures) (past .if1 .left) (wrote .before .bits-word .ensures))
+    let at-write = c .before .before .before in let at-bits-word = at-write .before in let at-if1 = at-bits-word .before .before in
+    let at-or-refuse2 = at-if1 .before in let at-own = at-or-refuse2 .before in let at-or-refuse = at-own .before in
+    let at-is-shared = at-or-refuse .before in
+    λ buffer. left-done _ _ (number at-or-refuse2 buffer) (at-if1 .if1 .left) (c .answered .ensures)
+    (at-write .write .ensures ∙ bits-words (start at-or-refuse2 .pre .0) (kindOf (start at-or-refuse2 .args .kind)) (start at-or-refuse2 .args .s)
+    (start at-or-refuse2 .args .b) buffer (seen at-or-refuse2 .look .ensures) (at-is-shared .is-shared .ensures) (at-or-refuse .or-refuse .ensures)
+    (at-own .own .ensures) (at-or-refuse2 .or-refuse2 .ensures) (at-if1 .if1 .left) (at-bits-word .bits-word .ensures))
 
 pub set-bits-of-spec : {M : Type 1} → statement M
 set-bits-of-spec =

@@ -14,14 +14,17 @@ use borrow.Author.Needs.{needs}
 use Rattle.calls.proofs.files.unlink.Statement.{statement}
 use Rattle.calls.proofs.files.unlink.Tie as tie
 
-number : (c : tie.After-or-refuse) (buffer : List ℕ) → c .or-refuse .result ≡ firstRefusal (ruleAt (c .before .before .before .before .before .before .before
-    .before .before .before .args .t .now) (λ h q. unlink h q (c .before .before .before .before .before .before .before .before .before .before .args .c
-    .slot) (c .before .before .before .before .before .before .before .before .before .before .args .a) buffer) .refusals)
+-- the start
+abbrev start : tie.After-or-refuse → tie.Start
+start c = c .before .before .before .before .before .before .before .before .before .before
+
+number : (c : tie.After-or-refuse) (buffer : List ℕ) → c .or-refuse .result ≡ firstRefusal (ruleAt (start c .args .t .now) (λ h q. unlink h q
+    (start c .args .c .slot) (start c .args .a) buffer) .refusals)
 number c buffer =
-    let at-look = c .before .before .before .before in let at-or-self = at-look .before .before .before in
+    let at-read = c .before .before in let at-look = at-read .before .before in let at-or-self = at-look .before .before .before in
     let at-start = at-or-self .before .before .before in
-    unlink-number (at-start .pre .0) _ buffer (at-or-self .or-self .ensures) (at-look .look .ensures) (c .before .before .read .ensures) (c .before
-    .own .ensures) (c .or-refuse .ensures)
+    unlink-number (at-start .pre .0) _ buffer (at-or-self .or-self .ensures) (at-look .look .ensures) (at-read .read .ensures)
+    (c .before .own .ensures) (c .or-refuse .ensures)
 
 or-self-requires : tie.Need-or-self-requires
 or-self-requires c κs = search needs
@@ -62,7 +65,7 @@ returns-2 c =
     let at-drop-link = c .before .before .before in let at-if1 = at-drop-link .before .before in let at-or-refuse = at-if1 .before in
     let at-own = at-or-refuse .before in let at-read = at-own .before in let at-look = at-read .before .before in
     let at-or-self = at-look .before .before .before in let at-start = at-or-self .before .before .before in
-    λ buffer. left-done _ (λ h q. unlink h q _ _ buffer) (number (at-or-refuse) buffer) (at-if1 .if1 .left) (c .answered .ensures) (at-drop-link
+    λ buffer. left-done _ (λ h q. unlink h q _ _ buffer) (number at-or-refuse buffer) (at-if1 .if1 .left) (c .answered .ensures) (at-drop-link
     .drop-link .ensures ∙ unlink-words (at-start .pre .0) _ buffer (at-or-self .or-self .ensures) (at-look .look .ensures) (at-read .read .ensures)
     (at-own .own .ensures) (eqb (at-read .read .result) 0) (at-or-refuse .or-refuse .ensures) (at-if1 .if1 .left))
 

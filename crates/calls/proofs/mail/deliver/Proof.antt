@@ -42,12 +42,11 @@ same-length c = search needs
 
 returns : tie.Need-returns
 returns c =
-    let put = c .before .before in
-    let written = put .before .before .before .before .before .before .before in
-    deliver-words (written .before .before .before .before .before .before .pre .0) _ _ _ _ (written .before .before .before .record-at .ensures .0)
-    (written .before .before .wide .ensures) (written .write .ensures) (put .before .before .before .word-at .ensures) (put .before .before .word-at2
-    .ensures) (put .before .word-at3 .ensures)
-    (put .put-four .ensures)
+    let at-put-four = c .before .before in let at-word-at3 = at-put-four .before in let at-word-at2 = at-word-at3 .before in
+    let at-word-at = at-word-at2 .before in let at-write = at-word-at .before .before .before .before in let at-wide = at-write .before .before in
+    let at-record-at = at-wide .before in let at-start = at-record-at .before .before .before in
+    deliver-words (at-start .pre .0) _ _ _ _ (at-record-at .record-at .ensures .0) (at-wide .wide .ensures) (at-write .write .ensures)
+    (at-word-at .word-at .ensures) (at-word-at2 .word-at2 .ensures) (at-word-at3 .word-at3 .ensures) (at-put-four .put-four .ensures)
 
 pub deliver-spec : {M : Type 1} → statement M
 deliver-spec =

@@ -24,15 +24,16 @@ or-refuse-requires-6 c κs = search needs
 
 returns : tie.Need-returns
 returns c =
-    let at-fifth = c .before .before in let at-fourth = at-fifth .before .before in let at-third = at-fourth .before .before .before in
-    let at-second = at-third .before in let at-first = at-second .before .before in
+    let at-or-refuse5 = c .before .before in let at-or-refuse4 = at-or-refuse5 .before .before in
+    let at-or-refuse3 = at-or-refuse4 .before .before .before in let at-or-refuse2 = at-or-refuse3 .before in
+    let at-or-refuse = at-or-refuse2 .before .before in
     rw (
       c .or-refuse6 .ensures,
-      at-fifth .or-refuse5 .ensures,
-      at-fourth .or-refuse4 .ensures,
-      at-third .or-refuse3 .ensures,
-      at-second .or-refuse2 .ensures,
-      at-first .or-refuse .ensures,
+      at-or-refuse5 .or-refuse5 .ensures,
+      at-or-refuse4 .or-refuse4 .ensures,
+      at-or-refuse3 .or-refuse3 .ensures,
+      at-or-refuse2 .or-refuse2 .ensures,
+      at-or-refuse .or-refuse .ensures,
     )
 
 pub may-post-spec : {M : Type 1} → statement M

@@ -44,8 +44,9 @@ may-write-requires c κs = search needs
 
 flow-at-requires : tie.Need-flow-at-requires
 flow-at-requires c κs =
-    let at-may-write = c .before in let at-look = at-may-write .before .before .before .before in
-    let at-start = at-look .before .before .before .before .before .before .before in sixteen _ (at-start .pre .1 .matrix)
+    let at-look = c .before .before .before .before .before in let at-or-self = at-look .before .before .before in
+    let at-start = at-or-self .before .before .before .before in
+    sixteen _ (at-start .pre .1 .matrix)
 
 may-post-requires : tie.Need-may-post-requires
 may-post-requires c κs = search needs
@@ -65,8 +66,11 @@ or-self-requires-2 c κs =
 
 deliver-requires : tie.Need-deliver-requires
 deliver-requires c κs =
-    let after = c .before .before .before .before .before .before in
-    (judged after .sound .known, room-told (seen after .look .result .present) (allowed after .may-write .result) (c .before .if2 .taken) (judged after .wide))
+    let at-if1 = c .before .before .before .before .before in let at-may-post = at-if1 .before in (
+      judged at-may-post .sound .known,
+      room-told (seen at-may-post .look .result .present) (allowed at-may-post .may-write .result)
+          (c .before .if2 .taken) (judged at-may-post .wide),
+    )
 
 answered-requires : tie.Need-answered-requires
 answered-requires c κs = search needs
@@ -76,11 +80,11 @@ same-length-2 c = ⊎-elim (λ w. ap length (w .5) ∙ search needs) (λ w. ap l
 
 returns-2 : tie.Need-returns-2
 returns-2 c =
-    let after = c .before .before .before .before .before .before in
-    let p = judged after in
-    let none = c .before .before .before .before .before .if1 .left in
-    let words = ⊎-elim (λ w. w .5 ∙ post-delivered p none (allowed after .may-write .ensures) (c .before .before .before .or-self2 .ensures) (w .0 .taken)
-    (w .2 .ensures)) (λ w. w .1 ∙ post-dropped p none (allowed after .may-write .ensures) (w .0 .left)) (c .before .if2 .came) in
+    let at-or-self2 = c .before .before .before in let at-if1 = at-or-self2 .before .before in let at-may-post = at-if1 .before in
+    let p = judged at-may-post in
+    let none = at-if1 .if1 .left in
+    let words = ⊎-elim (λ w. w .5 ∙ post-delivered p none (allowed at-may-post .may-write .ensures) (at-or-self2 .or-self2 .ensures) (w .0 .taken)
+    (w .2 .ensures)) (λ w. w .1 ∙ post-dropped p none (allowed at-may-post .may-write .ensures) (w .0 .left)) (c .before .if2 .came) in
     post-done p none words (c .answered .ensures)
 
 pub post-spec : {M : Type 1} → statement M

@@ -22,8 +22,8 @@ same-length c = search needs
 
 returns : tie.Need-returns
 returns c =
-    let judged = c .before .before in
-    receive-refused _ _ _ (judged .before .before .read .ensures) (judged .before .or-refuse .ensures) (judged .or-refuse2 .ensures) (c .before .if1 .taken)
+    let at-or-refuse2 = c .before .before in let at-or-refuse = at-or-refuse2 .before in let at-read = at-or-refuse .before in
+    receive-refused _ _ _ (at-read .read .ensures) (at-or-refuse .or-refuse .ensures) (at-or-refuse2 .or-refuse2 .ensures) (c .before .if1 .taken)
     (c .refused .ensures)
 
 record-at-requires : tie.Need-record-at-requires
@@ -70,15 +70,14 @@ same-length-3 c = search needs
 
 returns-2 : tie.Need-returns-2
 returns-2 c =
-    let cleared = c .before .before .before in
-    let moved = cleared .before .before .before .before in
-    let written = moved .before .before .before .before in
-    let shown = written .before .before .before .before .before in
-    let placed = shown .before .before .before in
-    let judged = placed .before .before in
-    receive-done _ _ _ (judged .before .before .read .ensures) (judged .before .or-refuse .ensures) (judged .or-refuse2 .ensures)
-    (judged .before .before .before .before .before .before .pre .known) (placed .before .if1 .left) (placed .record-at .ensures .0) (written .before .one-less .ensures)
-    (written .write .ensures) (moved .move-up .ensures) (cleared .clear .ensures) (shown .show .ensures) (c .answered .ensures)
+    let at-clear = c .before .before .before in let at-move-up = at-clear .before .before .before .before in
+    let at-write = at-move-up .before .before .before .before in let at-one-less = at-write .before in
+    let at-show = at-one-less .before .before .before .before in let at-record-at = at-show .before .before .before in
+    let at-if1 = at-record-at .before in let at-or-refuse2 = at-if1 .before in let at-or-refuse = at-or-refuse2 .before in
+    let at-read = at-or-refuse .before in let at-start = at-read .before .before .before .before in
+    receive-done _ _ _ (at-read .read .ensures) (at-or-refuse .or-refuse .ensures) (at-or-refuse2 .or-refuse2 .ensures) (at-start .pre .known)
+    (at-if1 .if1 .left) (at-record-at .record-at .ensures .0) (at-one-less .one-less .ensures) (at-write .write .ensures)
+    (at-move-up .move-up .ensures) (at-clear .clear .ensures) (at-show .show .ensures) (c .answered .ensures)
 
 pub receive-spec : {M : Type 1} → statement M
 receive-spec =

@@ -40,8 +40,8 @@ loop-less c = search needs
 
 loop-again : tie.Need-loop-again Inv-loop μ-loop
 loop-again c =
-    let at-loop = c .before .before .before .before .before .before in
-    (omega arith, rw (shown-more, ← (at-loop .loop .inv .1), ← (c .before .before .before .word .ensures)) (c .before .before .put-word .ensures))
+    let at-put-word = c .before .before in let at-word = at-put-word .before in let at-loop = at-word .before .before .before in
+    (omega arith, rw (shown-more, ← (at-loop .loop .inv .1), ← (at-word .word .ensures)) (at-put-word .put-word .ensures))
 
 same-length : tie.Need-same-length Inv-loop μ-loop
 same-length c = ap length (c .before .loop .inv .1) ∙ length-shown _ _ _ _

@@ -56,15 +56,17 @@ loop-less : tie.Need-loop-less Inv-loop μ-loop
 loop-less c = search needs
 
 loop-again : tie.Need-loop-again Inv-loop μ-loop
-loop-again c = (omega arith, some-next _ _ (c .before .loop .inv .1) (rw (c .before .before .before .before .wide .ensures)))
+loop-again c =
+    let at-wide = c .before .before .before .before in
+    (omega arith, some-next _ _ (c .before .loop .inv .1) (rw (at-wide .wide .ensures)))
 
 returns-2 : tie.Need-returns-2 Inv-loop μ-loop
 unfolding conflict
 returns-2 c =
-    let at-wide2 = c .before .before .before in
-    let e : c .before .loop .i ≡ at-wide2 .before .before .args .n = omega (arith, at-wide2 .wide2 .ensures, c .loop-test .left) in
+    let at-if1 = c .before .before in let at-wide2 = at-if1 .before in let at-start = at-wide2 .before .before in
+    let e : c .before .loop .i ≡ at-start .args .n = omega (arith, at-wide2 .wide2 .ensures, c .loop-test .left) in
     rw (
-      le-ltb pages ((at-wide2 .before .before .args .b) + (at-wide2 .before .before .args .n)) (omega (arith, end at-wide2, c .before .before .if1 .left)),
+      le-ltb pages ((at-start .args .b) + (at-start .args .n)) (omega (arith, end at-wide2, at-if1 .if1 .left)),
       ← e,
     ) (c .before .loop .inv .1)
 

@@ -63,14 +63,15 @@ or-refuse-requires-6 c κs = search needs
 
 returns : tie.Need-returns
 returns c =
-    let at-or-refuse5 = c .before .before in let at-or-refuse4 = at-or-refuse5 .before .before in let at-or-refuse3 = at-or-refuse4 .before .before in
-    let at-or-refuse = at-or-refuse3 .before .before in let at-wide4 = at-or-refuse .before in
-    let x = at-wide4 .before .before .before .before .args in
-    chained (x .incoming) (x .b) (x .outgoing) (x .s) (x .u) (x .present) (x .run) (x .m) (x .rest)
-    (at-wide4 .before .before .before .wide .ensures) (at-wide4 .before .before .wide2 .ensures) (at-wide4 .before .wide3 .ensures)
-    (at-wide4 .wide4 .ensures) (at-or-refuse4 .before .is-mapped .ensures) (at-or-refuse5 .before .is-mapped2 .ensures) (c .before .conflict .ensures)
-    (at-or-refuse .or-refuse .ensures) (at-or-refuse3 .before .or-refuse2 .ensures) (at-or-refuse3 .or-refuse3 .ensures) (at-or-refuse4 .or-refuse4 .ensures)
-    (at-or-refuse5 .or-refuse5 .ensures) (c .or-refuse6 .ensures)
+    let at-or-refuse5 = c .before .before in let at-is-mapped2 = at-or-refuse5 .before in let at-or-refuse4 = at-is-mapped2 .before in
+    let at-is-mapped = at-or-refuse4 .before in let at-or-refuse3 = at-is-mapped .before in let at-or-refuse2 = at-or-refuse3 .before in
+    let at-or-refuse = at-or-refuse2 .before in let at-wide4 = at-or-refuse .before in let at-wide3 = at-wide4 .before in
+    let at-wide2 = at-wide3 .before in let at-wide = at-wide2 .before in let at-start = at-wide .before in
+    let x = at-start .args in
+    chained (x .incoming) (x .b) (x .outgoing) (x .s) (x .u) (x .present) (x .run) (x .m) (x .rest) (at-wide .wide .ensures)
+    (at-wide2 .wide2 .ensures) (at-wide3 .wide3 .ensures) (at-wide4 .wide4 .ensures) (at-is-mapped .is-mapped .ensures)
+    (at-is-mapped2 .is-mapped2 .ensures) (c .before .conflict .ensures) (at-or-refuse .or-refuse .ensures) (at-or-refuse2 .or-refuse2 .ensures)
+    (at-or-refuse3 .or-refuse3 .ensures) (at-or-refuse4 .or-refuse4 .ensures) (at-or-refuse5 .or-refuse5 .ensures) (c .or-refuse6 .ensures)
 
 pub may-remap-spec : {M : Type 1} → statement M
 may-remap-spec =

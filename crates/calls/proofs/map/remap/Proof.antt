@@ -100,9 +100,12 @@ start c = c .before .before .before .before .before .before .before .before
 found : (c : tie.After-may-remap) → (c .may-remap .result) ≡ firstRefusal (remapTests (start (looked c) .args .incoming) (start (looked c) .args .b)
     (start (looked c) .args .outgoing) (looked c .before .before .before .before .before .entry-of .result .held) (looked c .before .before .before .entry-of2 .result .held)
     (looked c .look .result .present) (c .before .before .before .before .run-of .result) (c .before .before .map-of .result) (c .before .left .result))
-found c = c .may-remap .ensures ∙ refusing-first (remapTests (start (looked c) .args .incoming) (start (looked c) .args .b)
-    (start (looked c) .args .outgoing) (looked c .before .before .before .before .before .entry-of .result .held) (looked c .before .before .before .entry-of2 .result .held)
-    (looked c .look .result .present) (c .before .before .before .before .run-of .result) (c .before .before .map-of .result) (c .before .left .result)) refl
+found c =
+    let at-map-of = c .before .before in let at-run-of = at-map-of .before .before in
+    c .may-remap .ensures ∙ refusing-first (remapTests (start (looked c) .args .incoming) (start (looked c) .args .b) (start
+    (looked c) .args .outgoing) (looked c .before .before .before .before .before .entry-of .result .held)
+    (looked c .before .before .before .entry-of2 .result .held) (looked c .look .result .present) (at-run-of .run-of .result)
+    (at-map-of .map-of .result) (c .before .left .result)) refl
 
 -- what the laws above say of the places where it was found
 module _ (c : tie.After-may-remap) (buffer : List ℕ) where
@@ -168,7 +171,9 @@ taken-requires : tie.Need-taken-requires
 taken-requires c κs = search needs
 
 set-pages-requires : tie.Need-set-pages-requires
-set-pages-requires c κs = start (looked (c .before .before .before .before)) .pre .0 .known
+set-pages-requires c κs =
+    let at-may-remap = c .before .before .before .before in
+    start (looked at-may-remap) .pre .0 .known
 
 answered-requires : tie.Need-answered-requires
 answered-requires c κs = search needs
@@ -180,9 +185,9 @@ returns-2 : tie.Need-returns-2
 unfolding remap
 returns-2 c =
     let at-set-pages = c .before .before .before in let at-taken = at-set-pages .before in let at-wide = at-taken .before .before in
-    let at-if1 = at-wide .before in
-    λ buffer. left-done _ (λ h q. remap h q _ _ _ _ buffer) (counted (at-if1 .before) buffer) (at-if1 .if1 .left) (c .answered .ensures)
-    (written (at-if1 .before) buffer (at-if1 .if1 .left) (at-wide .wide .ensures) (at-taken .taken .ensures) (at-set-pages .set-pages .ensures))
+    let at-if1 = at-wide .before in let at-may-remap = at-if1 .before in
+    λ buffer. left-done _ (λ h q. remap h q _ _ _ _ buffer) (counted at-may-remap buffer) (at-if1 .if1 .left) (c .answered .ensures)
+    (written at-may-remap buffer (at-if1 .if1 .left) (at-wide .wide .ensures) (at-taken .taken .ensures) (at-set-pages .set-pages .ensures))
 
 pub remap-spec : {M : Type 1} → statement M
 remap-spec =

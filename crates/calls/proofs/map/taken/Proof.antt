@@ -52,10 +52,10 @@ loop-less c = search needs
 
 loop-again : tie.Need-loop-again Inv-loop μ-loop
 loop-again c =
-    let at-wide2 = c .before .before .before in (
+    let at-loop = c .before .before in let at-wide2 = at-loop .before in let at-wide = at-wide2 .before in (
       omega arith,
-      filled-more _ _ _ _ _ _ (omega arith) (c .before .before .loop .inv .1)
-          (c .first .ensures ∙ rw (at-wide2 .wide2 .ensures, at-wide2 .before .wide .ensures)),
+      filled-more _ _ _ _ _ _ (omega arith) (at-loop .loop .inv .1)
+          (c .first .ensures ∙ rw (at-wide2 .wide2 .ensures, at-wide .wide .ensures)),
     )
 
 returns : tie.Need-returns Inv-loop μ-loop

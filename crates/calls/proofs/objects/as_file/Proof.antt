@@ -25,7 +25,8 @@ enum-told c = search needs
 
 returns : tie.Need-returns
 returns c =
-    let is = file-is _ _ _ (sym (c .before .before .before .before .before .check .ensures) ∙ c .before .before .before .f .given .1) in
+    let at-f = c .before .before .before in let at-check = at-f .before .before in
+    let is = file-is _ _ _ (sym (at-check .check .ensures) ∙ at-f .f .given .1) in
     named _ file _ (is .0) (is .1) (c .before .index .ensures) (c .serial .ensures)
 
 returns-2 : tie.Need-returns-2

@@ -25,7 +25,8 @@ enum-told c = search needs
 
 returns : tie.Need-returns
 returns c =
-    let is = process-is _ _ _ (sym (c .before .before .before .before .before .check .ensures) ∙ c .before .before .before .p .given .1) in
+    let at-p = c .before .before .before in let at-check = at-p .before .before in
+    let is = process-is _ _ _ (sym (at-check .check .ensures) ∙ at-p .p .given .1) in
     named _ process _ (is .0) (is .1) (c .before .index .ensures) (c .serial .ensures)
 
 returns-2 : tie.Need-returns-2

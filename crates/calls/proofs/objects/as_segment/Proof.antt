@@ -25,7 +25,8 @@ enum-told c = search needs
 
 returns : tie.Need-returns
 returns c =
-    let is = segment-is _ _ _ (sym (c .before .before .before .before .before .check .ensures) ∙ c .before .before .before .g .given .1) in
+    let at-g = c .before .before .before in let at-check = at-g .before .before in
+    let is = segment-is _ _ _ (sym (at-check .check .ensures) ∙ at-g .g .given .1) in
     named _ segment _ (is .0) (is .1) (c .before .index .ensures) (c .serial .ensures)
 
 returns-2 : tie.Need-returns-2

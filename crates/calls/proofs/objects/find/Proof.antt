@@ -18,11 +18,12 @@ or-refuse-requires-3 c κs = search needs
 
 returns : tie.Need-returns
 returns c =
+    let at-or-refuse2 = c .before .before in let at-or-refuse = at-or-refuse2 .before in let at-absent = at-or-refuse .before .before in
     rw (
       c .or-refuse3 .ensures,
-      c .before .before .or-refuse2 .ensures,
-      c .before .before .before .or-refuse .ensures,
-      c .before .before .before .before .before .absent .ensures,
+      at-or-refuse2 .or-refuse2 .ensures,
+      at-or-refuse .or-refuse .ensures,
+      at-absent .absent .ensures,
     )
 
 pub find-spec : {M : Type 1} → statement M

@@ -15,7 +15,9 @@ first-requires : tie.Need-first-requires
 first-requires c κs = search needs
 
 returns : tie.Need-returns
-returns c = self-told (c .before .before .before .before .pre) _ (c .before .before .read .ensures) (c .before .seid .ensures) (c .first .ensures)
+returns c =
+    let at-read = c .before .before in let at-start = at-read .before .before in
+    self-told (at-start .pre) _ (at-read .read .ensures) (c .before .seid .ensures) (c .first .ensures)
 
 pub or-self-spec : {M : Type 1} → statement M
 or-self-spec = tie.close (tie.spec read-requires seid-requires first-requires returns)

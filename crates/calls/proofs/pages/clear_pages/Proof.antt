@@ -35,12 +35,11 @@ same-length c = search needs
 
 returns-2 : tie.Need-returns-2
 returns-2 c =
-    let at-left = c .before .before .before in
-    let at-start = at-left .before .before .before .before .before .before .before in
-    rw (at-left .before .before .before .before .enum-told2 .given .1)
-    (c .before .before .set-pages .ensures ∙ ap (λ (ws : List Word). write (configuration (at-start .args .t .now)) (at-start .args .t .now) ws)
-    (cleared-is (wordsOf (at-start .args .t .now)) (at-start .args .p) (at-start .args .d)
-    (at-left .before .before .map-of .ensures) (at-left .left .ensures)))
+    let at-set-pages = c .before .before in let at-left = at-set-pages .before in let at-map-of = at-left .before .before in
+    let at-enum-told2 = at-map-of .before .before in let at-start = at-enum-told2 .before .before .before in
+    rw (at-enum-told2 .enum-told2 .given .1) (at-set-pages .set-pages .ensures ∙ ap (λ (ws : List Word). write (configuration
+    (at-start .args .t .now)) (at-start .args .t .now) ws) (cleared-is (wordsOf (at-start .args .t .now)) (at-start .args .p) (at-start .args .d)
+    (at-map-of .map-of .ensures) (at-left .left .ensures)))
 
 returns-3 : tie.Need-returns-3
 returns-3 c = rw (c .enum-told3 .given .1)

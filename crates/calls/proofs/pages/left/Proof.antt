@@ -57,11 +57,12 @@ loop-less : tie.Need-loop-less Inv-loop μ-loop
 loop-less c = search needs
 
 loop-again : tie.Need-loop-again Inv-loop μ-loop
-loop-again c = (
-  omega arith,
-  filled-more _ _ _ _ _ _ (omega arith) (c .before .before .before .before .loop .inv .1)
-      (c .first .ensures ∙ rw (c .before .before .wide .ensures, c .before .wide2 .ensures)),
-)
+loop-again c =
+    let at-wide = c .before .before in let at-loop = at-wide .before .before in (
+      omega arith,
+      filled-more _ _ _ _ _ _ (omega arith) (at-loop .loop .inv .1)
+          (c .first .ensures ∙ rw (at-wide .wide .ensures, c .before .wide2 .ensures)),
+    )
 
 returns : tie.Need-returns Inv-loop μ-loop
 returns c = filled-all _ _ _ _ _ (omega arith) (c .before .loop .inv .1)

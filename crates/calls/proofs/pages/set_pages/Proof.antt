@@ -41,11 +41,12 @@ loop-less : tie.Need-loop-less Inv-loop μ-loop
 loop-less c = search needs
 
 loop-again : tie.Need-loop-again Inv-loop μ-loop
-loop-again c = (
-  omega arith,
-  pages-more (c .before .before .before .before .before .before .before .pre) _ _ _
-      (c .before .before .before .before .before .loop .inv .1) (c .before .before .write .ensures),
-)
+loop-again c =
+    let at-write = c .before .before in let at-loop = at-write .before .before .before in let at-start = at-loop .before .before in (
+      omega arith,
+      pages-more (at-start .pre) _ _ _
+          (at-loop .loop .inv .1) (at-write .write .ensures),
+    )
 
 same-length : tie.Need-same-length Inv-loop μ-loop
 same-length c = ap length (c .before .loop .inv .1) ∙ simp length-write

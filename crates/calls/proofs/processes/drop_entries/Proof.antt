@@ -27,8 +27,9 @@ wide-requires : tie.Need-wide-requires Inv-loop μ-loop
 wide-requires c κs = search needs
 
 drop-entry-requires : tie.Need-drop-entry-requires Inv-loop μ-loop
-drop-entry-requires c κs = ready (kindOf (c .before .before .before .before .before .args .kind)) _
-    (c .before .before .before .before .before .pre) _ (c .before .before .before .loop .inv .1)
+drop-entry-requires c κs =
+    let at-loop = c .before .before .before in let at-start = at-loop .before .before in
+    ready (kindOf (at-start .args .kind)) _ (at-start .pre) _ (at-loop .loop .inv .1)
 
 add-d : tie.Need-add-d Inv-loop μ-loop
 add-d c = search needs
@@ -37,12 +38,14 @@ loop-less : tie.Need-loop-less Inv-loop μ-loop
 loop-less c = search needs
 
 loop-again : tie.Need-loop-again Inv-loop μ-loop
-loop-again c = (
-  omega arith,
-  one-more (kindOf (c .before .before .before .before .before .before .before .before .args .kind)) _
-      (c .before .before .before .before .before .before .before .before .pre) _ (omega arith)
-      (c .before .before .before .before .before .before .loop .inv .1) (c .before .before .drop-entry .ensures),
-)
+loop-again c =
+    let at-drop-entry = c .before .before in let at-loop = at-drop-entry .before .before .before .before in
+    let at-start = at-loop .before .before in (
+      omega arith,
+      one-more (kindOf (at-start .args .kind)) _
+          (at-start .pre) _ (omega arith)
+          (at-loop .loop .inv .1) (at-drop-entry .drop-entry .ensures),
+    )
 
 same-length : tie.Need-same-length Inv-loop μ-loop
 same-length c = ap length (c .before .before .loop .inv .1) ∙ simp length-write

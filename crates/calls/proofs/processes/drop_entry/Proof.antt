@@ -10,25 +10,30 @@ entry-of-requires : tie.Need-entry-of-requires
 entry-of-requires c κs = search needs
 
 give-up-entry-requires : tie.Need-give-up-entry-requires
-give-up-entry-requires c κs = (
-  c .before .before .before .before .before .before .pre .known,
-  c .before .before .before .before .before .before .pre .homed,
-  c .before .before .before .before .before .before .pre .held,
-)
+give-up-entry-requires c κs =
+    let at-entry-of = c .before .before .before in let at-start = at-entry-of .before .before .before in (
+      at-start .pre .known,
+      at-start .pre .homed,
+      at-start .pre .held,
+    )
 
 same-length : tie.Need-same-length
 same-length c = search needs
 
 returns : tie.Need-returns
-returns c = (c .before .before .give-up-entry .ensures) ∙ drop-some _ _ (kindOf
-    (c .before .before .before .before .before .before .before .before .before .args .kind)) _ _
-    (c .before .before .before .before .before .before .entry-of .ensures) (c .before .before .before .before .if1 .taken)
+returns c =
+    let at-give-up-entry = c .before .before in let at-if1 = at-give-up-entry .before .before in let at-entry-of = at-if1 .before .before in
+    let at-start = at-entry-of .before .before .before in
+    (at-give-up-entry .give-up-entry .ensures) ∙ drop-some _ _ (kindOf (at-start .args .kind)) _ _ (at-entry-of .entry-of .ensures)
+    (at-if1 .if1 .taken)
 
 same-length-2 : tie.Need-same-length-2
 same-length-2 c = search needs
 
 returns-2 : tie.Need-returns-2
-returns-2 c = drop-none _ _ (kindOf (c .before .before .before .before .before .args .kind)) _ _ (c .before .before .entry-of .ensures) (c .if1 .left)
+returns-2 c =
+    let at-entry-of = c .before .before in let at-start = at-entry-of .before .before .before in
+    drop-none _ _ (kindOf (at-start .args .kind)) _ _ (at-entry-of .entry-of .ensures) (c .if1 .left)
 
 pub drop-entry-spec : {M : Type 1} → statement M
 drop-entry-spec =

@@ -72,13 +72,15 @@ found c = (c .own .ensures) ∙ refusing-first (ownTests (c .before .look .resul
 
 counted : (c : tie.After-own) (buffer : List ℕ) → (c .own .result) ≡ firstRefusal (ruleAt (start c .args .t .now) (λ h r. releaseProcess h r
     (start c .args .c .slot) (start c .args .a) buffer) .refusals)
-counted c buffer = found c ∙ number (start c .pre .0) (start c .args .a) (c .before .before .before .before .or-self .ensures)
-    (c .before .look .ensures) buffer
+counted c buffer =
+    let at-or-self = c .before .before .before .before in
+    found c ∙ number (start c .pre .0) (start c .args .a) (at-or-self .or-self .ensures) (c .before .look .ensures) buffer
 
 held : (c : tie.After-drop-entries-arg) (k : Kind) → holdable k ≡ true → Holding (start (c .before .before) .args .t .now) (start
     (c .before .before) .args .n) (start (c .before .before) .args .c) k (c .before .before .before .look .result .slot)
-held c = holding (start (c .before .before) .pre .0) (start (c .before .before) .args .a)
-    (c .before .before .before .before .before .before .or-self .ensures) (c .before .before .before .look .ensures) (sym (found (c .before .before)) ∙
+held c =
+    let at-own = c .before .before in let at-look = at-own .before in let at-or-self = at-look .before .before .before in
+    holding (start at-own .pre .0) (start at-own .args .a) (at-or-self .or-self .ensures) (at-look .look .ensures) (sym (found at-own) ∙
     (c .before .if1 .left))
 
 or-self-requires : tie.Need-or-self-requires
@@ -103,8 +105,9 @@ drop-entries-requires : tie.Need-drop-entries-requires
 drop-entries-requires c κs = held c file refl
 
 drop-entries-requires-2 : tie.Need-drop-entries-requires-2
-drop-entries-requires-2 c κs = then-segments _ (held (c .before .before .before .before) file refl) (held
-    (c .before .before .before .before) segment refl) (c .before .before .before .drop-entries .ensures)
+drop-entries-requires-2 c κs =
+    let at-drop-entries = c .before .before .before in let at-drop-entries-arg = at-drop-entries .before in
+    then-segments _ (held at-drop-entries-arg file refl) (held at-drop-entries-arg segment refl) (at-drop-entries .drop-entries .ensures)
 
 record-at-requires : tie.Need-record-at-requires
 record-at-requires c κs = search needs
@@ -120,21 +123,17 @@ same-length-2 c = search needs
 
 returns-2 : tie.Need-returns-2
 unfolding releaseProcess
-returns-2 c = λ buffer. left-done _ (λ h r. releaseProcess h r _ (start (judged
-    (c .before .before .before .before .before .before .before .before)) .args .a) buffer) (counted (judged
-    (c .before .before .before .before .before .before .before .before)) buffer)
-    (c .before .before .before .before .before .before .before .before .before .before .before .before .before .before .if1 .left)
-    (c .answered .ensures) (words (start (judged (c .before .before .before .before .before .before .before .before)) .pre .0) (start (judged
-    (c .before .before .before .before .before .before .before .before)) .args .a) (judged
-    (c .before .before .before .before .before .before .before .before) .before .before .before .before .or-self .ensures) (judged
-    (c .before .before .before .before .before .before .before .before) .before .look .ensures) (sym (found (judged
-    (c .before .before .before .before .before .before .before .before))) ∙
-    (c .before .before .before .before .before .before .before .before .before .before .before .before .before .before .if1 .left)) buffer
-    (released-is _ (held (c .before .before .before .before .before .before .before .before .before .before .before .before .before) file refl)
-    (held (c .before .before .before .before .before .before .before .before .before .before .before .before .before) segment refl)
-    (c .before .before .before .before .before .before .before .before .before .before .before .before .drop-entries .ensures)
-    (c .before .before .before .before .before .before .before .before .drop-entries2 .ensures)
-    (c .before .before .before .before .record-at .ensures .0) (c .before .before .before .free-record .ensures)))
+returns-2 c =
+    let at-free-record = c .before .before .before in let at-record-at = at-free-record .before in
+    let at-drop-entries2 = at-record-at .before .before .before .before in let at-drop-entries = at-drop-entries2 .before .before .before .before in
+    let at-drop-entries-arg = at-drop-entries .before in let at-if1 = at-drop-entries-arg .before in
+    λ buffer. left-done _ (λ h r. releaseProcess h r _ (start (judged
+    at-drop-entries2) .args .a) buffer) (counted (judged at-drop-entries2) buffer) (at-if1 .if1 .left) (c .answered .ensures) (words (start
+    (judged at-drop-entries2) .pre .0) (start (judged at-drop-entries2) .args .a)
+    (judged at-drop-entries2 .before .before .before .before .or-self .ensures) (judged at-drop-entries2 .before .look .ensures) (sym (found
+    (judged at-drop-entries2)) ∙ (at-if1 .if1 .left)) buffer (released-is _ (held at-drop-entries-arg file refl)
+    (held at-drop-entries-arg segment refl) (at-drop-entries .drop-entries .ensures) (at-drop-entries2 .drop-entries2 .ensures)
+    (at-record-at .record-at .ensures .0) (at-free-record .free-record .ensures)))
 
 pub release-process-spec : {M : Type 1} → statement M
 release-process-spec =

@@ -146,13 +146,15 @@ read-requires-3 : tie.Need-read-requires-3
 read-requires-3 c κs = search needs
 
 add-serial : tie.Need-add-serial
-add-serial c = record {
-  fits = omega (
-    arith,
-    serial-rises (start (c .before .before .before .before .before) .pre .0) process (start
-        (c .before .before .before .before .before) .pre .1) (room (c .before .before .before)) (c .read3 .ensures),
-  );
-}
+add-serial c =
+    let at-or-self-arg = c .before .before .before in let at-or-refuse3 = at-or-self-arg .before .before in
+    record {
+      fits = omega (
+        arith,
+        serial-rises (start at-or-refuse3 .pre .0) process (start
+            at-or-refuse3 .pre .1) (room at-or-self-arg) (c .read3 .ensures),
+      );
+    }
 
 record-at-requires : tie.Need-record-at-requires
 record-at-requires c κs = search needs
@@ -178,19 +180,18 @@ same-length-2 c = search needs
 returns-2 : tie.Need-returns-2
 unfolding spawn
 returns-2 c =
-    let last = c .before .before .before .before in
-    let parented = wrote2 last in
+    let at-write2 = c .before .before .before .before in
+    let parented = wrote2 at-write2 in
     let four = wrote parented in
     let past = passed-by four in
     let j = past .before .before in
     let old = four .before .before .before .read3 .ensures in
     λ buffer. left-done _ (λ h r. spawn h r _ _ _ _ buffer) (counted j buffer) (past .before .if1 .left)
-    (c .answered .ensures ∙ ap (λ (x : ℕ). said 0 x 0) (result (start j .pre .0) (start j .args .a) (start j .args .b) (start j .args .bits) buffer (mine j .read .ensures)
-    (ours j .read2 .ensures) (start j .pre .1) (room past) old (c .before .seid .ensures)))
-    (words (start j .pre .0) (start j .args .a) (start j .args .b) (start j .args .bits) buffer (mine j .read .ensures) (ours j .read2 .ensures) (start j .pre .1)
-    (room past) old
-    (four .before .before .before .before .before .or-self .ensures) (four .before .before .record-at .ensures .0) (four .put-four .ensures) (parented .write .ensures)
-    (last .write2 .ensures))
+    (c .answered .ensures ∙ ap (λ (x : ℕ). said 0 x 0) (result (start j .pre .0) (start j .args .a) (start j .args .b) (start j .args .bits) buffer
+    (mine j .read .ensures) (ours j .read2 .ensures) (start j .pre .1) (room past) old (c .before .seid .ensures))) (words (start j .pre .0)
+    (start j .args .a) (start j .args .b) (start j .args .bits) buffer (mine j .read .ensures) (ours j .read2 .ensures) (start j .pre .1)
+    (room past) old (four .before .before .before .before .before .or-self .ensures) (four .before .before .record-at .ensures .0)
+    (four .put-four .ensures) (parented .write .ensures) (at-write2 .write2 .ensures))
 
 pub spawn-spec : {M : Type 1} → statement M
 spawn-spec =

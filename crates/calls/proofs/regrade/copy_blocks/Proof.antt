@@ -23,8 +23,11 @@ wide-requires-3 c κs = search needs
 
 mul-to : tie.Need-mul-to
 mul-to c =
-    let s = c .before .before .before .before in
-    record { fits = start-fits (s .args .g) (s .args .blocks) (s .pre .few-files .1) (s .pre .few-blocks) (c .wide3 .ensures) (c .before .before .wide .ensures) }
+    let at-wide = c .before .before in let at-start = at-wide .before .before in
+    record {
+      fits = start-fits (at-start .args .g) (at-start .args .blocks) (at-start .pre .few-files .1) (at-start .pre .few-blocks)
+          (c .wide3 .ensures) (at-wide .wide .ensures);
+    }
 
 wide-requires-4 : tie.Need-wide-requires-4
 wide-requires-4 c κs = search needs
@@ -34,18 +37,18 @@ mul-copy-bytes c = search needs
 
 copy-bytes-requires : tie.Need-copy-bytes-requires
 copy-bytes-requires c κs =
-    let three = c .before .before in
-    copy-ready (three .before .before .before .before .pre) (three .before .before .wide .ensures) (three .before .wide2 .ensures) (three .wide3 .ensures) (c .wide4 .ensures)
+    let at-wide3 = c .before .before in let at-wide2 = at-wide3 .before in let at-wide = at-wide2 .before in let at-start = at-wide .before .before in
+    copy-ready (at-start .pre) (at-wide .wide .ensures) (at-wide2 .wide2 .ensures) (at-wide3 .wide3 .ensures) (c .wide4 .ensures)
 
 same-length : tie.Need-same-length
 same-length c = search needs
 
 returns : tie.Need-returns
 returns c =
-    let copied = c .before .before in
-    let three = copied .before .before .before in
-    blocks-copied (three .before .before .before .before .pre) (three .before .before .wide .ensures) (three .before .wide2 .ensures) (three .wide3 .ensures)
-    (copied .before .wide4 .ensures) (copied .copy-bytes .ensures)
+    let at-copy-bytes = c .before .before in let at-wide4 = at-copy-bytes .before in let at-wide3 = at-wide4 .before .before in
+    let at-wide2 = at-wide3 .before in let at-wide = at-wide2 .before in let at-start = at-wide .before .before in
+    blocks-copied (at-start .pre) (at-wide .wide .ensures) (at-wide2 .wide2 .ensures) (at-wide3 .wide3 .ensures) (at-wide4 .wide4 .ensures)
+    (at-copy-bytes .copy-bytes .ensures)
 
 pub copy-blocks-spec : {M : Type 1} → statement M
 copy-blocks-spec =

@@ -28,12 +28,11 @@ same-length c = search needs
 
 returns : tie.Need-returns
 returns c =
-    let made = c .before .before .before in
-    let at-read = made .before .before .before in
-    let s = at-read .before .before .before in
-    let low : at-read .read .result < maxSerial = omega (arith, at-read .read .ensures, s .pre .2) in (
-      seid-made file (s .pre .1) low (c .seid .ensures) ∙ rw (at-read .read .ensures),
-      rw (made .before .before .record-at .ensures .0, at-read .read .ensures) at (made .make .ensures),
+    let at-make = c .before .before .before in let at-record-at = at-make .before .before in let at-read = at-record-at .before in
+    let at-start = at-read .before .before .before in
+    let low : at-read .read .result < maxSerial = omega (arith, at-read .read .ensures, at-start .pre .2) in (
+      seid-made file (at-start .pre .1) low (c .seid .ensures) ∙ rw (at-read .read .ensures),
+      rw (at-record-at .record-at .ensures .0, at-read .read .ensures) at (at-make .make .ensures),
     )
 
 pub make-copy-spec : {M : Type 1} → statement M

@@ -29,9 +29,10 @@ used c = record { sound = start c .pre .0; entry = entry c .entry-of .ensures; s
 told : (c : tie.After-or-refuse4) → c .or-refuse4 .result ≡ firstRefusal (regradeTests (start c .args .n) (start c .args .me) (start c .args .a) (entry c .entry-of .result)
     (found c .before .before .look .result) (start c .args .g) (start c .args .b) (start c .args .c) (length (start c .args .buffer .now)))
 told c =
+    let at-or-refuse3 = c .before .before in let at-or-refuse2 = at-or-refuse3 .before .before in let at-or-refuse = at-or-refuse2 .before in
     regrade-told (used c) (start c .args .store .now) (start c .args .b) (start c .args .c) (start c .args .buffer .now) (start c .pre .3)
-    (used-so c .to-read .ensures) (c .before .before .before .before .before .or-refuse .ensures) (c .before .before .before .before .or-refuse2 .ensures)
-    (c .before .before .or-refuse3 .ensures) (c .before .bad-use .ensures) (c .or-refuse4 .ensures)
+    (used-so c .to-read .ensures) (at-or-refuse .or-refuse .ensures) (at-or-refuse2 .or-refuse2 .ensures) (at-or-refuse3 .or-refuse3 .ensures)
+    (c .before .bad-use .ensures) (c .or-refuse4 .ensures)
 
 entry-of-requires : tie.Need-entry-of-requires
 entry-of-requires c κs = search needs
@@ -47,8 +48,9 @@ to-read-requires c κs = search needs
 
 add-at-desk : tie.Need-add-at-desk
 add-at-desk c =
-    let begun = c .before .before .before .before .before .before .before .before .before .before .before .before in
-    record { fits = desk-fits (begun .pre .0) }
+    let at-m = c .before .before .before .before .before in let at-entry-of = at-m .before .before in
+    let at-start = at-entry-of .before .before .before .before .before in
+    record { fits = desk-fits (at-start .pre .0) }
 
 or-refuse-requires : tie.Need-or-refuse-requires
 or-refuse-requires c κs = search needs
@@ -86,18 +88,19 @@ two-bytes-requires-2 c κs = search needs
 
 make-copy-requires : tie.Need-make-copy-requires
 make-copy-requires c κs =
-    let passed = c .before .before .before in
-    let after = passed .before in
-    let s = start after .args in
-    let ready = record-ready (used after) (s .store .now) (s .b) (s .c) (s .buffer .now) (start after .pre .3) (told after) (passed .if1 .left) in
-    (start after .pre .0 .known, ready .0, ready .1)
+    let at-if1 = c .before .before .before in let at-or-refuse4 = at-if1 .before in
+    let s = start at-or-refuse4 .args in
+    let ready = record-ready (used at-or-refuse4) (s .store .now) (s .b) (s .c) (s .buffer .now) (start at-or-refuse4 .pre .3) (told at-or-refuse4)
+    (at-if1 .if1 .left) in
+    (start at-or-refuse4 .pre .0 .known, ready .0, ready .1)
 
 copy-blocks-requires : tie.Need-copy-blocks-requires
 copy-blocks-requires c κs =
-    let passed = c .before .before .before .before .before .before .before in
-    let after = passed .before in
-    let s = start after .args in
-    store-ready (used after) (s .store .now) (s .b) (s .c) (s .buffer .now) (start after .pre .3) (told after) (passed .if1 .left) (start after .pre .2)
+    let at-two-bytes2 = c .before .before .before .before .before in let at-if1 = at-two-bytes2 .before .before in
+    let at-or-refuse4 = at-if1 .before in
+    let s = start at-or-refuse4 .args in
+    store-ready (used at-or-refuse4) (s .store .now) (s .b) (s .c) (s .buffer .now) (start at-or-refuse4 .pre .3) (told at-or-refuse4)
+    (at-if1 .if1 .left) (start at-or-refuse4 .pre .2)
 
 answered-requires : tie.Need-answered-requires
 answered-requires c κs = search needs
@@ -110,17 +113,17 @@ same-length-3 c = search needs
 
 returns-2 : tie.Need-returns-2
 returns-2 c =
-    let copied = c .before .before .before in
-    let made = copied .before .before .before .before in
-    let passed = made .before .before .before .before in
-    let after = passed .before in
-    let s = start after .args in
-    let slot = start after .pre .3 in
-    regrade-done _ _ _ _ _ _ _ (regrade-number (used after) (s .store .now) (s .b) (s .c) (s .buffer .now) slot (told after)) (passed .if1 .left) (c .answered .ensures)
-    (regrade-seid (used after) (s .store .now) (s .b) (s .c) (s .buffer .now) slot (told after) (passed .if1 .left) (made .make-copy .ensures .0))
-    (regrade-words (used after) (s .store .now) (s .b) (s .c) (s .buffer .now) slot (told after) (passed .if1 .left) (made .before .before .before .two-bytes .ensures)
-    (made .before .before .two-bytes2 .ensures) (made .make-copy .ensures .1))
-    (regrade-bytes (used after) (s .store .now) (s .b) (s .c) (s .buffer .now) slot (told after) (passed .if1 .left) (copied .copy-blocks .ensures))
+    let at-copy-blocks = c .before .before .before in let at-make-copy = at-copy-blocks .before .before .before .before in
+    let at-two-bytes2 = at-make-copy .before .before in let at-two-bytes = at-two-bytes2 .before in let at-if1 = at-two-bytes .before in
+    let at-or-refuse4 = at-if1 .before in
+    let s = start at-or-refuse4 .args in
+    let slot = start at-or-refuse4 .pre .3 in
+    regrade-done _ _ _ _ _ _ _ (regrade-number (used at-or-refuse4) (s .store .now) (s .b) (s .c) (s .buffer .now) slot (told at-or-refuse4))
+    (at-if1 .if1 .left) (c .answered .ensures) (regrade-seid (used at-or-refuse4) (s .store .now) (s .b) (s .c) (s .buffer .now) slot
+    (told at-or-refuse4) (at-if1 .if1 .left) (at-make-copy .make-copy .ensures .0)) (regrade-words (used at-or-refuse4) (s .store .now) (s .b)
+    (s .c) (s .buffer .now) slot (told at-or-refuse4) (at-if1 .if1 .left) (at-two-bytes .two-bytes .ensures) (at-two-bytes2 .two-bytes2 .ensures)
+    (at-make-copy .make-copy .ensures .1)) (regrade-bytes (used at-or-refuse4) (s .store .now) (s .b) (s .c) (s .buffer .now) slot
+    (told at-or-refuse4) (at-if1 .if1 .left) (at-copy-blocks .copy-blocks .ensures))
 
 pub regrade-spec : {M : Type 1} → statement M
 regrade-spec =

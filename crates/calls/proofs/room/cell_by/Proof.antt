@@ -33,21 +33,30 @@ mul-end-2 c = search needs
 
 shared-slice-read-end : tie.Need-shared-slice-read-end Inv-loop μ-loop
 shared-slice-read-end c =
-    let s = c .before .before .before .before .before in
-    omega (arith, s .pre .0 .0, s .pre .0 .1, s .pre .1, c .before .before .loop-test .taken, c .before .wide .ensures)
+    let at-in-loop = c .before .before in let at-start = at-in-loop .before .before .before in
+    omega (arith, at-start .pre .0 .0, at-start .pre .0 .1, at-start .pre .1, at-in-loop .loop-test .taken, c .before .wide .ensures)
 
 add-end-3 : tie.Need-add-end-3 Inv-loop μ-loop
 add-end-3 c =
-    let s = c .before .before .before .before .before in
-    omega (arith, sum-small (s .pre .0 .1) (c .before .before .before .loop .inv) (c .before .before .loop-test .taken) (c .before .wide .ensures) refl (s .pre .0 .2))
+    let at-in-loop = c .before .before in let at-loop = at-in-loop .before in let at-start = at-loop .before .before in
+    omega (
+      arith,
+      sum-small (at-start .pre .0 .1) (at-loop .loop .inv) (at-in-loop .loop-test .taken) (c .before .wide .ensures) refl
+          (at-start .pre .0 .2),
+    )
 
 first-requires : tie.Need-first-requires Inv-loop μ-loop
 first-requires c κs = search needs
 
 add-cell : tie.Need-add-cell Inv-loop μ-loop
 add-cell c =
-    let s = c .before .before .before .before .before .before in
-    omega (arith, cell-small (s .pre .0 .1) (c .before .before .before .before .loop .inv) (c .before .before .before .loop-test .taken) (c .before .before .wide .ensures) refl (c .first .ensures))
+    let at-wide = c .before .before in let at-in-loop = at-wide .before in let at-loop = at-in-loop .before in
+    let at-start = at-loop .before .before in
+    omega (
+      arith,
+      cell-small (at-start .pre .0 .1) (at-loop .loop .inv) (at-in-loop .loop-test .taken) (at-wide .wide .ensures) refl
+          (c .first .ensures),
+    )
 
 add-c : tie.Need-add-c Inv-loop μ-loop
 add-c c = search needs
@@ -57,8 +66,9 @@ loop-less c = search needs
 
 loop-again : tie.Need-loop-again Inv-loop μ-loop
 loop-again c =
-    let s = c .before .before .before .before .before .before in
-    further (s .pre .0 .1) (c .before .before .before .before .loop .inv) (c .before .before .before .loop-test .taken) (c .before .before .wide .ensures) refl (c .first .ensures)
+    let at-wide = c .before .before in let at-in-loop = at-wide .before in let at-loop = at-in-loop .before in
+    let at-start = at-loop .before .before in
+    further (at-start .pre .0 .1) (at-loop .loop .inv) (at-in-loop .loop-test .taken) (at-wide .wide .ensures) refl (c .first .ensures)
 
 returns : tie.Need-returns Inv-loop μ-loop
 returns c = at-end (c .before .before .before .pre .0 .1) (c .before .loop .inv) (c .loop-test .left)

@@ -36,8 +36,8 @@ word-requires c κs = search needs
 returns : tie.Need-returns Inv-loop μ-loop
 unfolding emptyAt
 returns c =
-    sought-hit (c .before .before .before .before .before .loop .inv) (omega arith)
-    (empty-told _ _ _ (c .before .before .wide2 .ensures) (c .before .word .ensures) (c .if2 .taken))
+    let at-wide2 = c .before .before in let at-loop = at-wide2 .before .before .before in
+    sought-hit (at-loop .loop .inv) (omega arith) (empty-told _ _ _ (at-wide2 .wide2 .ensures) (c .before .word .ensures) (c .if2 .taken))
 
 add-d : tie.Need-add-d Inv-loop μ-loop
 add-d c = search needs
@@ -47,8 +47,8 @@ loop-less c = search needs
 
 loop-again : tie.Need-loop-again Inv-loop μ-loop
 loop-again c =
-    sought-more (c .before .before .before .before .before .loop .inv) (omega arith)
-    (filled-told _ _ _ (c .before .before .wide2 .ensures) (c .before .word .ensures) (c .if2 .left))
+    let at-wide2 = c .before .before in let at-loop = at-wide2 .before .before .before in
+    sought-more (at-loop .loop .inv) (omega arith) (filled-told _ _ _ (at-wide2 .wide2 .ensures) (c .before .word .ensures) (c .if2 .left))
 
 returns-2 : tie.Need-returns-2 Inv-loop μ-loop
 unfolding emptyAt

@@ -25,12 +25,12 @@ in-cell-requires c κs = (c .before .before .before .pre .0, omega arith, c .bef
 
 add-from : tie.Need-add-from Inv-loop μ-loop
 add-from c =
-    let at-start = c .before .before .before .before in
+    let at-loop = c .before .before in let at-start = at-loop .before .before in
     omega (
       arith,
-      first-more (configuration (at-start .args .t .now)) (at-start .args .k) (c .before .before .loop .i),
+      first-more (configuration (at-start .args .t .now)) (at-start .args .k) (at-loop .loop .i),
       first-fits (at-start .pre .0)
-          (at-start .args .k) (c .before .before .loop .i + 1) (omega arith) (at-start .pre .3),
+          (at-start .args .k) (at-loop .loop .i + 1) (omega arith) (at-start .pre .3),
     )
 
 add-i : tie.Need-add-i Inv-loop μ-loop

@@ -24,19 +24,27 @@ wide-requires : tie.Need-wide-requires Inv-loop μ-loop
 wide-requires c κs = search needs
 
 mul-at : tie.Need-mul-at Inv-loop μ-loop
-mul-at c = omega (arith, mul-le-mul-right (c .wide .result) (c .before .before .before .before .pre .1))
+mul-at c =
+    let at-start = c .before .before .before .before in
+    omega (arith, mul-le-mul-right (c .wide .result) (at-start .pre .1))
 
 add-at : tie.Need-add-at Inv-loop μ-loop
-add-at c = omega (arith, mul-le-mul-right (c .wide .result) (c .before .before .before .before .pre .1))
+add-at c =
+    let at-start = c .before .before .before .before in
+    omega (arith, mul-le-mul-right (c .wide .result) (at-start .pre .1))
 
 add-word : tie.Need-add-word Inv-loop μ-loop
-add-word c = omega (arith, mul-le-mul-right (c .wide .result) (c .before .before .before .before .pre .1))
+add-word c =
+    let at-start = c .before .before .before .before in
+    omega (arith, mul-le-mul-right (c .wide .result) (at-start .pre .1))
 
 word-requires : tie.Need-word-requires Inv-loop μ-loop
 word-requires c κs = search needs
 
 add-word-2 : tie.Need-add-word-2 Inv-loop μ-loop
-add-word-2 c = omega (arith, mul-le-mul-right (c .before .wide .result) (c .before .before .before .before .before .pre .1))
+add-word-2 c =
+    let at-start = c .before .before .before .before .before in
+    omega (arith, mul-le-mul-right (c .before .wide .result) (at-start .pre .1))
 
 word-requires-2 : tie.Need-word-requires-2 Inv-loop μ-loop
 word-requires-2 c κs = search needs
@@ -55,13 +63,14 @@ loop-less c = search needs
 
 loop-again : tie.Need-loop-again Inv-loop μ-loop
 loop-again c =
-    let at-loop = c .before .before .before .before .before .before in (
+    let at-word2 = c .before .before in let at-word = at-word2 .before in let at-wide = at-word .before in let at-in-loop = at-wide .before in
+    let at-loop = at-in-loop .before in (
       at-loop .loop .inv .0,
       omega (arith, at-loop .loop .inv .1),
       omega arith,
       chosen-next (at-loop .loop .inv .1)
-          (c .before .before .before .before .before .loop-test .taken) (at-loop .loop .inv .3) (c .before .before .before .before .wide .ensures)
-          (c .before .before .word2 .ensures) (c .before .before .before .word .ensures) _ refl (c .before .first .ensures) (c .first2 .ensures),
+          (at-in-loop .loop-test .taken) (at-loop .loop .inv .3) (at-wide .wide .ensures)
+          (at-word2 .word2 .ensures) (at-word .word .ensures) _ refl (c .before .first .ensures) (c .first2 .ensures),
     )
 
 returns : tie.Need-returns Inv-loop μ-loop

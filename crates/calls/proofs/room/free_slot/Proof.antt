@@ -26,14 +26,15 @@ record-words-requires c κs = search needs
 
 free-at-requires : tie.Need-free-at-requires
 free-at-requires c κs =
-    let at-first-slot = c .before .before .before in let at-cell-word = at-first-slot .before in let at-start = at-cell-word .before .before in (
+    let at-in-cell = c .before .before in let at-first-slot = at-in-cell .before in let at-cell-word = at-first-slot .before in
+    let at-start = at-cell-word .before .before in (
       c .before .base .ensures .1,
       rw (c .record-words .ensures) (record-small (kindOf (at-start .args .kind))),
       omega (
         arith,
         run-small (at-start .pre
-            .0) (kindOf (at-start .args .kind)) _ (at-start .pre .1) (at-cell-word .cell-word .ensures .0) (at-first-slot .first-slot .ensures .0) (c .before
-            .before .in-cell .ensures),
+            .0) (kindOf (at-start .args .kind)) _ (at-start .pre .1) (at-cell-word .cell-word .ensures .0) (at-first-slot .first-slot .ensures .0)
+            (at-in-cell .in-cell .ensures),
       ),
     )
 
@@ -51,10 +52,11 @@ add-t11 c =
 
 returns : tie.Need-returns
 returns c =
-    let at-in-cell = c .before .before .before in let at-first-slot = at-in-cell .before in let at-cell-word = at-first-slot .before in
-    let at-start = at-cell-word .before .before in
-    slot-told (at-start .pre .0) (kindOf (at-start .args .kind)) _ (at-start .pre .1) (at-cell-word .cell-word .ensures .0) (at-first-slot .first-slot
-    .ensures .0) (at-in-cell .in-cell .ensures) (c .before .before .base .ensures .0) (c .before .record-words .ensures) (c .free-at .ensures)
+    let at-base = c .before .before in let at-in-cell = at-base .before in let at-first-slot = at-in-cell .before in
+    let at-cell-word = at-first-slot .before in let at-start = at-cell-word .before .before in
+    slot-told (at-start .pre .0) (kindOf (at-start .args .kind)) _ (at-start .pre .1) (at-cell-word .cell-word .ensures .0)
+    (at-first-slot .first-slot .ensures .0) (at-in-cell .in-cell .ensures) (at-base .base .ensures .0) (c .before .record-words .ensures)
+    (c .free-at .ensures)
 
 pub free-slot-spec : {M : Type 1} → statement M
 free-slot-spec =

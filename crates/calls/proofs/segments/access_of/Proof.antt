@@ -54,18 +54,20 @@ start c = c .before .before .before .before
 abbrev judged : tie.After-access → tie.After-or-refuse3
 judged c = c .before .before .before .before .before .before
 
-found : (c : tie.After-or-refuse3) → (c .or-refuse3 .result) ≡ firstRefusal (tests
-    (c .before .before .before .before .before .before .before .before .before .before .args .a)
-    (c .before .before .before .before .before .before .before .before .entry-of .result) (c .before .before .before .before .before .before .look .result))
-found c = rw (
-  c .or-refuse3 .ensures,
-  c .before .before .or-refuse2 .ensures,
-  c .before .before .before .before .or-refuse .ensures,
-  c .before .before .before .before .before .wide .ensures,
-) (refusing-first (tests
-    (c .before .before .before .before .before .before .before .before .before .before .args .a)
+found : (c : tie.After-or-refuse3) → (c .or-refuse3 .result) ≡ firstRefusal (tests (start
+    (c .before .before .before .before .before .before) .args .a)
     (c .before .before .before .before .before .before .before .before .entry-of .result)
-    (c .before .before .before .before .before .before .look .result)) refl)
+    (c .before .before .before .before .before .before .look .result))
+found c =
+    let at-or-refuse2 = c .before .before in let at-or-refuse = at-or-refuse2 .before .before in let at-wide = at-or-refuse .before in
+    let at-look = at-wide .before in let at-entry-of = at-look .before .before in let at-start = at-entry-of .before .before in
+    rw (
+      c .or-refuse3 .ensures,
+      at-or-refuse2 .or-refuse2 .ensures,
+      at-or-refuse .or-refuse .ensures,
+      at-wide .wide .ensures,
+    ) (refusing-first (tests
+    (at-start .args .a) (at-entry-of .entry-of .result) (at-look .look .result)) refl)
 
 counted : (c : tie.After-or-refuse3) (buffer : List ℕ) → (c .or-refuse3 .result) ≡ firstRefusal (ruleAt (start (looked c) .args .t .now)
     (λ h q. accessOf h q (start (looked c) .args .c .slot) (start (looked c) .args .a) buffer) .refusals)
@@ -75,18 +77,22 @@ limits : (c : tie.After-access) → (c .access .result) ≡ limited
     (c .before .before .before .before .before .before .before .before .before .before .before .before .before .before .entry-of .result .used)
     (c .before .before .before .before .before .before .before .before .before .before .before .before .look .result .rights)
 unfolding limited
-limits c = rw (
-  c .access .ensures,
-  c .before .may-write .ensures,
-  c .before .before .asks-write .ensures,
-  c .before .before .before .may-read .ensures,
-  c .before .before .before .before .asks-read .ensures,
-)
+limits c =
+    let at-asks-write = c .before .before in let at-may-read = at-asks-write .before in let at-asks-read = at-may-read .before in
+    rw (
+      c .access .ensures,
+      c .before .may-write .ensures,
+      at-asks-write .asks-write .ensures,
+      at-may-read .may-read .ensures,
+      at-asks-read .asks-read .ensures,
+    )
 
 answer : (c : tie.After-access) (buffer : List ℕ) → (c .access .result) ≡ ruleAt (start (looked (judged c)) .args .t .now) (λ h q. accessOf h q
     (start (looked (judged c)) .args .c .slot) (start (looked (judged c)) .args .a) buffer) .effects .first
-answer c buffer = limits c ∙ result (start (looked (judged c)) .pre .0) _ buffer (looked (judged c) .before .before .entry-of .ensures) (looked
-    (judged c) .look .ensures) (sym (found (judged c)) ∙ (c .before .before .before .before .before .if1 .left))
+answer c buffer =
+    let at-if1 = c .before .before .before .before .before in
+    limits c ∙ result (start (looked (judged c)) .pre .0) _ buffer (looked (judged c) .before .before .entry-of .ensures) (looked
+    (judged c) .look .ensures) (sym (found (judged c)) ∙ (at-if1 .if1 .left))
 
 entry-of-requires : tie.Need-entry-of-requires
 entry-of-requires c κs = search needs
@@ -132,9 +138,10 @@ answered-requires c κs = search needs
 
 returns-2 : tie.Need-returns-2
 unfolding accessOf
-returns-2 c = λ buffer. left-done _ (λ h q. accessOf h q _ _ buffer) (counted (judged (c .before)) buffer)
-    (c .before .before .before .before .before .before .if1 .left) ((c .answered .ensures) ∙ ap (λ (x : ℕ). said 0 x 0) (answer
-    (c .before) buffer)) refl
+returns-2 c =
+    let at-asks-read = c .before .before .before .before .before in let at-if1 = at-asks-read .before in
+    λ buffer. left-done _ (λ h q. accessOf h q _ _ buffer) (counted (judged (c .before)) buffer)
+    (at-if1 .if1 .left) ((c .answered .ensures) ∙ ap (λ (x : ℕ). said 0 x 0) (answer (c .before) buffer)) refl
 
 pub access-of-spec : {M : Type 1} → statement M
 access-of-spec =

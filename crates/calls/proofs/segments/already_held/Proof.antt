@@ -51,7 +51,9 @@ loop-less : tie.Need-loop-less Inv-loop μ-loop
 loop-less c = search needs
 
 loop-again : tie.Need-loop-again Inv-loop μ-loop
-loop-again c = (omega arith, more _ _ _ _ (c .before .entry-of .ensures) (c .before .before .before .before .loop .inv .1))
+loop-again c =
+    let at-loop = c .before .before .before .before in
+    (omega arith, more _ _ _ _ (c .before .entry-of .ensures) (at-loop .loop .inv .1))
 
 returns : tie.Need-returns Inv-loop μ-loop
 unfolding alreadyHeld

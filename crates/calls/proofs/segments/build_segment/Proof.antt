@@ -102,16 +102,19 @@ found c = rw (
 
 counted : (c : tie.After-or-refuse4) (buffer : List ℕ) → (c .or-refuse4 .result) ≡ firstRefusal (ruleAt (start c .args .t .now)
     (λ h q. buildSegment h q (start c .args .c .slot) (start c .args .size) (start c .args .bits) (start c .args .sharable) buffer) .refusals)
-counted c buffer = found c ∙ number (start c .pre .0) _ _ _ buffer (c .before .before .before .before .before .before .free-entry .ensures)
-    (start c .pre .1)
+counted c buffer =
+    let at-or-refuse = c .before .before .before .before .before in let at-free-entry = at-or-refuse .before in
+    found c ∙ number (start c .pre .0) _ _ _ buffer (at-free-entry .free-entry .ensures) (start c .pre .1)
 
 passed : (c : tie.Else1) → firstRefusal (tests (start (c .before) .args .size) (start (c .before) .args .bits) (start (c .before) .args .sharable)
     (c .before .before .before .before .before .before .before .free-entry .result) (start (c .before) .args .g)) ≡ 0
 passed c = sym (found (c .before)) ∙ (c .if1 .left)
 
 room : (c : tie.Else1) → (start (c .before) .args .g .none) ≡ false
-room c = clear-of (tests (start (c .before) .args .size) (start (c .before) .args .bits) (start (c .before) .args .sharable)
-    (c .before .before .before .before .before .before .before .free-entry .result) (start (c .before) .args .g)) refl (passed c) .1 .1 .1 .0
+room c =
+    let at-is-size = c .before .before .before .before .before in let at-free-entry = at-is-size .before .before in
+    clear-of (tests (start (c .before) .args .size) (start (c .before) .args .bits) (start (c .before) .args .sharable)
+    (at-free-entry .free-entry .result) (start (c .before) .args .g)) refl (passed c) .1 .1 .1 .0
 
 free-entry-requires : tie.Need-free-entry-requires
 free-entry-requires c κs = search needs
@@ -187,24 +190,24 @@ same-length-2 c = search needs
 
 returns-2 : tie.Need-returns-2
 unfolding buildSegment
-returns-2 c = λ buffer. left-done _ (λ h q. buildSegment h q _ _ _ _ buffer) (counted (passed-by (made (c .before .before .before)) .before) buffer)
-    (passed-by (made (c .before .before .before)) .if1 .left) ((c .answered .ensures) ∙ result (start (passed-by (made
-    (c .before .before .before)) .before) .pre .0) (start (passed-by (made (c .before .before .before)) .before) .args .size) (start (passed-by
-    (made (c .before .before .before)) .before) .args .bits) (start (passed-by (made (c .before .before .before)) .before) .args .sharable) buffer
-    (passed-by (made (c .before .before .before)) .before .before .before .before .before .before .before .free-entry .ensures) (start (passed-by
-    (made (c .before .before .before)) .before) .pre .1) (room (passed-by (made (c .before .before .before)))) (made
-    (c .before .before .before) .before .before .before .before .before .before .before .before .read .ensures) (made
-    (c .before .before .before) .before .before .before .seid .ensures)) (words (start (passed-by (made
-    (c .before .before .before)) .before) .pre .0) (start (passed-by (made (c .before .before .before)) .before) .args .size) (start (passed-by
-    (made (c .before .before .before)) .before) .args .bits) (start (passed-by (made (c .before .before .before)) .before) .args .sharable) buffer
-    (passed-by (made (c .before .before .before)) .before .before .before .before .before .before .before .free-entry .ensures) (start (passed-by
-    (made (c .before .before .before)) .before) .pre .1) (room (passed-by (made (c .before .before .before)))) (made
-    (c .before .before .before) .before .before .before .before .before .before .before .before .read .ensures) (made
-    (c .before .before .before) .before .before .before .seid .ensures) (made
-    (c .before .before .before) .before .before .before .before .before .before .read2 .ensures) (made
-    (c .before .before .before) .before .before .before .before .read3 .ensures) (made (c .before .before .before) .before .record-at .ensures .0)
-    (made (c .before .before .before) .make .ensures) (c .before .before .before .before .before .entry-at .ensures .0)
-    (c .before .before .before .before .owner-access .ensures) (c .before .before .before .enter .ensures))
+returns-2 c =
+    let at-enter = c .before .before .before in let at-owner-access = at-enter .before in let at-entry-at = at-owner-access .before in
+    λ buffer. left-done _ (λ h q. buildSegment h q _ _ _ _ buffer) (counted (passed-by (made at-enter) .before) buffer)
+    (passed-by (made at-enter) .if1 .left) ((c .answered .ensures) ∙ result (start (passed-by (made at-enter) .before) .pre .0) (start (passed-by
+    (made at-enter) .before) .args .size) (start (passed-by (made at-enter) .before) .args .bits) (start (passed-by
+    (made at-enter) .before) .args .sharable) buffer (passed-by
+    (made at-enter) .before .before .before .before .before .before .before .free-entry .ensures) (start (passed-by
+    (made at-enter) .before) .pre .1) (room (passed-by (made at-enter)))
+    (made at-enter .before .before .before .before .before .before .before .before .read .ensures)
+    (made at-enter .before .before .before .seid .ensures)) (words (start (passed-by (made at-enter) .before) .pre .0) (start (passed-by
+    (made at-enter) .before) .args .size) (start (passed-by (made at-enter) .before) .args .bits) (start (passed-by
+    (made at-enter) .before) .args .sharable) buffer (passed-by
+    (made at-enter) .before .before .before .before .before .before .before .free-entry .ensures) (start (passed-by
+    (made at-enter) .before) .pre .1) (room (passed-by (made at-enter)))
+    (made at-enter .before .before .before .before .before .before .before .before .read .ensures)
+    (made at-enter .before .before .before .seid .ensures) (made at-enter .before .before .before .before .before .before .read2 .ensures)
+    (made at-enter .before .before .before .before .read3 .ensures) (made at-enter .before .record-at .ensures .0) (made at-enter .make .ensures)
+    (at-entry-at .entry-at .ensures .0) (at-owner-access .owner-access .ensures) (at-enter .enter .ensures))
 
 pub build-segment-spec : {M : Type 1} → statement M
 build-segment-spec =

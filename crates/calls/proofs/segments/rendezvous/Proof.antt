@@ -101,15 +101,16 @@ judged c = c .before .before .before .before .before
 found : (c : tie.After-or-refuse5) → (c .or-refuse5 .result) ≡ firstRefusal (tests (wordsOf (start (looked (tried c)) .args .t .now)) (start (looked
     (tried c)) .args .c .slot) (looked (tried c) .before .before .before .or-self .result) (start (looked (tried c)) .args .b) (looked
     (tried c) .look .result))
-found c = chained _ _ _ _ (looked (tried c) .look .result)
-    (tried c .before .before .before .before .before .before .before .free-entry .ensures)
-    (tried c .before .before .before .before .before .read .ensures)
-    (c .before .before .before .twice .ensures) (tried c .before .before .before .asks-write .ensures)
-    (tried c .before .valid-access .ensures) (c .before .before .before .before .before .before .before .before .asks-read .ensures)
-    (c .before .before .before .before .before .before .before .asks-write2 .ensures) (c .before .before .before .before .before .before .lacks .ensures) (c .before .wide .ensures)
-    (tried c .or-refuse .ensures) (c .before .before .before .before .before .before .before .before .before .before .find .ensures)
-    (c .before .before .before .before .before .before .before .before .before .or-refuse2 .ensures) (c .before .before .before .before .before .or-refuse3 .ensures)
-    (c .before .before .or-refuse4 .ensures) (c .or-refuse5 .ensures)
+found c =
+    let at-or-refuse4 = c .before .before in let at-twice = at-or-refuse4 .before in let at-or-refuse3 = at-twice .before .before in
+    let at-lacks = at-or-refuse3 .before in let at-asks-write2 = at-lacks .before in let at-asks-read = at-asks-write2 .before in
+    let at-or-refuse2 = at-asks-read .before in let at-find = at-or-refuse2 .before in
+    chained _ _ _ _ (looked (tried c) .look .result) (tried c .before .before .before .before .before .before .before .free-entry .ensures)
+    (tried c .before .before .before .before .before .read .ensures) (at-twice .twice .ensures)
+    (tried c .before .before .before .asks-write .ensures) (tried c .before .valid-access .ensures) (at-asks-read .asks-read .ensures)
+    (at-asks-write2 .asks-write2 .ensures) (at-lacks .lacks .ensures) (c .before .wide .ensures) (tried c .or-refuse .ensures)
+    (at-find .find .ensures) (at-or-refuse2 .or-refuse2 .ensures) (at-or-refuse3 .or-refuse3 .ensures) (at-or-refuse4 .or-refuse4 .ensures)
+    (c .or-refuse5 .ensures)
 
 counted : (c : tie.After-or-refuse5) (buffer : List ℕ) → (c .or-refuse5 .result) ≡ firstRefusal (ruleAt (start (looked (tried c)) .args .t .now)
     (λ h q. rendezvous h q (start (looked (tried c)) .args .c .slot) (start (looked (tried c)) .args .a) (start (looked
@@ -158,7 +159,8 @@ or-refuse-requires-3 c κs = search needs
 
 twice-requires : tie.Need-twice-requires
 twice-requires c κs =
-    let at-or-refuse = c .before .before .before .before .before .before .before in start (looked at-or-refuse) .pre .0 .known
+    let at-or-refuse2 = c .before .before .before .before .before in let at-or-refuse = at-or-refuse2 .before .before in
+    start (looked at-or-refuse) .pre .0 .known
 
 or-refuse-requires-4 : tie.Need-or-refuse-requires-4
 or-refuse-requires-4 c κs = search needs
@@ -185,19 +187,19 @@ record-at-requires : tie.Need-record-at-requires
 record-at-requires c κs = search needs
 
 take-up-requires : tie.Need-take-up-requires
-take-up-requires c κs = (
-  c .before .before .entry-at .ensures .1,
-  c .before .record-at .ensures .1,
-  omega (
-    arith,
-    one-fits (start (looked (tried
-        (c .before .before .before .before))) .pre .0) segment (looked (tried (c .before .before .before .before)) .look .result .slot) refl (within
-        (start (looked (tried (c .before .before .before .before))) .pre .0) (start (looked (tried (c .before .before .before .before))) .args .a)
-        (start (looked (tried (c .before .before .before .before))) .args .b) [] (looked (tried
-        (c .before .before .before .before)) .before .before .before .or-self .ensures) (looked (tried (c .before .before .before .before)) .look .ensures) (sym
-        (found (c .before .before .before .before)) ∙ (c .before .before .before .if1 .left))) (c .before .record-at .ensures .0),
-  ),
-)
+take-up-requires c κs =
+    let at-entry-at = c .before .before in let at-if1 = at-entry-at .before in let at-or-refuse5 = at-if1 .before in (
+      at-entry-at .entry-at .ensures .1,
+      c .before .record-at .ensures .1,
+      omega (
+        arith,
+        one-fits (start (looked (tried
+            at-or-refuse5)) .pre .0) segment (looked (tried at-or-refuse5) .look .result .slot) refl (within (start (looked
+            (tried at-or-refuse5)) .pre .0) (start (looked (tried at-or-refuse5)) .args .a) (start (looked (tried at-or-refuse5)) .args .b) [] (looked
+            (tried at-or-refuse5) .before .before .before .or-self .ensures) (looked (tried at-or-refuse5) .look .ensures) (sym
+            (found at-or-refuse5) ∙ (at-if1 .if1 .left))) (c .before .record-at .ensures .0),
+      ),
+    )
 
 answered-requires : tie.Need-answered-requires
 answered-requires c κs = search needs
@@ -207,17 +209,18 @@ same-length-2 c = search needs
 
 returns-2 : tie.Need-returns-2
 unfolding rendezvous
-returns-2 c = λ buffer. left-done _ (λ h q. rendezvous h q _ (start (looked (tried (judged (c .before .before .before)))) .args .a) (start (looked
-    (tried (judged (c .before .before .before)))) .args .b) buffer) (counted (judged (c .before .before .before)) buffer)
-    (c .before .before .before .before .before .before .before .if1 .left) ((c .answered .ensures) ∙ ap (λ (x : ℕ). said 0 x 0) (tried (judged
-    (c .before .before .before)) .before .before .before .before .before .before .before .free-entry .ensures))
-    ((c .before .before .before .take-up .ensures) ∙ words (start (looked (tried (judged (c .before .before .before)))) .pre .0) (start (looked
-    (tried (judged (c .before .before .before)))) .args .a) (start (looked (tried (judged (c .before .before .before)))) .args .b) buffer (looked
-    (tried (judged (c .before .before .before))) .before .before .before .or-self .ensures) (looked (tried (judged
-    (c .before .before .before))) .look .ensures) (sym (found (judged (c .before .before .before))) ∙
-    (c .before .before .before .before .before .before .before .if1 .left)) (tried (judged
-    (c .before .before .before)) .before .before .before .before .before .before .before .free-entry .ensures)
-    (c .before .before .before .before .before .before .entry-at .ensures .0) (c .before .before .before .before .before .record-at .ensures .0))
+returns-2 c =
+    let at-take-up = c .before .before .before in let at-record-at = at-take-up .before .before in let at-entry-at = at-record-at .before in
+    let at-if1 = at-entry-at .before in
+    λ buffer. left-done _ (λ h q. rendezvous h q _ (start (looked (tried (judged at-take-up))) .args .a) (start (looked
+    (tried (judged at-take-up))) .args .b) buffer) (counted (judged at-take-up) buffer) (at-if1 .if1 .left) ((c .answered .ensures) ∙ ap (λ
+    (x : ℕ). said 0 x 0) (tried (judged at-take-up) .before .before .before .before .before .before .before .free-entry .ensures))
+    ((at-take-up .take-up .ensures) ∙ words (start (looked (tried (judged at-take-up))) .pre .0) (start (looked (tried
+    (judged at-take-up))) .args .a) (start (looked (tried (judged at-take-up))) .args .b) buffer (looked (tried
+    (judged at-take-up)) .before .before .before .or-self .ensures) (looked (tried (judged at-take-up)) .look .ensures) (sym (found
+    (judged at-take-up)) ∙ (at-if1 .if1 .left)) (tried
+    (judged at-take-up) .before .before .before .before .before .before .before .free-entry .ensures) (at-entry-at .entry-at .ensures .0)
+    (at-record-at .record-at .ensures .0))
 
 pub rendezvous-spec : {M : Type 1} → statement M
 rendezvous-spec =

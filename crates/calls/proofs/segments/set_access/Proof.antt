@@ -71,13 +71,14 @@ start c = c .before .before .before .before .before .before
 
 found : (c : tie.After-or-refuse6) → (c .or-refuse6 .result) ≡ firstRefusal (tests (start (looked (tried c)) .args .a) (start (looked
     (tried c)) .args .b) (looked (tried c) .before .before .before .entry-of .result) (looked (tried c) .look .result))
-found c = chained _ _ (looked (tried c) .before .before .before .entry-of .result) (looked (tried c) .look .result)
+found c =
+    let at-asks-write2 = c .before .before in let at-asks-read = at-asks-write2 .before in let at-or-refuse5 = at-asks-read .before in
+    let at-asks-write = at-or-refuse5 .before .before in let at-or-refuse4 = at-asks-write .before in
+    chained _ _ (looked (tried c) .before .before .before .entry-of .result) (looked (tried c) .look .result)
     (tried c .before .before .before .before .before .valid-access .ensures) (tried c .before .before .before .wide .ensures)
-    (c .before .before .before .before .before .before .asks-write .ensures) (c .before .before .before .asks-read .ensures)
-    (c .before .before .asks-write2 .ensures) (c .before .lacks .ensures) (tried c .before .before .before .before .or-refuse .ensures)
-    (tried c .before .before .or-refuse2 .ensures) (tried c .or-refuse3 .ensures)
-    (c .before .before .before .before .before .before .before .or-refuse4 .ensures) (c .before .before .before .before .or-refuse5 .ensures)
-    (c .or-refuse6 .ensures)
+    (at-asks-write .asks-write .ensures) (at-asks-read .asks-read .ensures) (at-asks-write2 .asks-write2 .ensures) (c .before .lacks .ensures)
+    (tried c .before .before .before .before .or-refuse .ensures) (tried c .before .before .or-refuse2 .ensures) (tried c .or-refuse3 .ensures)
+    (at-or-refuse4 .or-refuse4 .ensures) (at-or-refuse5 .or-refuse5 .ensures) (c .or-refuse6 .ensures)
 
 counted : (c : tie.After-or-refuse6) (buffer : List ℕ) → (c .or-refuse6 .result) ≡ firstRefusal (ruleAt (start (looked (tried c)) .args .t .now)
     (λ h q. setAccess h q (start (looked (tried c)) .args .c .slot) (start (looked (tried c)) .args .a) (start (looked
@@ -153,10 +154,12 @@ same-length-2 c = search needs
 
 returns-2 : tie.Need-returns-2
 unfolding setAccess
-returns-2 c = λ buffer. left-done _ (λ h q. setAccess h q _ _ _ buffer) (counted (c .before .before .before .before .before .before .before) buffer)
-    (c .before .before .before .before .before .before .if1 .left) (c .answered .ensures) ((c .before .before .before .put .ensures) ∙ stored (start
-    (looked (tried (c .before .before .before .before .before .before .before))) .pre .0 .known) _ _ _
-    (c .before .before .before .before .entry-at .ensures .0))
+returns-2 c =
+    let at-put = c .before .before .before in let at-entry-at = at-put .before in let at-if1 = at-entry-at .before .before in
+    let at-or-refuse6 = at-if1 .before in
+    λ buffer. left-done _ (λ h q. setAccess h q _ _ _ buffer) (counted at-or-refuse6 buffer)
+    (at-if1 .if1 .left) (c .answered .ensures) ((at-put .put .ensures) ∙ stored (start (looked (tried at-or-refuse6)) .pre .0 .known) _ _ _
+    (at-entry-at .entry-at .ensures .0))
 
 pub set-access-spec : {M : Type 1} → statement M
 set-access-spec =

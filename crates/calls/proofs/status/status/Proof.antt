@@ -18,8 +18,8 @@ same-length c = search needs
 
 returns : tie.Need-returns
 returns c =
-    let at-kind-by = c .before .before .before .before in
-    of-kind _ _ _ _ (at-kind-by .before .or-self .ensures) (at-kind-by .kind-by .ensures) (c .before .before .status-of .ensures)
+    let at-status-of = c .before .before in let at-kind-by = at-status-of .before .before in let at-or-self = at-kind-by .before in
+    of-kind _ _ _ _ (at-or-self .or-self .ensures) (at-kind-by .kind-by .ensures) (at-status-of .status-of .ensures)
 
 pub status-spec : {M : Type 1} → statement M
 status-spec = tie.close (tie.spec or-self-requires kind-by-requires status-of-requires same-length returns)

@@ -45,17 +45,20 @@ bits-word-requires c κs = search needs
 
 read-requires-3 : tie.Need-read-requires-3
 read-requires-3 c κs =
-    let after = c .before .before .before .before in
-    (start after .pre .0 .known, bits-small (kindOf (start after .args .kind)) (c .bits-word .ensures))
+    let at-find = c .before .before .before .before in
+    (start at-find .pre .0 .known, bits-small (kindOf (start at-find .args .kind)) (c .bits-word .ensures))
 
 class-requires : tie.Need-class-requires
 class-requires c κs = search needs
 
 tell-requires : tie.Need-tell-requires
 tell-requires c κs =
-    let past = c .before .before .before .before .before .before in
-    let after = past .before in
-    (start after .pre .0 .known .conf, class-small (kindOf (start after .args .kind)) (c .before .class .ensures), in-cells (judged after) (past .if1 .left))
+    let at-read = c .before .before .before .before .before in let at-if1 = at-read .before in let at-find = at-if1 .before in (
+      start at-find .pre .0 .known .conf,
+      class-small (kindOf (start at-find .args .kind)) (c .before .class .ensures),
+      in-cells (judged at-find)
+          (at-if1 .if1 .left),
+    )
 
 answered-requires : tie.Need-answered-requires
 answered-requires c κs = search needs
@@ -65,12 +68,11 @@ same-length c = search needs
 
 returns-2 : tie.Need-returns-2
 returns-2 c =
-    let told = c .before .before .before in
-    let bits = told .before .before .before in
-    let group = bits .before .before in
-    let past = group .before .before in
-    status-done (judged (past .before)) (past .if1 .left) (told .before .before .class .ensures) (group .before .read .ensures) (group .read2 .ensures)
-    (bits .read3 .ensures ∙ rw (bits .before .bits-word .ensures)) (told .tell .ensures) (c .answered .ensures)
+    let at-tell = c .before .before .before in let at-class = at-tell .before .before in let at-read3 = at-class .before in
+    let at-bits-word = at-read3 .before in let at-read2 = at-bits-word .before in let at-read = at-read2 .before in let at-if1 = at-read .before in
+    let at-find = at-if1 .before in
+    status-done (judged at-find) (at-if1 .if1 .left) (at-class .class .ensures) (at-read .read .ensures) (at-read2 .read2 .ensures)
+    (at-read3 .read3 .ensures ∙ rw (at-bits-word .bits-word .ensures)) (at-tell .tell .ensures) (c .answered .ensures)
 
 pub status-of-spec : {M : Type 1} → statement M
 status-of-spec =

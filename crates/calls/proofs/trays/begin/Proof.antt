@@ -22,8 +22,8 @@ same-length c = search needs
 
 returns-2 : tie.Need-returns-2
 returns-2 c =
-    let at-judge = c .before in let at-else = at-judge .before .before .before in
-    (at-judge .judge .ensures .1 ∙ begun-short _ _ _ (sym (at-else .before .too-long .ensures) ∙ at-else .if1 .left), refl)
+    let at-if1 = c .before .before .before .before in let at-too-long = at-if1 .before in
+    (c .before .judge .ensures .1 ∙ begun-short _ _ _ (sym (at-too-long .too-long .ensures) ∙ at-if1 .if1 .left), refl)
 
 pub begin-spec : {M : Type 1} → statement M
 begin-spec = tie.close (tie.spec too-long-requires returns slice-aggregate-judge judge-requires same-length returns-2)

@@ -25,7 +25,9 @@ part-call-judged-end : tie.Need-part-call-judged-end
 part-call-judged-end c = search needs
 
 call-judged-requires : tie.Need-call-judged-requires
-call-judged-requires c κs = let at-wide = c .before .before .before .before .before in at-wide .before .before .before .before .pre
+call-judged-requires c κs =
+    let at-wide = c .before .before .before .before .before in let at-start = at-wide .before .before .before .before in
+    at-start .pre
 
 answered-requires : tie.Need-answered-requires
 answered-requires c κs = search needs
@@ -41,21 +43,20 @@ same-length-3 c = search needs
 
 returns : tie.Need-returns
 returns c =
-    let at-call = c .before .before .before .before .before .before .before in
-    let at-then = at-call .before .before .before .before in let at-wide2 = at-then .before in let at-wide = at-wide2 .before in
+    let at-store = c .before .before .before .before in let at-call-judged = at-store .before .before .before in
+    let at-if1 = at-call-judged .before .before .before .before in let at-wide2 = at-if1 .before in let at-wide = at-wide2 .before in
     let at-start = at-wide .before .before .before .before in
     ran-inside (at-start .args .t .now) (at-start .args .store .now) (at-start .args .bytes .now) (at-start .pre) (at-start .args .r) _ _
-    (at-wide .wide .ensures) (at-wide2 .wide2 .ensures) (at-then .if1 .taken) _ refl (at-call .call-judged .ensures)
-    (at-call .call-judged .kept .1 .1 .1 .1 .1 .1 .1 .1 .1 .0) (c .answered .ensures)
+    (at-wide .wide .ensures) (at-wide2 .wide2 .ensures) (at-if1 .if1 .taken) _ refl (at-call-judged .call-judged .ensures)
+    (at-call-judged .call-judged .kept .1 .1 .1 .1 .1 .1 .1 .1 .1 .0) (c .answered .ensures)
 
 header-of-requires : tie.Need-header-of-requires
 header-of-requires c κs = search needs
 
 outside-requires : tie.Need-outside-requires
 outside-requires c κs =
-    let at-header-of = c .before in let at-wide = at-header-of .before .before .before .before in
-    let at-start = at-wide .before .before .before .before in
-    known (ready-judged (at-start .pre) (at-header-of .header-of .ensures))
+    let at-wide = c .before .before .before .before .before in let at-start = at-wide .before .before .before .before in
+    known (ready-judged (at-start .pre) (c .before .header-of .ensures))
 
 answered-requires-2 : tie.Need-answered-requires-2
 answered-requires-2 c κs = search needs
@@ -65,10 +66,10 @@ same-length-4 c = search needs
 
 returns-2 : tie.Need-returns-2
 returns-2 c =
-    let at-outside = c .before in let at-else = at-outside .before .before .before .before in let at-wide2 = at-else .before in
-    let at-wide = at-wide2 .before in let at-start = at-wide .before .before .before .before in
+    let at-if1 = c .before .before .before .before .before in let at-wide2 = at-if1 .before in let at-wide = at-wide2 .before in
+    let at-start = at-wide .before .before .before .before in
     ran-outside (at-start .args .t .now) (at-start .args .store .now) (at-start .args .bytes .now) (at-start .pre) (at-start .args .r) _ _
-    (at-wide .wide .ensures) (at-wide2 .wide2 .ensures) (at-else .if1 .left) (at-outside .outside .ensures) (c .answered2 .ensures)
+    (at-wide .wide .ensures) (at-wide2 .wide2 .ensures) (at-if1 .if1 .left) (c .before .outside .ensures) (c .answered2 .ensures)
 
 pub run-spec : {M : Type 1} → statement M
 run-spec =

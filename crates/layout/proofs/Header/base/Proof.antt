@@ -42,32 +42,26 @@ enum-told-3 c = search needs
 
 returns : tie.Need-returns
 returns c =
-    let at-wide = c .before .before .before .before in
-    let at-wide2 = c .before .before .before in
-    let at-wide3 = c .before .before in
+    let at-wide3 = c .before .before in let at-wide2 = at-wide3 .before in let at-wide = at-wide2 .before in let at-start = at-wide .before in
     rw (c .enum-told .given .1) (
       omega (arith, at-wide .wide .ensures, at-wide2 .wide2 .ensures, at-wide3 .wide3 .ensures),
-      omega (arith, at-wide .wide .ensures, at-wide2 .wide2 .ensures, at-wide3 .wide3 .ensures, c .before .before .before .before .before .good),
+      omega (arith, at-wide .wide .ensures, at-wide2 .wide2 .ensures, at-wide3 .wide3 .ensures, at-start .good),
     )
 
 returns-2 : tie.Need-returns-2
 returns-2 c =
-    let at-wide = c .before .before .before .before in
-    let at-wide2 = c .before .before .before in
-    let at-wide3 = c .before .before in
+    let at-wide3 = c .before .before in let at-wide2 = at-wide3 .before in let at-wide = at-wide2 .before in let at-start = at-wide .before in
     rw (c .enum-told2 .given .1) (
       omega (arith, at-wide .wide .ensures, at-wide2 .wide2 .ensures, at-wide3 .wide3 .ensures),
-      omega (arith, at-wide .wide .ensures, at-wide2 .wide2 .ensures, at-wide3 .wide3 .ensures, c .before .before .before .before .before .good),
+      omega (arith, at-wide .wide .ensures, at-wide2 .wide2 .ensures, at-wide3 .wide3 .ensures, at-start .good),
     )
 
 returns-3 : tie.Need-returns-3
 returns-3 c =
-    let at-wide = c .before .before .before .before in
-    let at-wide2 = c .before .before .before in
-    let at-wide3 = c .before .before in
+    let at-wide3 = c .before .before in let at-wide2 = at-wide3 .before in let at-wide = at-wide2 .before in let at-start = at-wide .before in
     rw (c .enum-told3 .given .1) (
       omega (arith, at-wide .wide .ensures, at-wide2 .wide2 .ensures, at-wide3 .wide3 .ensures),
-      omega (arith, at-wide .wide .ensures, at-wide2 .wide2 .ensures, at-wide3 .wide3 .ensures, c .before .before .before .before .before .good),
+      omega (arith, at-wide .wide .ensures, at-wide2 .wide2 .ensures, at-wide3 .wide3 .ensures, at-start .good),
     )
 
 pub base-spec : {M : Type 1} → statement M

@@ -48,18 +48,18 @@ returns c = rw (c .enum-told .given .1) (omega (arith, c .before .before .record
 
 returns-2 : tie.Need-returns-2
 returns-2 c =
-    let at-record-at = c .before .before .before in
+    let at-record-at = c .before .before .before in let at-start = at-record-at .before in
     rw (c .before .enum-told2 .given .1) (
       omega (arith, at-record-at .record-at .ensures .0, c .wide .ensures),
-      omega (arith, at-record-at .record-at .ensures .1, c .wide .ensures, c .before .before .before .before .fits .d),
+      omega (arith, at-record-at .record-at .ensures .1, c .wide .ensures, at-start .fits .d),
     )
 
 returns-3 : tie.Need-returns-3
 returns-3 c =
-    let at-record-at = c .before .before .before in
+    let at-record-at = c .before .before .before in let at-start = at-record-at .before in
     rw (c .before .enum-told3 .given .1) (
       omega (arith, at-record-at .record-at .ensures .0, c .wide2 .ensures),
-      omega (arith, at-record-at .record-at .ensures .1, c .wide2 .ensures, c .before .before .before .before .fits .d),
+      omega (arith, at-record-at .record-at .ensures .1, c .wide2 .ensures, at-start .fits .d),
     )
 
 pub entry-at-spec : {M : Type 1} → statement M

@@ -45,21 +45,21 @@ add-result-3 c = search needs
 
 returns : tie.Need-returns
 returns c =
-    let at-base = c .before .before .before in
+    let at-base = c .before .before .before in let at-start = at-base .before in
     let e = c .before .enum-told .given .1 in let b = rw e at (at-base .base .ensures .0) in
-    rw e (omega (arith, b, c .wide .ensures), omega (arith, at-base .base .ensures .1, c .wide .ensures, c .before .before .before .before .fits .i))
+    rw e (omega (arith, b, c .wide .ensures), omega (arith, at-base .base .ensures .1, c .wide .ensures, at-start .fits .i))
 
 returns-2 : tie.Need-returns-2
 returns-2 c =
-    let at-base = c .before .before .before in
+    let at-base = c .before .before .before in let at-start = at-base .before in
     let e = c .before .enum-told2 .given .1 in let b = rw e at (at-base .base .ensures .0) in
-    rw e (omega (arith, b, c .wide2 .ensures), omega (arith, at-base .base .ensures .1, c .wide2 .ensures, c .before .before .before .before .fits .i))
+    rw e (omega (arith, b, c .wide2 .ensures), omega (arith, at-base .base .ensures .1, c .wide2 .ensures, at-start .fits .i))
 
 returns-3 : tie.Need-returns-3
 returns-3 c =
-    let at-base = c .before .before .before in
+    let at-base = c .before .before .before in let at-start = at-base .before in
     let e = c .before .enum-told3 .given .1 in let b = rw e at (at-base .base .ensures .0) in
-    rw e (omega (arith, b, c .wide3 .ensures), omega (arith, at-base .base .ensures .1, c .wide3 .ensures, c .before .before .before .before .fits .i))
+    rw e (omega (arith, b, c .wide3 .ensures), omega (arith, at-base .base .ensures .1, c .wide3 .ensures, at-start .fits .i))
 
 pub record-at-spec : {M : Type 1} → statement M
 record-at-spec =

@@ -35,21 +35,21 @@ same-length c = search needs
 
 returns : tie.Need-returns
 returns c =
-    let at-wide = c .before .before .before .before .before .before .before in
-    let at-enum-told = c .before .before .before .before in
-    (rw (at-enum-told .enum-told .given .1), rw (at-enum-told .enum-told .given .1, c .before .before .put .ensures, at-wide .wide .ensures))
+    let at-put = c .before .before in let at-enum-told = at-put .before .before in let at-wide = at-enum-told .before .before .before in
+    (rw (at-enum-told .enum-told .given .1), rw (at-enum-told .enum-told .given .1, at-put .put .ensures, at-wide .wide .ensures))
 
 same-length-2 : tie.Need-same-length-2
 same-length-2 c = search needs
 
 returns-2 : tie.Need-returns-2
 returns-2 c =
-    let at-wide = c .before .before .before .before .before .before .before in
-    let at-enum-told2 = c .before .before .before .before in
-    (rw (at-enum-told2 .enum-told2 .given .1), rw (at-enum-told2 .enum-told2 .given .1, c .before .before .put2 .ensures, at-wide .wide .ensures))
+    let at-put2 = c .before .before in let at-enum-told2 = at-put2 .before .before in let at-wide = at-enum-told2 .before .before .before in
+    (rw (at-enum-told2 .enum-told2 .given .1), rw (at-enum-told2 .enum-told2 .given .1, at-put2 .put2 .ensures, at-wide .wide .ensures))
 
 returns-3 : tie.Need-returns-3
-returns-3 c = (rw (c .before .enum-told3 .given .1, c .set-num .ensures, c .before .before .before .before .wide .ensures), rw (c .before .enum-told3 .given .1))
+returns-3 c =
+    let at-wide = c .before .before .before .before in
+    (rw (c .before .enum-told3 .given .1, c .set-num .ensures, at-wide .wide .ensures), rw (c .before .enum-told3 .given .1))
 
 returns-4 : tie.Need-returns-4
 returns-4 c = (rw (c .enum-told4 .given .1), rw (c .enum-told4 .given .1))

@@ -29,8 +29,8 @@ same-length-2 c = search needs
 returns-2 : tie.Need-returns-2
 unfolding numbered
 returns-2 c =
-    let at-keep = c .before .before .before .before .before .before in
-    (rw (c .ended .ensures, at-keep .keep .ensures .0, at-keep .keep .ensures .1, le-ltb _ _ (c .before .before .if1 .left)), at-keep .keep .ensures .1)
+    let at-if1 = c .before .before in let at-keep = at-if1 .before .before .before .before in
+    (rw (c .ended .ensures, at-keep .keep .ensures .0, at-keep .keep .ensures .1, le-ltb _ _ (at-if1 .if1 .left)), at-keep .keep .ensures .1)
 
 pub numbered-spec : {M : Type 1} → statement M
 numbered-spec =

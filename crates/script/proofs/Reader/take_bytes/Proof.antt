@@ -33,12 +33,11 @@ same-length c = search needs
 
 returns : tie.Need-returns
 returns c =
-    let s = c .before .before .before .before .before .before .before .before .before .before .before in
-    let at-wide = c .before .before .before .before .before .before .before .before in
-    let at-bytes-left = c .before .before .before .before .before .before .before in
-    let at-if1 = c .before .before .before .before .before .before in
-    λ t. rw (c .further .ensures) (code-more-bytes _ t _ _ _ _ (s .pre .0) (s .pre .1) (at-bytes-left .bytes-left .ensures) _ (at-wide .wide .ensures) _
-    (at-if1 .if1 .taken) (c .before .before .before .put-bytes .ensures))
+    let at-put-bytes = c .before .before .before in let at-if1 = at-put-bytes .before .before .before in let at-bytes-left = at-if1 .before in
+    let at-wide = at-bytes-left .before in let at-start = at-wide .before .before .before in
+    λ t. rw (c .further .ensures) (code-more-bytes _ t _ _ _ _ (at-start .pre .0) (at-start .pre .1) (at-bytes-left .bytes-left .ensures) _
+    (at-wide .wide .ensures) _
+    (at-if1 .if1 .taken) (at-put-bytes .put-bytes .ensures))
 
 add-put-bytes : tie.Need-add-put-bytes
 add-put-bytes c = search needs
@@ -66,12 +65,11 @@ same-length-2 c = search needs
 
 returns-2 : tie.Need-returns-2
 returns-2 c =
-    let s = c .before .before .before .before .before .before .before .before .before .before .before .before in
-    let at-wide = c .before .before .before .before .before .before .before .before .before in
-    let at-bytes-left = c .before .before .before .before .before .before .before .before in
-    let at-if1 = c .before .before .before .before .before .before .before in
-    λ t. rw (c .awaiting .ensures) (code-all-bytes _ t _ _ _ _ (s .pre .0) (s .pre .1) (at-bytes-left .bytes-left .ensures) _ (at-wide .wide .ensures) _
-    (at-if1 .if1 .left) (c .before .before .before .before .put-bytes2 .ensures))
+    let at-put-bytes2 = c .before .before .before .before in let at-if1 = at-put-bytes2 .before .before .before in
+    let at-bytes-left = at-if1 .before in let at-wide = at-bytes-left .before in let at-start = at-wide .before .before .before in
+    λ t. rw (c .awaiting .ensures) (code-all-bytes _ t _ _ _ _ (at-start .pre .0) (at-start .pre .1) (at-bytes-left .bytes-left .ensures) _
+    (at-wide .wide .ensures) _
+    (at-if1 .if1 .left) (at-put-bytes2 .put-bytes2 .ensures))
 
 pub take-bytes-spec : {M : Type 1} → statement M
 take-bytes-spec =

@@ -29,8 +29,7 @@ same-length c = search needs
 returns-2 : tie.Need-returns-2
 unfolding fedTook fedTable
 returns-2 c =
-    let at-fed2 = c .before .before .before .before .before in
-    let at-numbered = c .before .before in
+    let at-numbered = c .before .before in let at-fed2 = at-numbered .before .before .before in
     (rw (at-fed2 .fed2 .given .1) (at-numbered .numbered .ensures .0), rw (at-fed2 .fed2 .given .1) (at-numbered .numbered .ensures .1))
 
 returns-3 : tie.Need-returns-3

@@ -18,10 +18,9 @@ same-length c = search needs
 
 returns : tie.Need-returns
 returns c =
-    let s = c .before .before .before .before .before .before .before .before .before .before in
-    let at-feed-all = c .before .before .before .before .before .before in
-    let at-take-fed = c .before .before .before in
-    λ l. code-number _ _ l _ _ _ _ _ _ (s .pre .0) (s .pre .1) (at-feed-all .feed-all .ensures) (c .before .before .before .before .before .with-part .ensures)
+    let at-take-fed = c .before .before .before in let at-with-part = at-take-fed .before .before in let at-feed-all = at-with-part .before in
+    let at-start = at-feed-all .before .before .before .before in
+    λ l. code-number _ _ l _ _ _ _ _ _ (at-start .pre .0) (at-start .pre .1) (at-feed-all .feed-all .ensures) (at-with-part .with-part .ensures)
     (at-take-fed .take-fed .ensures .0) (at-take-fed .take-fed .ensures .1)
 
 pub take-number-spec : {M : Type 1} → statement M

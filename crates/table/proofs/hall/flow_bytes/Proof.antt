@@ -54,10 +54,10 @@ loop2-less c = search needs
 
 loop2-again : tie.Need-loop2-again Inv-loop2 μ-loop2 Inv-loop μ-loop
 loop2-again c =
-    let l = c .before .before .before in
-    let in-matrix = l .before .loop-test .taken in
-    let in-row = c .before .before .loop2-test .taken in
-    (search needs, entries-more _ _ _ _ _ in-matrix in-row (l .loop2 .inv .1) (c .flag .ensures))
+    let at-in-loop2 = c .before .before in let at-loop2 = at-in-loop2 .before in let at-in-loop = at-loop2 .before in
+    let in-matrix = at-in-loop .loop-test .taken in
+    let in-row = at-in-loop2 .loop2-test .taken in
+    (search needs, entries-more _ _ _ _ _ in-matrix in-row (at-loop2 .loop2 .inv .1) (c .flag .ensures))
 
 add-c : tie.Need-add-c Inv-loop2 μ-loop2 Inv-loop μ-loop
 add-c c = search needs

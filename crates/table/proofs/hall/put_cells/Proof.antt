@@ -13,7 +13,9 @@ same-length : tie.Need-same-length
 same-length c = search needs
 
 returns : tie.Need-returns
-returns c = rw (c .before .before .put-bytes .ensures, c .before .before .before .before .cells-at .ensures)
+returns c =
+    let at-put-bytes = c .before .before in let at-cells-at = at-put-bytes .before .before in
+    rw (at-put-bytes .put-bytes .ensures, at-cells-at .cells-at .ensures)
 
 pub put-cells-spec : {M : Type 1} → statement M
 put-cells-spec = tie.close (tie.spec cells-at-requires put-bytes-requires same-length returns)

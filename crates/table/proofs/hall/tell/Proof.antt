@@ -28,17 +28,15 @@ same-length c = search needs
 returns : tie.Need-returns
 unfolding stored
 returns c =
-    let flows-put = c .before .before in
-    let flows-made = flows-put .before .before .before in
-    let files-put = flows-made .before .before .before in
-    let segments-put = files-put .before .before .before .before in
-    let processes-put = segments-put .before .before .before .before in
+    let at-put-bytes = c .before .before in let at-flow-bytes = at-put-bytes .before .before .before in
+    let at-put-cells3 = at-flow-bytes .before .before .before in let at-put-cells2 = at-put-cells3 .before .before .before .before in
+    let at-put-cells = at-put-cells2 .before .before .before .before in
     rw (
-      flows-put .put-bytes .ensures,
-      flows-made .flow-bytes .ensures,
-      files-put .put-cells3 .ensures,
-      segments-put .put-cells2 .ensures,
-      processes-put .put-cells .ensures,
+      at-put-bytes .put-bytes .ensures,
+      at-flow-bytes .flow-bytes .ensures,
+      at-put-cells3 .put-cells3 .ensures,
+      at-put-cells2 .put-cells2 .ensures,
+      at-put-cells .put-cells .ensures,
     )
 
 pub tell-spec : {M : Type 1} → statement M

@@ -46,76 +46,80 @@ mul-held c =
 
 shared-slice-read-held : tie.Need-shared-slice-read-held
 shared-slice-read-held c =
-    let s = c .before .before .before .before in
-    omega (arith, c .before .before .record-at .ensures .within, c .before .before .record-at .ensures .whole, s .pre .0 .0 .framed .exact)
+    let at-record-at = c .before .before in let at-start = at-record-at .before .before in
+    omega (arith, at-record-at .record-at .ensures .within, at-record-at .record-at .ensures .whole, at-start .pre .0 .0 .framed .exact)
 
 mul-held-2 : tie.Need-mul-held-2
-mul-held-2 c = omega (arith, cell-low (c .before .before .before .before))
+mul-held-2 c =
+    let at-start = c .before .before .before .before in
+    omega (arith, cell-low at-start)
 
 index-1-held : tie.Need-index-1-held
-index-1-held c = omega (arith, cell-low (c .before .before .before .before))
+index-1-held c =
+    let at-start = c .before .before .before .before in
+    omega (arith, cell-low at-start)
 
 index-2-held : tie.Need-index-2-held
 index-2-held c = search needs
 
 add-current : tie.Need-add-current
 add-current c =
-    let s = c .before .before .before .before .before in
+    let at-record-at = c .before .before .before in let at-start = at-record-at .before .before in
     omega (
       arith,
-      c .before .before .before .record-at .ensures .within,
-      c .before .before .before .record-at .ensures .whole,
-      s .pre .0 .0 .framed .small .few-files,
+      at-record-at .record-at .ensures .within,
+      at-record-at .record-at .ensures .whole,
+      at-start .pre .0 .0 .framed .small .few-files,
     )
 
 mul-current : tie.Need-mul-current
 mul-current c =
-    let s = c .before .before .before .before .before in
+    let at-record-at = c .before .before .before in let at-start = at-record-at .before .before in
     omega (
       arith,
-      c .before .before .before .record-at .ensures .within,
-      c .before .before .before .record-at .ensures .whole,
-      s .pre .0 .0 .framed .small .few-files,
+      at-record-at .record-at .ensures .within,
+      at-record-at .record-at .ensures .whole,
+      at-start .pre .0 .0 .framed .small .few-files,
     )
 
 shared-slice-read-current : tie.Need-shared-slice-read-current
 shared-slice-read-current c =
-    let s = c .before .before .before .before .before .before in
+    let at-record-at = c .before .before .before .before in let at-start = at-record-at .before .before in
     omega (
       arith,
-      c .before .before .before .before .record-at .ensures .within,
-      c .before .before .before .before .record-at .ensures .whole,
-      s .pre .0 .0 .framed .exact,
+      at-record-at .record-at .ensures .within,
+      at-record-at .record-at .ensures .whole,
+      at-start .pre .0 .0 .framed .exact,
     )
 
 add-current-2 : tie.Need-add-current-2
 add-current-2 c =
-    let s = c .before .before .before .before .before .before in
+    let at-record-at = c .before .before .before .before in let at-start = at-record-at .before .before in
     omega (
       arith,
-      c .before .before .before .before .record-at .ensures .within,
-      c .before .before .before .before .record-at .ensures .whole,
-      s .pre .0 .0 .framed .small .few-files,
+      at-record-at .record-at .ensures .within,
+      at-record-at .record-at .ensures .whole,
+      at-start .pre .0 .0 .framed .small .few-files,
     )
 
 mul-current-2 : tie.Need-mul-current-2
 mul-current-2 c =
-    let s = c .before .before .before .before .before .before in
+    let at-record-at = c .before .before .before .before in let at-start = at-record-at .before .before in
     omega (
       arith,
-      c .before .before .before .before .record-at .ensures .within,
-      c .before .before .before .before .record-at .ensures .whole,
-      s .pre .0 .0 .framed .small .few-files,
+      at-record-at .record-at .ensures .within,
+      at-record-at .record-at .ensures .whole,
+      at-start .pre .0 .0 .framed .small .few-files,
     )
 
 shared-slice-read-current-2 : tie.Need-shared-slice-read-current-2
 shared-slice-read-current-2 c =
-    let s = c .before .before .before .before .before .before .before in
+    let at-record-at = c .before .before .before .before .before in let at-start = at-record-at .before .before in
     omega (
       arith,
-      c .before .before .before .before .before .record-at .ensures .within,
-      c .before .before .before .before .before .record-at .ensures .whole,
-      s .pre .0 .0 .framed .exact,
+      at-record-at .record-at .ensures .within,
+      at-record-at .record-at .ensures .whole,
+      at-start .pre .0 .0 .framed .exact,
     )
 
 valid-use-requires : tie.Need-valid-use-requires
@@ -126,23 +130,22 @@ write-use-requires c κs = search needs
 
 returns : tie.Need-returns
 returns c =
-    let s = c .before .before .before .before .before .before .before .before .before in
-    let t = s .args .t .now in
-    let n = s .args .n in
-    let k = kindOf (s .args .kind) in
+    let at-held = c .before .before .before .before in let at-serial-of = at-held .before .before in let at-record-at = at-serial-of .before in
+    let at-start = at-record-at .before .before in
+    let t = at-start .args .t .now in
+    let n = at-start .args .n in
+    let k = kindOf (at-start .args .kind) in
     let h = configuration t in
-    let i = s .args .i in
-    let word : (j : ℕ) → getD t (c .before .before .before .before .before .before .before .record-at .result + j) 0 ≡ rd h t (at k i j) =
-    λ j. record-word t n (s .pre .0 .0) k i j _ (c .before .before .before .before .before .before .before .record-at .ensures) in
-    let own = ap (λ (x : ℕ). eqb x (s .args .mine)) (s .pre .1 .2) in
-    ap₂ _&&_
-    (ap₂ _&&_ (ap (ltb 0) (c .before .before .before .before .before .before .serial-of .ensures))
-    (ap₂ _&&_ (ap₂ leb (c .before .before .before .before .before .before .serial-of .ensures) (word serial))
-    (flow-at h (s .args .flow .now) (s .pre .0 .1) (s .args .cell) (s .args .mine) [] (cell-low s) (s .pre .0 .2) ∙ ap (λ (x : ℕ). flows h x (s .args .mine)) (s .pre .1 .2))))
-    (ap₂ _&&_ (ap₂ _||_ (ap not own) (ap₂ _&&_ (ap (λ (x : ℕ). eqb x 1) (word live))
-    (ap₂ eqb (word serial) (c .before .before .before .before .before .before .serial-of .ensures))))
-    (ap₂ _&&_ (c .before .valid-use .ensures) (ap₂ _||_ (ap not (c .write-use .ensures)) own)))
-    ∙ entry-in h (rd h t) k (s .args .mine) (s .args .s) (s .args .u) i (s .pre .1 .0) (s .pre .1 .1) (s .pre .0 .3)
+    let i = at-start .args .i in
+    let word : (j : ℕ) → getD t (at-record-at .record-at .result + j) 0 ≡ rd h t (at k i j) =
+    λ j. record-word t n (at-start .pre .0 .0) k i j _ (at-record-at .record-at .ensures) in
+    let own = ap (λ (x : ℕ). eqb x (at-start .args .mine)) (at-start .pre .1 .2) in
+    ap₂ _&&_ (ap₂ _&&_ (ap (ltb 0) (at-serial-of .serial-of .ensures)) (ap₂ _&&_ (ap₂ leb (at-serial-of .serial-of .ensures) (word serial))
+    (flow-at h (at-start .args .flow .now) (at-start .pre .0 .1) (at-start .args .cell) (at-start .args .mine) [] (cell-low at-start)
+    (at-start .pre .0 .2) ∙ ap (λ (x : ℕ). flows h x (at-start .args .mine)) (at-start .pre .1 .2)))) (ap₂ _&&_ (ap₂ _||_ (ap not own) (ap₂ _&&_ (ap
+    (λ (x : ℕ). eqb x 1) (word live)) (ap₂ eqb (word serial) (at-serial-of .serial-of .ensures)))) (ap₂ _&&_ (c .before .valid-use .ensures)
+    (ap₂ _||_ (ap not (c .write-use .ensures)) own))) ∙ entry-in h (rd h t) k (at-start .args .mine) (at-start .args .s) (at-start .args .u) i
+    (at-start .pre .1 .0) (at-start .pre .1 .1) (at-start .pre .0 .3)
 
 pub entry-ok-spec : {M : Type 1} → statement M
 entry-ok-spec =

@@ -17,13 +17,21 @@ use Rattle.table.proofs.held.held_ok.Tie as tie
 -- the cell of the slot is a cell
 cell-low : (c : tie.After-index) → c .index .result < maxCells
 cell-low c =
-    let s = c .before .before .before .before .before .before .before in
-    let t = s .args .t .now in
-    let k = kindOf (s .args .kind) in
-    let i = c .before .before .before .before .before .index-in .result in
-    let lt : i < slotsOf (s .args .n) k = omega (arith, c .before .before .before .before .slots .ensures, c .before .before .before .if1 .left) in
-    let e = slots-read t (s .args .n) (s .pre .0 .framed .header) k in
-    omega (arith, c .index .ensures, s .pre .1 i (omega arith), cell-few t (s .args .n) (s .pre .0) k i lt, s .pre .0 .framed .small .few-cells)
+    let at-if1 = c .before .before .before in let at-slots = at-if1 .before in let at-index-in = at-slots .before in
+    let at-start = at-index-in .before .before in
+    let t = at-start .args .t .now in
+    let k = kindOf (at-start .args .kind) in
+    let i = at-index-in .index-in .result in
+    let lt : i < slotsOf (at-start .args .n) k = omega (arith, at-slots .slots .ensures, at-if1 .if1 .left) in
+    let e = slots-read t (at-start .args .n) (at-start .pre .0 .framed .header) k in
+    omega (
+      arith,
+      c .index .ensures,
+      at-start .pre .1 i (omega arith),
+      cell-few t (at-start .args .n)
+          (at-start .pre .0) k i lt,
+      at-start .pre .0 .framed .small .few-cells,
+    )
 
 index-in-requires : tie.Need-index-in-requires
 index-in-requires c κs = search needs
@@ -33,20 +41,28 @@ slots-requires c κs = search needs
 
 returns : tie.Need-returns
 returns c =
-    let s = c .before .before .before .before in
-    let t = s .args .t .now in
-    let k = kindOf (s .args .kind) in
-    let e = slots-read t (s .args .n) (s .pre .0 .framed .header) k in
-    sym (held-out (configuration t) (rd (configuration t) t) k (s .args .mine) (s .args .s) _ (c .before .before .index-in .ensures)
-    (slots-few t (s .args .n) (s .pre .0) k) (omega (arith, c .before .slots .ensures, c .if1 .taken)))
+    let at-index-in = c .before .before in let at-start = at-index-in .before .before in
+    let t = at-start .args .t .now in
+    let k = kindOf (at-start .args .kind) in
+    let e = slots-read t (at-start .args .n) (at-start .pre .0 .framed .header) k in
+    sym (held-out (configuration t) (rd (configuration t) t) k (at-start .args .mine) (at-start .args .s) _ (at-index-in .index-in .ensures)
+    (slots-few t (at-start .args .n) (at-start .pre .0) k) (omega (arith, c .before .slots .ensures, c .if1 .taken)))
 
 record-at-requires : tie.Need-record-at-requires
-record-at-requires c κs = (c .before .before .before .before .pre .0 .framed .small, omega (arith, c .before .slots .ensures, c .if1 .left))
+record-at-requires c κs =
+    let at-start = c .before .before .before .before in
+    (at-start .pre .0 .framed .small, omega (arith, c .before .slots .ensures, c .if1 .left))
 
 element-copy-out-index : tie.Need-element-copy-out-index
 element-copy-out-index c =
-    let s = c .before .before .before .before .before in
-    omega (arith, c .before .before .slots .ensures, c .before .if1 .left, slots-small (s .args .n) (s .pre .0 .framed .small) (kindOf (s .args .kind)))
+    let at-slots = c .before .before in let at-start = at-slots .before .before .before in
+    omega (
+      arith,
+      at-slots .slots .ensures,
+      c .before .if1 .left,
+      slots-small (at-start .args .n) (at-start .pre .0 .framed .small) (kindOf
+          (at-start .args .kind)),
+    )
 
 index-requires : tie.Need-index-requires
 index-requires c κs = search needs
@@ -56,22 +72,22 @@ serial-of-requires c κs = search needs
 
 add-result : tie.Need-add-result
 add-result c =
-    let s = c .before .before .before .before .before .before .before .before in
-    omega (arith, c .before .before .before .record-at .ensures .within, c .before .before .before .record-at .ensures .whole, s .pre .0 .framed .small .few-files)
+    let at-record-at = c .before .before .before in let at-start = at-record-at .before .before .before .before .before in
+    omega (arith, at-record-at .record-at .ensures .within, at-record-at .record-at .ensures .whole, at-start .pre .0 .framed .small .few-files)
 
 mul-result : tie.Need-mul-result
 mul-result c =
-    let s = c .before .before .before .before .before .before .before .before in
-    omega (arith, c .before .before .before .record-at .ensures .within, c .before .before .before .record-at .ensures .whole, s .pre .0 .framed .small .few-files)
+    let at-record-at = c .before .before .before in let at-start = at-record-at .before .before .before .before .before in
+    omega (arith, at-record-at .record-at .ensures .within, at-record-at .record-at .ensures .whole, at-start .pre .0 .framed .small .few-files)
 
 shared-slice-read-result : tie.Need-shared-slice-read-result
 shared-slice-read-result c =
-    let s = c .before .before .before .before .before .before .before .before .before in
+    let at-record-at = c .before .before .before .before in let at-start = at-record-at .before .before .before .before .before in
     omega (
       arith,
-      c .before .before .before .before .record-at .ensures .within,
-      c .before .before .before .before .record-at .ensures .whole,
-      s .pre .0 .framed .exact,
+      at-record-at .record-at .ensures .within,
+      at-record-at .record-at .ensures .whole,
+      at-start .pre .0 .framed .exact,
     )
 
 mul-result-2 : tie.Need-mul-result-2
@@ -85,25 +101,26 @@ index-2-result c = search needs
 
 returns-2 : tie.Need-returns-2
 returns-2 c =
-    let s = c .before .before .before .before .before .before .before .before .before .before in
-    let t = s .args .t .now in
-    let n = s .args .n in
-    let k = kindOf (s .args .kind) in
+    let at-serial-of = c .before .before in let at-index = at-serial-of .before in let at-record-at = at-index .before .before in
+    let at-if1 = at-record-at .before in let at-slots = at-if1 .before in let at-index-in = at-slots .before in
+    let at-start = at-index-in .before .before in
+    let t = at-start .args .t .now in
+    let n = at-start .args .n in
+    let k = kindOf (at-start .args .kind) in
     let h = configuration t in
-    let i = c .before .before .before .before .before .before .before .before .index-in .result in
-    let e = slots-read t n (s .pre .0 .framed .header) k in
+    let i = at-index-in .index-in .result in
+    let e = slots-read t n (at-start .pre .0 .framed .header) k in
     let lt : i < slots h k = omega (
       arith,
-      c .before .before .before .before .before .before .before .slots .ensures,
-      c .before .before .before .before .before .before .if1 .left,
+      at-slots .slots .ensures,
+      at-if1 .if1 .left,
     ) in
-    let cell = c .before .before .before .index .ensures ∙ s .pre .1 i lt in
-    ap₂ _&&_ (ap (ltb 0) (c .before .before .serial-of .ensures))
-    (ap₂ _&&_ (ap₂ leb (c .before .before .serial-of .ensures) (record-word t n (s .pre .0) k i serial _ (c .before .before .before .before .before .record-at .ensures)))
-    (flow-at h (s .args .flow .now) (s .pre .2) (c .before .before .before .index .result) (s .args .mine) [] (cell-low (c .before .before .before)) (s .pre .3)
-    ∙ ap (λ (x : ℕ). flows h x (s .args .mine)) cell))
-    ∙ held-in h (rd h t) k (s .args .mine) (s .args .s) i (c .before .before .before .before .before .before .before .before .index-in .ensures)
-    (slots-few t n (s .pre .0) k) lt
+    let cell = at-index .index .ensures ∙ at-start .pre .1 i lt in
+    ap₂ _&&_ (ap (ltb 0) (at-serial-of .serial-of .ensures)) (ap₂ _&&_ (ap₂ leb (at-serial-of .serial-of .ensures) (record-word t n
+    (at-start .pre .0) k i serial _ (at-record-at .record-at .ensures))) (flow-at h (at-start .args .flow .now) (at-start .pre .2)
+    (at-index .index .result) (at-start .args .mine) [] (cell-low at-index) (at-start .pre .3) ∙ ap (λ (x : ℕ). flows h x
+    (at-start .args .mine)) cell)) ∙ held-in h (rd h t) k (at-start .args .mine) (at-start .args .s) i (at-index-in .index-in .ensures)
+    (slots-few t n (at-start .pre .0) k) lt
 
 pub held-ok-spec : {M : Type 1} → statement M
 held-ok-spec =

@@ -15,21 +15,25 @@ use Rattle.table.proofs.held.judge_entry.Tie as tie
 -- the slot counted is one of the list's
 slot-low : (c : tie.After-index) → c .before .before .before .before .index-in .result < maxSlots
 slot-low c =
-    let s = c .before .before .before .before .before .before .before in
+    let at-if1 = c .before .before in let at-slots = at-if1 .before in let at-start = at-slots .before .before .before .before in
     omega (
       arith,
-      c .before .before .before .slots .ensures,
-      c .before .before .if1 .left,
-      slots-small (s .args .n) (s .pre .0 .0 .framed .small) (kindOf (s .args .kind)),
+      at-slots .slots .ensures,
+      at-if1 .if1 .left,
+      slots-small (at-start .args .n) (at-start .pre .0 .0 .framed .small) (kindOf (at-start .args .kind)),
     )
 
+-- the start
+abbrev start : tie.After-index → tie.Start
+start c = c .before .before .before .before .before .before .before
+
 -- the slot is one of the table's
-slot-in : (c : tie.After-index) → c .before .before .before .before .index-in .result < slots
-    (configuration (c .before .before .before .before .before .before .before .args .t .now)) (kindOf (c .before .before .before .before .before .before .before .args .kind))
+slot-in : (c : tie.After-index) → c .before .before .before .before .index-in .result < slots (configuration (start c .args .t .now)) (kindOf
+    (start c .args .kind))
 slot-in c =
-    let s = c .before .before .before .before .before .before .before in
-    let e = slots-read (s .args .t .now) (s .args .n) (s .pre .0 .0 .framed .header) (kindOf (s .args .kind)) in
-    omega (arith, c .before .before .before .slots .ensures, c .before .before .if1 .left)
+    let at-if1 = c .before .before in let at-slots = at-if1 .before in let at-start = at-slots .before .before .before .before in
+    let e = slots-read (at-start .args .t .now) (at-start .args .n) (at-start .pre .0 .0 .framed .header) (kindOf (at-start .args .kind)) in
+    omega (arith, at-slots .slots .ensures, at-if1 .if1 .left)
 
 index-in-requires : tie.Need-index-in-requires
 index-in-requires c κs = search needs
@@ -39,19 +43,26 @@ slots-requires c κs = search needs
 
 returns : tie.Need-returns
 returns c =
-    let s = c .before .before .before .before .before in
-    let t = s .args .t .now in
-    let k = kindOf (s .args .kind) in
-    let e = slots-read t (s .args .n) (s .pre .0 .0 .framed .header) k in (
-      sym (entry-out (configuration t) (rd (configuration t) t) k (s .args .mine) (s .args .s) (s .args .u) _ (s .pre .0 .4) (c .before .before .index-in .ensures)
-          (slots-few t (s .args .n) (s .pre .0 .0) k) (omega (arith, c .before .slots .ensures, c .if1 .taken))),
+    let at-index-in = c .before .before in let at-start = at-index-in .before .before .before in
+    let t = at-start .args .t .now in
+    let k = kindOf (at-start .args .kind) in
+    let e = slots-read t (at-start .args .n) (at-start .pre .0 .0 .framed .header) k in (
+      sym (entry-out (configuration t) (rd (configuration t) t) k (at-start .args .mine) (at-start .args .s) (at-start .args .u) _
+          (at-start .pre .0 .4) (at-index-in .index-in .ensures)
+          (slots-few t (at-start .args .n) (at-start .pre .0 .0) k) (omega (arith, c .before .slots .ensures, c .if1 .taken))),
       counted-none _ _,
     )
 
 element-copy-out-index : tie.Need-element-copy-out-index
 element-copy-out-index c =
-    let s = c .before .before .before .before .before in
-    omega (arith, c .before .slots .ensures, c .if1 .left, slots-small (s .args .n) (s .pre .0 .0 .framed .small) (kindOf (s .args .kind)))
+    let at-start = c .before .before .before .before .before in
+    omega (
+      arith,
+      c .before .slots .ensures,
+      c .if1 .left,
+      slots-small (at-start .args .n) (at-start .pre .0 .0 .framed .small) (kindOf
+          (at-start .args .kind)),
+    )
 
 index-requires : tie.Need-index-requires
 index-requires c κs = search needs
@@ -63,41 +74,50 @@ mul-counts : tie.Need-mul-counts
 mul-counts c = omega (arith, slot-low (c .before))
 
 slice-read-counts : tie.Need-slice-read-counts
-slice-read-counts c = omega (arith, slot-low (c .before .before), c .before .before .before .before .before .before .before .before .before .pre .1 .0)
+slice-read-counts c =
+    let at-index = c .before .before in let at-index-in = at-index .before .before .before .before in
+    let at-start = at-index-in .before .before .before in
+    omega (arith, slot-low at-index, at-start .pre .1 .0)
 
 -- what is added is 0 or 1
 cast-counts : tie.Need-cast-counts
 cast-counts c =
-    let s = c .before .before .before .before .before .before .before .before .before in
-    omega (arith, c .before .first .ensures, one-le (eqb (c .before .before .index .result) (s .args .mine)))
+    let at-index = c .before .before in let at-index-in = at-index .before .before .before .before in
+    let at-start = at-index-in .before .before .before in
+    omega (arith, c .before .first .ensures, one-le (eqb (at-index .index .result) (at-start .args .mine)))
 
 add-counts : tie.Need-add-counts
 add-counts c =
-    let s = c .before .before .before .before .before .before .before .before .before in
+    let at-index = c .before .before in let at-index-in = at-index .before .before .before .before in
+    let at-start = at-index-in .before .before .before in
     omega (
       arith,
       c .before .first .ensures,
-      one-le (eqb (c .before .before .index .result) (s .args .mine)),
-      s .pre .1 .1 (c .before .before .before .before .before .before .index-in .result) (slot-low (c .before .before)),
+      one-le (eqb (at-index .index .result) (at-start .args .mine)),
+      at-start .pre .1 .1 (at-index-in .index-in .result) (slot-low at-index),
     )
 
 mul-counts-2 : tie.Need-mul-counts-2
 mul-counts-2 c = omega (arith, slot-low (c .before .before))
 
 slice-write-counts : tie.Need-slice-write-counts
-slice-write-counts c = omega (arith, slot-low (c .before .before), c .before .before .before .before .before .before .before .before .before .pre .1 .0)
+slice-write-counts c =
+    let at-index = c .before .before in let at-index-in = at-index .before .before .before .before in
+    let at-start = at-index-in .before .before .before in
+    omega (arith, slot-low at-index, at-start .pre .1 .0)
 
 entry-ok-requires : tie.Need-entry-ok-requires
 entry-ok-requires c κs =
-    let s = c .before .before .before .before .before .before .before .before .before in
-    let l = slot-in (c .before .before) in
-    let is = c .before .before .before .before .before .before .index-in .ensures .right (omega (arith, slot-low (c .before .before))) in (
-      (s .pre .0 .0, s .pre .0 .2, s .pre .0 .3, l, s .pre .0 .5),
+    let at-index = c .before .before in let at-index-in = at-index .before .before .before .before in
+    let at-start = at-index-in .before .before .before in
+    let l = slot-in at-index in
+    let is = at-index-in .index-in .ensures .right (omega (arith, slot-low at-index)) in (
+      (at-start .pre .0 .0, at-start .pre .0 .2, at-start .pre .0 .3, l, at-start .pre .0 .5),
       (
         is .0,
         is .1,
-        c .before .before .index .ensures
-            ∙ s .pre .0 .1 (c .before .before .before .before .before .before .index-in .result) l,
+        at-index .index .ensures
+            ∙ at-start .pre .0 .1 (at-index-in .index-in .result) l,
       ),
     )
 
@@ -106,17 +126,17 @@ same-length c = search needs
 
 returns-2 : tie.Need-returns-2
 returns-2 c =
-    let s = c .before .before .before .before .before .before .before .before .before .before in
-    let t = s .args .t .now in
-    let k = kindOf (s .args .kind) in
-    let l = slot-in (c .before .before .before) in
-    let is = c .before .before .before .before .before .before .before .index-in .ensures .right (omega (arith, slot-low (c .before .before .before))) in (
+    let at-first = c .before .before in let at-index = at-first .before in let at-index-in = at-index .before .before .before .before in
+    let at-start = at-index-in .before .before .before in
+    let t = at-start .args .t .now in
+    let k = kindOf (at-start .args .kind) in
+    let l = slot-in at-index in
+    let is = at-index-in .index-in .ensures .right (omega (arith, slot-low at-index)) in (
       c .entry-ok .ensures,
-      rw (c .before .before .first .ensures)
-          (counted-one (configuration t) k (s .args .mine) (s .args .s) (c .before .before .before .before .before .before .before .index-in .result)
-          (c .before .before .before .index .result) (is .0) (is .1) (c .before .before .before .index .ensures
-          ∙ s .pre .0 .1 (c .before .before .before .before .before .before .before .index-in .result) l) _ (s .args .counts .now)
-          (omega (arith, slot-low (c .before .before .before), s .pre .1 .0)) (s .pre .1 .0)),
+      rw (at-first .first .ensures)
+          (counted-one (configuration t) k (at-start .args .mine) (at-start .args .s) (at-index-in .index-in .result) (at-index .index .result)
+          (is .0) (is .1) (at-index .index .ensures ∙ at-start .pre .0 .1 (at-index-in .index-in .result) l) _ (at-start .args .counts .now)
+          (omega (arith, slot-low at-index, at-start .pre .1 .0)) (at-start .pre .1 .0)),
     )
 
 pub judge-entry-spec : {M : Type 1} → statement M

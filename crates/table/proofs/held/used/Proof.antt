@@ -31,8 +31,8 @@ zeros-requires c κs = search needs
 
 returns : tie.Need-returns Inv-loop μ-loop
 returns c =
-    let s = c .before .before .before .before in
-    squeezed-zeros (s .args .t .now) (s .args .from) (s .args .list .now) (sym (c .before .zeros .ensures) ∙ c .if1 .taken)
+    let at-start = c .before .before .before .before in
+    squeezed-zeros (at-start .args .t .now) (at-start .args .from) (at-start .args .list .now) (sym (c .before .zeros .ensures) ∙ c .if1 .taken)
 
 loop-holds : tie.Need-loop-holds Inv-loop μ-loop
 loop-holds c = (search needs, search needs, squeezed-none _ _ _)
@@ -96,9 +96,16 @@ wide-requires c κs = search needs
 
 add-n : tie.Need-add-n Inv-loop μ-loop
 add-n c =
-    let s = c .before .before .before .before .before .before .before .before .before .before in
-    let l = c .before .before .before .before .before .loop in
-    omega (arith, c .wide .ensures, c .before .first .ensures, one-le (not (unused (s .args .t .now) (s .args .from) (l .d))), l .inv .2 .lists .few)
+    let at-loop = c .before .before .before .before .before in let at-start = at-loop .before .before .before .before .before in
+    let l = at-loop .loop in
+    omega (
+      arith,
+      c .wide .ensures,
+      c .before .first .ensures,
+      one-le (not (unused (at-start .args .t .now) (at-start .args .from)
+          (l .d))),
+      l .inv .2 .lists .few,
+    )
 
 add-d : tie.Need-add-d Inv-loop μ-loop
 add-d c = search needs
@@ -108,11 +115,13 @@ loop-less c = search needs
 
 loop-again : tie.Need-loop-again Inv-loop μ-loop
 loop-again c =
-    let s = c .before .before .before .before .before .before .before .before .before .before in
-    let l = c .before .before .before .before .before .loop in (
+    let at-shared-slice-known3 = c .before .before in let at-loop = at-shared-slice-known3 .before .before .before in
+    let at-start = at-loop .before .before .before .before .before in
+    let l = at-loop .loop in (
       search needs,
       simp length-set (l .inv .1),
-      squeezed-next (s .args .t .now) (s .args .from) (l .list) (l .n) (l .d) (l .inv .2) (room (c .before .before)) (l .inv .1) _ _ refl refl _
+      squeezed-next (at-start .args .t .now) (at-start .args .from) (l .list) (l .n) (l .d) (l .inv .2) (room at-shared-slice-known3)
+          (l .inv .1) _ _ refl refl _
           (c .wide .ensures ∙ c .before .first .ensures),
     )
 

@@ -67,13 +67,15 @@ wide-requires-4 c κs = search needs
 
 add-alive-2 : tie.Need-add-alive-2
 add-alive-2 c =
-    let s = c .before .before .before .before .before .before .before .before in
+    let at-wide2 = c .before .before .before .before in let at-shared-slice-known3 = at-wide2 .before in
+    let at-wide = at-shared-slice-known3 .before in let at-shared-slice-known2 = at-wide .before in
+    let at-record-at = at-shared-slice-known2 .before in
     omega (
       arith,
-      c .before .before .before .before .before .before .wide .ensures,
-      c .before .before .before .before .wide2 .ensures,
-      c .before .before .before .before .before .before .before .shared-slice-known2 .given (s .record-at .result + links),
-      c .before .before .before .before .before .shared-slice-known3 .given (s .record-at .result + opens),
+      at-wide .wide .ensures,
+      at-wide2 .wide2 .ensures,
+      at-shared-slice-known2 .shared-slice-known2 .given (at-record-at .record-at .result + links),
+      at-shared-slice-known3 .shared-slice-known3 .given (at-record-at .record-at .result + opens),
     )
 
 record-ok-requires : tie.Need-record-ok-requires
@@ -90,18 +92,17 @@ shared-slice-read-result c = search needs
 
 returns : tie.Need-returns
 returns c =
-    let s = c .before .before .before .before .before .before .before .before .before .before .before .before in
-    ap (λ (b : Bool). b && eqb
-    (getD (s .args .t .now) (c .before .before .before .before .before .before .before .before .before .before .record-at .result + opens) 0) (s .args .held))
-    (c .before .record-ok .ensures)
-    ∙ rw (
-      c .before .before .wide4 .ensures,
-      c .before .before .before .before .wide3 .ensures,
-      c .before .before .before .before .before .before .wide2 .ensures,
-      c .before .before .before .before .before .before .before .before .wide .ensures,
+    let at-wide4 = c .before .before in let at-wide3 = at-wide4 .before .before in let at-wide2 = at-wide3 .before .before in
+    let at-wide = at-wide2 .before .before in let at-record-at = at-wide .before .before in let at-start = at-record-at .before .before in
+    ap (λ (b : Bool). b && eqb (getD (at-start .args .t .now) (at-record-at .record-at .result + opens) 0) (at-start .args .held))
+    (c .before .record-ok .ensures) ∙ rw (
+      at-wide4 .wide4 .ensures,
+      at-wide3 .wide3 .ensures,
+      at-wide2 .wide2 .ensures,
+      at-wide .wide .ensures,
     )
-    (file-claim (s .args .t .now) (s .args .n) (s .pre .0) (s .args .f) _ (s .args .held)
-    (c .before .before .before .before .before .before .before .before .before .before .record-at .ensures) (s .pre .2))
+    (file-claim (at-start .args .t .now) (at-start .args .n) (at-start .pre .0) (at-start .args .f) _ (at-start .args .held)
+    (at-record-at .record-at .ensures) (at-start .pre .2))
 
 pub file-ok-spec : {M : Type 1} → statement M
 file-ok-spec =

@@ -32,13 +32,19 @@ loop-holds c =
 
 mul-counted : tie.Need-mul-counted Inv-loop μ-loop
 mul-counted c =
-    let s = c .before .before .before .before .before in
-    omega (arith, c .before .before .slots .ensures, slots-small (s .args .n) (s .pre .0 .framed .small) (kindOf (s .args .kind)))
+    let at-slots = c .before .before in let at-start = at-slots .before .before .before in
+    omega (arith, at-slots .slots .ensures, slots-small (at-start .args .n) (at-start .pre .0 .framed .small) (kindOf (at-start .args .kind)))
 
 shared-slice-read-counted : tie.Need-shared-slice-read-counted Inv-loop μ-loop
 shared-slice-read-counted c =
-    let s = c .before .before .before .before .before .before in
-    omega (arith, c .before .before .before .slots .ensures, slots-small (s .args .n) (s .pre .0 .framed .small) (kindOf (s .args .kind)), s .pre .1 .long)
+    let at-slots = c .before .before .before in let at-start = at-slots .before .before .before in
+    omega (
+      arith,
+      at-slots .slots .ensures,
+      slots-small (at-start .args .n) (at-start .pre .0 .framed .small) (kindOf
+          (at-start .args .kind)),
+      at-start .pre .1 .long,
+    )
 
 counted-requires : tie.Need-counted-requires Inv-loop μ-loop
 counted-requires c κs = search needs
@@ -46,9 +52,9 @@ counted-requires c κs = search needs
 object-ok-requires : tie.Need-object-ok-requires Inv-loop μ-loop
 unfolding ownEntries
 object-ok-requires c κs =
-    let s = c .before .before .before .before .before .before .before in
-    let l = c .before .before .before .loop in
-    (s .pre .0, omega (arith, c .before .before .before .before .slots .ensures), c .counted .ensures ∙ s .pre .1 .exact (l .i) (omega (arith, l .inv .1)))
+    let at-loop = c .before .before .before in let at-slots = at-loop .before in let at-start = at-slots .before .before .before in
+    let l = at-loop .loop in
+    (at-start .pre .0, omega (arith, at-slots .slots .ensures), c .counted .ensures ∙ at-start .pre .1 .exact (l .i) (omega (arith, l .inv .1)))
 
 add-i : tie.Need-add-i Inv-loop μ-loop
 add-i c = search needs
@@ -57,7 +63,9 @@ loop-less : tie.Need-loop-less Inv-loop μ-loop
 loop-less c = search needs
 
 loop-again : tie.Need-loop-again Inv-loop μ-loop
-loop-again c = (search needs, search needs, all-next _ (c .before .before .before .before .loop .inv .2) (c .object-ok .ensures))
+loop-again c =
+    let at-loop = c .before .before .before .before in
+    (search needs, search needs, all-next _ (at-loop .loop .inv .2) (c .object-ok .ensures))
 
 returns : tie.Need-returns Inv-loop μ-loop
 returns c = all-last _ (c .before .loop .inv .2) (c .before .loop .inv .0) (c .loop-test .left) (c .before .loop .inv .1)

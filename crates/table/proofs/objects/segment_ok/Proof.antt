@@ -54,9 +54,10 @@ record-ok-requires c κs = search needs
 
 returns : tie.Need-returns
 returns c =
-    let s = c .before .before .before .before .before .before .before in
-    ap (λ (b : Bool). b && eqb (getD (s .args .t .now) (c .before .before .before .before .before .record-at .result + references) 0) (s .args .held)) (c .record-ok .ensures)
-    ∙ segment-claim (s .args .t .now) (s .args .n) (s .pre .0) (s .args .s) _ (s .args .held) (c .before .before .before .before .before .record-at .ensures) (s .pre .2)
+    let at-record-at = c .before .before .before .before .before in let at-start = at-record-at .before .before in
+    ap (λ (b : Bool). b && eqb (getD (at-start .args .t .now) (at-record-at .record-at .result + references) 0) (at-start .args .held))
+    (c .record-ok .ensures) ∙ segment-claim (at-start .args .t .now) (at-start .args .n) (at-start .pre .0) (at-start .args .s) _
+    (at-start .args .held) (at-record-at .record-at .ensures) (at-start .pre .2)
 
 pub segment-ok-spec : {M : Type 1} → statement M
 segment-ok-spec =

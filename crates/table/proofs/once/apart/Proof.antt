@@ -29,7 +29,9 @@ mul-key-2 : tie.Need-mul-key-2 Inv-loop μ-loop
 mul-key-2 c = omega (arith, c .before .before .before .pre .1, c .loop-test .taken)
 
 shared-slice-read-key : tie.Need-shared-slice-read-key Inv-loop μ-loop
-shared-slice-read-key c = omega (arith, c .before .before .before .before .pre .1, c .before .loop-test .taken, c .before .before .before .before .pre .0)
+shared-slice-read-key c =
+    let at-start = c .before .before .before .before in
+    omega (arith, at-start .pre .1, c .before .loop-test .taken, at-start .pre .0)
 
 key-requires : tie.Need-key-requires Inv-loop μ-loop
 key-requires c κs = search needs
@@ -48,14 +50,15 @@ loop-less c = search needs
 
 loop-again : tie.Need-loop-again Inv-loop μ-loop
 loop-again c =
-    let s = c .before .before .before .before .before in
-    let w : ℕ → ℕ = λ j. getD (s .args .list .now) (2 * j) 0 in
-    let l = c .before .before .before .loop in
+    let at-loop = c .before .before .before in let at-start = at-loop .before .before in
+    let w : ℕ → ℕ = λ j. getD (at-start .args .list .now) (2 * j) 0 in
+    let l = at-loop .loop in
     let is : c .key .result ≡ keyOf (w (l .e)) = c .key .ensures .0 in (
       search needs,
       simp length-set (l .inv .1),
       seen-next w keyOf (l .e) (c .key .result) (l .seen) (omega (arith, c .key .ensures .1, l .inv .1)) is (l .inv .2),
-      λ ok. apart-next w keyOf (l .e) (c .key .result) (l .seen) is (l .inv .2) (failed _ (and-right (l .ok) _ ok)) (l .inv .3 (and-left (l .ok) _ ok)),
+      λ ok. apart-next w keyOf (l .e) (c .key .result) (l .seen) is (l .inv .2) (failed _ (and-right (l .ok) _ ok)) (l .inv .3 (and-left
+          (l .ok) _ ok)),
     )
 
 returns : tie.Need-returns Inv-loop μ-loop

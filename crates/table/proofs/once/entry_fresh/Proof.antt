@@ -51,10 +51,11 @@ shared-slice-read-if2 c = search needs
 
 returns-2 : tie.Need-returns-2 Inv-loop μ-loop
 returns-2 c =
-    let a = c .before .before .before .before .before .before .args in
-    sym (all-not _ _ (c .before .before .before .loop .d) (c .before .before .loop-test .taken)
-    (sym (fresh-next (heldWord (a .t .now) (a .from)) (a .e) (c .before .before .before .before .if1 .left) (c .before .before .before .loop .d))
-    ∙ ap not (eq-eqb _ _ (c .if2 .taken))))
+    let at-in-loop = c .before .before in let at-loop = at-in-loop .before in let at-if1 = at-loop .before in
+    let at-start = at-if1 .before .before in
+    let a = at-start .args in
+    sym (all-not _ _ (at-loop .loop .d) (at-in-loop .loop-test .taken) (sym (fresh-next (heldWord (a .t .now) (a .from)) (a .e)
+    (at-if1 .if1 .left) (at-loop .loop .d)) ∙ ap not (eq-eqb _ _ (c .if2 .taken))))
 
 add-d : tie.Need-add-d Inv-loop μ-loop
 add-d c = search needs
@@ -64,10 +65,11 @@ loop-less c = search needs
 
 loop-again : tie.Need-loop-again Inv-loop μ-loop
 loop-again c =
-    let a = c .before .before .before .before .before .before .args in (
+    let at-loop = c .before .before .before in let at-if1 = at-loop .before in let at-start = at-if1 .before .before in
+    let a = at-start .args in (
       search needs,
-      all-next _ (c .before .before .before .loop .inv .1) (sym (ap not (ne-eqb _ _ (c .if2 .left)))
-          ∙ fresh-next (heldWord (a .t .now) (a .from)) (a .e) (c .before .before .before .before .if1 .left) (c .before .before .before .loop .d)),
+      all-next _ (at-loop .loop .inv .1) (sym (ap not (ne-eqb _ _ (c .if2 .left)))
+          ∙ fresh-next (heldWord (a .t .now) (a .from)) (a .e) (at-if1 .if1 .left) (at-loop .loop .d)),
     )
 
 returns-3 : tie.Need-returns-3 Inv-loop μ-loop

@@ -15,11 +15,12 @@ apart-requires c κs = (c .before .before .pre .1, c .before .before .pre .2 .li
 
 returns : tie.Need-returns
 returns c =
-    let s = c .before .before .before .before in
-    let t = s .args .t .now in
-    let x = s .pre .2 in
-    sym (all-apart (unused t (s .args .from)) (heldWord t (s .args .from)) (x .numbers) (s .args .used) entries (x .lists) (λ d e. eqb-true _ 0 (and-left _ _ e)) (λ j k i a q.
-    c .before .apart .ensures (c .if1 .taken) j k i a (x .held-is i (omega arith) ∙ q ∙ sym (x .held-is j k))))
+    let at-start = c .before .before .before .before in
+    let t = at-start .args .t .now in
+    let x = at-start .pre .2 in
+    sym (all-apart (unused t (at-start .args .from)) (heldWord t (at-start .args .from)) (x .numbers) (at-start .args .used) entries (x .lists)
+    (λ d e. eqb-true _ 0 (and-left _ _ e)) (λ j k i a q. c .before .apart .ensures (c .if1 .taken) j k i a (x .held-is i (omega arith) ∙ q ∙ sym
+    (x .held-is j k))))
 
 all-fresh-requires : tie.Need-all-fresh-requires
 all-fresh-requires c κs = search needs

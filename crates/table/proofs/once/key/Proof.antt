@@ -20,19 +20,21 @@ wide-requires-2 : tie.Need-wide-requires-2
 wide-requires-2 c κs = search needs
 
 mul-result : tie.Need-mul-result
-mul-result c = omega (arith, c .wide2 .ensures, c .before .serial-of .ensures, serial-small (c .before .before .before .before .args .s))
+mul-result c =
+    let at-start = c .before .before .before .before in
+    omega (arith, c .wide2 .ensures, c .before .serial-of .ensures, serial-small (at-start .args .s))
 
 add-result : tie.Need-add-result
 add-result c =
-    let s = c .before .before .before .before in
+    let at-wide = c .before .before in let at-index-of = at-wide .before in let at-start = at-index-of .before in
     omega (
       arith,
       c .wide2 .ensures,
       c .before .serial-of .ensures,
-      serial-small (s .args .s),
-      c .before .before .wide .ensures,
-      c .before .before .before .index-of .ensures,
-      index-small (s .args .s),
+      serial-small (at-start .args .s),
+      at-wide .wide .ensures,
+      at-index-of .index-of .ensures,
+      index-small (at-start .args .s),
     )
 
 returns : tie.Need-returns

@@ -26,14 +26,15 @@ wide-requires c κs = search needs
 
 returns : tie.Need-returns
 returns c =
-    let s = c .before .before .before .before in
-    sym (page-free (recordAt (s .args .t .now) (s .args .at)) 0 (s .args .g) (sym (c .before .wide .ensures) ∙ c .if1 .taken))
+    let at-start = c .before .before .before .before in
+    sym (page-free (recordAt (at-start .args .t .now) (at-start .args .at)) 0 (at-start .args .g) (sym (c .before .wide .ensures) ∙ c .if1 .taken))
 
 returns-2 : tie.Need-returns-2
 returns-2 c =
-    let s = c .before .before .before .before .before in
-    let word = c .before .before .wide .ensures in
-    sym (page-beyond (recordAt (s .args .t .now) (s .args .at)) 0 (s .args .g) (λ e. c .before .if1 .left (word ∙ e)) (omega (arith, word, c .if2 .taken)))
+    let at-wide = c .before .before in let at-start = at-wide .before .before .before in
+    let word = at-wide .wide .ensures in
+    sym (page-beyond (recordAt (at-start .args .t .now) (at-start .args .at)) 0 (at-start .args .g) (λ e. c .before .if1 .left (word ∙ e)) (omega
+    (arith, word, c .if2 .taken)))
 
 sub-result : tie.Need-sub-result
 sub-result c = search needs
@@ -55,10 +56,10 @@ shared-slice-read-result c = search needs
 
 returns-3 : tie.Need-returns-3
 returns-3 c =
-    let s = c .before .before .before .before .before .before in
-    let word = c .before .before .before .wide .ensures in
-    rw word (page-held (recordAt (s .args .t .now) (s .args .at)) 0 (s .args .g) (λ e. c .before .before .if1 .left (word ∙ e))
-    (omega (arith, word, c .before .if2 .left)))
+    let at-if1 = c .before .before in let at-wide = at-if1 .before in let at-start = at-wide .before .before .before in
+    let word = at-wide .wide .ensures in
+    rw word (page-held (recordAt (at-start .args .t .now) (at-start .args .at)) 0 (at-start .args .g) (λ e. at-if1 .if1 .left (word ∙ e)) (omega
+    (arith, word, c .before .if2 .left)))
 
 pub page-ok-spec : {M : Type 1} → statement M
 page-ok-spec =

@@ -17,9 +17,11 @@ slice-aggregate-entries-ok c = search needs
 
 entries-ok-requires : tie.Need-entries-ok-requires
 entries-ok-requires c κs =
-    let s = c .before .before .before .before .before .before .before .before .before in
-    let at-table = c .before .before .before in
-    ((s .pre .0, s .pre .1, s .pre .2, s .pre .3, s .pre .4, at-table .valid-table .ensures), (s .pre .5, search needs, at-table .before .before .used .ensures))
+    let at-valid-table = c .before .before .before in let at-used = at-valid-table .before .before in
+    let at-start = at-used .before .before .before .before in (
+      (at-start .pre .0, at-start .pre .1, at-start .pre .2, at-start .pre .3, at-start .pre .4, at-valid-table .valid-table .ensures),
+      (at-start .pre .5, search needs, at-used .used .ensures),
+    )
 
 same-length : tie.Need-same-length
 same-length c = search needs

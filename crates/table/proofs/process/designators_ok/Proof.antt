@@ -20,25 +20,28 @@ slice-aggregate-entries-ok c = search needs
 
 entries-ok-requires : tie.Need-entries-ok-requires
 entries-ok-requires c κs =
-    let s = c .before .before .before .before .before .before .before .before .before in
-    let at-table = c .before .before .before in
-    ((s .pre .0, s .pre .1, s .pre .2, s .pre .3, s .pre .4, at-table .valid-table .ensures), (s .pre .5, search needs, at-table .before .before .used .ensures))
+    let at-valid-table = c .before .before .before in let at-used = at-valid-table .before .before in
+    let at-start = at-used .before .before .before .before in (
+      (at-start .pre .0, at-start .pre .1, at-start .pre .2, at-start .pre .3, at-start .pre .4, at-valid-table .valid-table .ensures),
+      (at-start .pre .5, search needs, at-used .used .ensures),
+    )
 
 slice-aggregate-held-once : tie.Need-slice-aggregate-held-once
 slice-aggregate-held-once c = search needs
 
 held-once-requires : tie.Need-held-once-requires
 held-once-requires c κs =
-    let s = c .before .before .before .before .before .before .before .before .before .before .before .before .before in
-    (s .pre .5, search needs, c .before .before .before .before .before .before .before .before .before .used .ensures)
+    let at-list3 = c .before .before .before .before .before in let at-used = at-list3 .before .before .before .before in
+    let at-start = at-used .before .before .before .before in
+    (at-start .pre .5, search needs, at-used .used .ensures)
 
 same-length : tie.Need-same-length
 same-length c = search needs
 
 returns : tie.Need-returns
 returns c =
-    let s = c .before .before .before .before in
-    (ap₂ _&&_ (s .entries-ok .ensures .0) (c .held-once .ensures), counts-also _ _ _ _ _ _ (s .entries-ok .ensures .1))
+    let at-entries-ok = c .before .before .before .before in
+    (ap₂ _&&_ (at-entries-ok .entries-ok .ensures .0) (c .held-once .ensures), counts-also _ _ _ _ _ _ (at-entries-ok .entries-ok .ensures .1))
 
 pub designators-ok-spec : {M : Type 1} → statement M
 designators-ok-spec =

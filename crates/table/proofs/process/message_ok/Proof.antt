@@ -55,37 +55,38 @@ index-requires c κs = search needs
 
 held-ok-requires : tie.Need-held-ok-requires
 held-ok-requires c κs =
-    let s = c .before .before .before .before .before .before .before .before in
-    let t = s .args .t .now in
-    let n = s .args .n in
-    let e = slots-read t n (s .pre .0 .framed .header) process in
-    let few = cell-few t n (s .pre .0) process (s .args .p) (s .pre .3) in
-    (s .pre .0, s .pre .1, s .pre .2, omega (arith, c .index .ensures, s .pre .1 (s .args .p) (omega arith)))
+    let at-wide = c .before .before .before .before in let at-start = at-wide .before .before .before .before in
+    let t = at-start .args .t .now in
+    let n = at-start .args .n in
+    let e = slots-read t n (at-start .pre .0 .framed .header) process in
+    let few = cell-few t n (at-start .pre .0) process (at-start .args .p) (at-start .pre .3) in
+    (at-start .pre .0, at-start .pre .1, at-start .pre .2, omega (arith, c .index .ensures, at-start .pre .1 (at-start .args .p) (omega arith)))
 
 returns : tie.Need-returns
 returns c =
-    let s = c .before .before .before .before .before .before .before .before .before in
-    let t = s .args .t .now in
+    let at-wide = c .before .before .before .before .before in let at-record-at = at-wide .before .before in
+    let at-start = at-record-at .before .before in
+    let t = at-start .args .t .now in
     let h = configuration t in
-    let q = record-word t (s .args .n) (s .pre .0) process (s .args .p) queue _ (c .before .before .before .before .before .before .before .record-at .ensures) in
-    let e = slots-read t (s .args .n) (s .pre .0 .framed .header) process in
-    let word = record-word t (s .args .n) (s .pre .0) process (s .args .p) (messageAt (s .args .m) 0) _
-    (c .before .before .before .before .before .before .before .record-at .ensures) in
-    c .held-ok .ensures ∙ ap₂ (λ (c x : ℕ). test (heldOk h (rd h t) process c x)) (c .before .index .ensures ∙ s .pre .1 (s .args .p) (omega arith)) word
-    ∙ message-held h (rd h t) (s .args .p) (s .args .m) (omega (arith, c .before .before .before .before .before .wide .ensures))
+    let q = record-word t (at-start .args .n) (at-start .pre .0) process (at-start .args .p) queue _ (at-record-at .record-at .ensures) in
+    let e = slots-read t (at-start .args .n) (at-start .pre .0 .framed .header) process in
+    let word = record-word t (at-start .args .n) (at-start .pre .0) process (at-start .args .p) (messageAt (at-start .args .m) 0) _
+    (at-record-at .record-at .ensures) in
+    c .held-ok .ensures ∙ ap₂ (λ (c x : ℕ). test (heldOk h (rd h t) process c x)) (c .before .index .ensures ∙ at-start .pre .1 (at-start .args .p)
+    (omega arith)) word ∙ message-held h (rd h t) (at-start .args .p) (at-start .args .m) (omega (arith, at-wide .wide .ensures))
 
 zeros-requires : tie.Need-zeros-requires
 zeros-requires c κs = search needs
 
 returns-2 : tie.Need-returns-2
 returns-2 c =
-    let s = c .before .before .before .before .before .before in
-    let t = s .args .t .now in
+    let at-wide = c .before .before in let at-record-at = at-wide .before .before in let at-start = at-record-at .before .before in
+    let t = at-start .args .t .now in
     let h = configuration t in
-    let q = record-word t (s .args .n) (s .pre .0) process (s .args .p) queue _ (c .before .before .before .before .record-at .ensures) in
-    let words = record-words t (s .args .n) (s .pre .0) process (s .args .p) _ (c .before .before .before .before .record-at .ensures) in
-    c .zeros .ensures ∙ ap (λ (w : ℕ → ℕ). allBelow 4 (λ j. eqb (w (messageAt (s .args .m) j)) 0)) words
-    ∙ message-unused h (rd h t) (s .args .p) (s .args .m) (omega (arith, c .before .before .wide .ensures))
+    let q = record-word t (at-start .args .n) (at-start .pre .0) process (at-start .args .p) queue _ (at-record-at .record-at .ensures) in
+    let words = record-words t (at-start .args .n) (at-start .pre .0) process (at-start .args .p) _ (at-record-at .record-at .ensures) in
+    c .zeros .ensures ∙ ap (λ (w : ℕ → ℕ). allBelow 4 (λ j. eqb (w (messageAt (at-start .args .m) j)) 0)) words ∙ message-unused h (rd h t)
+    (at-start .args .p) (at-start .args .m) (omega (arith, at-wide .wide .ensures))
 
 pub message-ok-spec : {M : Type 1} → statement M
 message-ok-spec =

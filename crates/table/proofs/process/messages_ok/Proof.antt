@@ -40,14 +40,14 @@ zeros-requires c κs = search needs
 
 returns : tie.Need-returns Inv-loop μ-loop
 returns c =
-    let s = c .before .before .before .before .before in
-    let t = s .args .t .now in
+    let at-record-at = c .before .before .before in let at-start = at-record-at .before .before in
+    let t = at-start .args .t .now in
     let h = configuration t in
-    let place = c .before .before .before .record-at .ensures in
-    let empty = sym (record-word t (s .args .n) (s .pre .0) process (s .args .p) queue _ place) ∙ c .before .if1 .taken in
-    let words = record-words t (s .args .n) (s .pre .0) process (s .args .p) _ place in
-    c .zeros .ensures ∙ ap (λ (w : ℕ → ℕ). allBelow (messages * messageWords) (λ j. eqb (w (messageAt 0 j)) 0)) words
-    ∙ messages-unused h (rd h t) (s .args .p) empty
+    let place = at-record-at .record-at .ensures in
+    let empty = sym (record-word t (at-start .args .n) (at-start .pre .0) process (at-start .args .p) queue _ place) ∙ c .before .if1 .taken in
+    let words = record-words t (at-start .args .n) (at-start .pre .0) process (at-start .args .p) _ place in
+    c .zeros .ensures ∙ ap (λ (w : ℕ → ℕ). allBelow (messages * messageWords) (λ j. eqb (w (messageAt 0 j)) 0)) words ∙ messages-unused h (rd h t)
+    (at-start .args .p) empty
 
 loop-holds : tie.Need-loop-holds Inv-loop μ-loop
 loop-holds c = (search needs, all-first _)

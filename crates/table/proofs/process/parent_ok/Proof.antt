@@ -26,9 +26,9 @@ shared-slice-read-s c = search needs
 
 returns : tie.Need-returns
 returns c =
-    let s = c .before .before .before .before in
-    rw (← record-word (s .args .t .now) (s .args .n) (s .pre .0) process (s .args .p) parent _ (c .before .before .record-at .ensures))
-    (sym (parent-none _ _ _ (c .if1 .taken)))
+    let at-record-at = c .before .before in let at-start = at-record-at .before .before in
+    rw (← record-word (at-start .args .t .now) (at-start .args .n) (at-start .pre .0) process (at-start .args .p) parent _
+    (at-record-at .record-at .ensures)) (sym (parent-none _ _ _ (c .if1 .taken)))
 
 index-in-requires : tie.Need-index-in-requires
 index-in-requires c κs = search needs
@@ -38,20 +38,21 @@ slots-requires c κs = search needs
 
 returns-2 : tie.Need-returns-2
 returns-2 c =
-    let s = c .before .before .before .before .before .before .before in
-    let t = s .args .t .now in
-    let e = slots-read t (s .args .n) (s .pre .0 .framed .header) process in
-    rw (← record-word t (s .args .n) (s .pre .0) process (s .args .p) parent _ (c .before .before .before .before .before .record-at .ensures))
-    (sym (parent-out (configuration t) _ _ _ (c .before .before .index-in .ensures) (slots-few t (s .args .n) (s .pre .0) process)
-    (c .before .before .before .if1 .left) (omega (arith, c .before .slots .ensures, c .if2 .taken))))
+    let at-index-in = c .before .before in let at-if1 = at-index-in .before in let at-record-at = at-if1 .before .before in
+    let at-start = at-record-at .before .before in
+    let t = at-start .args .t .now in
+    let e = slots-read t (at-start .args .n) (at-start .pre .0 .framed .header) process in
+    rw (← record-word t (at-start .args .n) (at-start .pre .0) process (at-start .args .p) parent _ (at-record-at .record-at .ensures)) (sym
+    (parent-out (configuration t) _ _ _ (at-index-in .index-in .ensures) (slots-few t (at-start .args .n) (at-start .pre .0) process)
+    (at-if1 .if1 .left) (omega (arith, c .before .slots .ensures, c .if2 .taken))))
 
 serial-of-requires : tie.Need-serial-of-requires
 serial-of-requires c κs = search needs
 
 element-copy-out-index : tie.Need-element-copy-out-index
 element-copy-out-index c =
-    let s = c .before .before .before .before .before .before .before .before in
-    omega (arith, c .before .before .slots .ensures, c .before .if2 .left, s .pre .0 .framed .small .few-processes)
+    let at-slots = c .before .before in let at-record-at = at-slots .before .before .before .before in let at-start = at-record-at .before .before in
+    omega (arith, at-slots .slots .ensures, c .before .if2 .left, at-start .pre .0 .framed .small .few-processes)
 
 index-requires : tie.Need-index-requires
 index-requires c κs = search needs
@@ -64,20 +65,19 @@ index-requires-2 c κs = search needs
 
 returns-3 : tie.Need-returns-3
 returns-3 c =
-    let s = c .before .before .before .before .before .before .before .before .before .before .before .before in
-    let t = s .args .t .now in
+    let at-index = c .before .before in let at-serial-of = at-index .before .before in let at-if2 = at-serial-of .before in
+    let at-slots = at-if2 .before in let at-index-in = at-slots .before in let at-if1 = at-index-in .before in
+    let at-record-at = at-if1 .before .before in let at-start = at-record-at .before .before in
+    let t = at-start .args .t .now in
     let h = configuration t in
-    let e = slots-read t (s .args .n) (s .pre .0 .framed .header) process in
+    let e = slots-read t (at-start .args .n) (at-start .pre .0 .framed .header) process in
     let l : c .before .before .before .before .before .before .before .index-in .result < slots h process =
-    omega (arith, c .before .before .before .before .before .before .slots .ensures, c .before .before .before .before .before .if2 .left) in
-    let m : s .args .p < slots h process = omega arith in
-    rw (← record-word t (s .args .n) (s .pre .0) process (s .args .p) parent _
-    (c .before .before .before .before .before .before .before .before .before .before .record-at .ensures))
-    (ap₂ _&&_ (ap (ltb 0) (c .before .before .before .before .serial-of .ensures))
-    (ap₂ eqb (c .before .before .index .ensures ∙ s .pre .1 (c .before .before .before .before .before .before .before .index-in .result) l)
-    (c .index2 .ensures ∙ s .pre .1 (s .args .p) m))
-    ∙ parent-in h _ _ _ (c .before .before .before .before .before .before .before .index-in .ensures) (slots-few t (s .args .n) (s .pre .0) process)
-    (c .before .before .before .before .before .before .before .before .if1 .left) l)
+    omega (arith, at-slots .slots .ensures, at-if2 .if2 .left) in
+    let m : at-start .args .p < slots h process = omega arith in
+    rw (← record-word t (at-start .args .n) (at-start .pre .0) process (at-start .args .p) parent _ (at-record-at .record-at .ensures)) (ap₂ _&&_
+    (ap (ltb 0) (at-serial-of .serial-of .ensures)) (ap₂ eqb (at-index .index .ensures ∙ at-start .pre .1 (at-index-in .index-in .result) l)
+    (c .index2 .ensures ∙ at-start .pre .1 (at-start .args .p) m)) ∙ parent-in h _ _ _ (at-index-in .index-in .ensures) (slots-few t
+    (at-start .args .n) (at-start .pre .0) process) (at-if1 .if1 .left) l)
 
 pub parent-ok-spec : {M : Type 1} → statement M
 parent-ok-spec =

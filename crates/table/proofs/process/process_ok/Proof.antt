@@ -19,14 +19,20 @@ use Rattle.table.proofs.process.process_ok.Tie as tie
 own : (c : tie.After-index) → c .index .result ≡ cellOf (configuration (c .before .before .before .before .before .before .before .before .args .t .now)) process
     (c .before .before .before .before .before .before .before .before .args .p)
 own c =
-    let s = c .before .before .before .before .before .before .before .before in
-    let e = slots-read (s .args .t .now) (s .args .n) (s .pre .0 .0 .framed .header) process in
-    c .index .ensures ∙ s .pre .0 .1 (s .args .p) (omega (arith, s .pre .0 .5))
+    let at-record-at = c .before .before .before .before in let at-start = at-record-at .before .before .before .before in
+    let e = slots-read (at-start .args .t .now) (at-start .args .n) (at-start .pre .0 .0 .framed .header) process in
+    c .index .ensures ∙ at-start .pre .0 .1 (at-start .args .p) (omega (arith, at-start .pre .0 .5))
 
 low : (c : tie.After-index) → c .index .result < maxCells
 low c =
-    let s = c .before .before .before .before .before .before .before .before in
-    omega (arith, own c, cell-few (s .args .t .now) (s .args .n) (s .pre .0 .0) process (s .args .p) (s .pre .0 .5), s .pre .0 .0 .framed .small .few-cells)
+    let at-record-at = c .before .before .before .before in let at-start = at-record-at .before .before .before .before in
+    omega (
+      arith,
+      own c,
+      cell-few (at-start .args .t .now) (at-start .args .n) (at-start .pre .0 .0) process (at-start .args .p)
+          (at-start .pre .0 .5),
+      at-start .pre .0 .0 .framed .small .few-cells,
+    )
 
 record-at-requires : tie.Need-record-at-requires
 record-at-requires c κs = search needs
@@ -93,42 +99,48 @@ shared-slice-read-alive-2 c = search needs
 
 descriptors-ok-requires : tie.Need-descriptors-ok-requires
 descriptors-ok-requires c κs =
-    let s = c .before .before .before .before .before .before .before .before .before .before .before .before .before .before .before .before in (
-      s .pre .0 .0,
-      s .pre .0 .3,
-      s .pre .0 .4,
-      low (c .before .before .before .before .before .before .before .before),
-      s .pre .1 .1,
+    let at-parent-ok = c .before .before .before .before .before in let at-entry-at = at-parent-ok .before .before in
+    let at-index = at-entry-at .before in let at-record-at = at-index .before .before .before .before in
+    let at-start = at-record-at .before .before .before .before in (
+      at-start .pre .0 .0,
+      at-start .pre .0 .3,
+      at-start .pre .0 .4,
+      low at-index,
+      at-start .pre .1 .1,
       omega (
         arith,
-        c .before .before .before .before .before .before .before .entry-at .ensures .0,
-        c .before .before .before .before .before .before .before .before .before .before .before .before .record-at .ensures .at-is,
-        c .before .before .before .before .before .before .before .before .before .before .before .before .record-at .ensures .within,
-        s .pre .0 .0 .framed .exact,
+        at-entry-at .entry-at .ensures .0,
+        at-record-at .record-at .ensures .at-is,
+        at-record-at .record-at .ensures .within,
+        at-start .pre .0 .0 .framed .exact,
       ),
     )
 
 designators-ok-requires : tie.Need-designators-ok-requires
 designators-ok-requires c κs =
-    let s = c .before .before .before .before .before .before .before .before .before .before .before .before .before .before .before .before .before .before .before .before in (
-      s .pre .0 .0,
-      s .pre .0 .2,
-      s .pre .0 .4,
-      low (c .before .before .before .before .before .before .before .before .before .before .before .before),
-      s .pre .1 .0,
+    let at-descriptors-ok = c .before .before .before in let at-wide = at-descriptors-ok .before .before .before .before in
+    let at-entry-at2 = at-wide .before .before .before in let at-index = at-entry-at2 .before .before in
+    let at-record-at = at-index .before .before .before .before in let at-start = at-record-at .before .before .before .before in (
+      at-start .pre .0 .0,
+      at-start .pre .0 .2,
+      at-start .pre .0 .4,
+      low at-index,
+      at-start .pre .1 .0,
       omega (
         arith,
-        c .before .before .before .before .before .before .before .before .before .before .entry-at2 .ensures .0,
-        c .before .before .before .before .before .before .before .before .before .before .before .before .before .before .before .before .record-at .ensures .at-is,
-        c .before .before .before .before .before .before .before .before .before .before .before .before .before .before .before .before .record-at .ensures .within,
-        s .pre .0 .0 .framed .exact,
+        at-entry-at2 .entry-at2 .ensures .0,
+        at-record-at .record-at .ensures .at-is,
+        at-record-at .record-at .ensures .within,
+        at-start .pre .0 .0 .framed .exact,
       ),
     )
 
 messages-ok-requires : tie.Need-messages-ok-requires
 messages-ok-requires c κs =
-    let s = c .before .before .before .before .before .before .before .before .before .before .before .before .before .before .before .before .before .before .before .before .before .before .before in
-    (s .pre .0 .0, s .pre .0 .1, s .pre .0 .4, s .pre .0 .5)
+    let at-opens = c .before .before .before .before .before in let at-wide = at-opens .before .before .before .before .before in
+    let at-index = at-wide .before .before .before .before .before in let at-record-at = at-index .before .before .before .before in
+    let at-start = at-record-at .before .before .before .before in
+    (at-start .pre .0 .0, at-start .pre .0 .1, at-start .pre .0 .4, at-start .pre .0 .5)
 
 -- where the record was found, and the start
 abbrev at-record : tie.After-messages-ok → tie.After-record-at
@@ -155,48 +167,43 @@ same-length-2 c = search needs
 
 returns : tie.Need-returns
 returns c =
-    let m = c .before .before in
-    let s = start m in
+    let at-messages-ok = c .before .before in let at-designators-ok = at-messages-ok .before .before .before in
+    let at-descriptors-ok = at-designators-ok .before .before .before .before in let at-wide = at-descriptors-ok .before .before .before .before in
+    let at-parent-ok = at-wide .before .before in let at-entry-at2 = at-parent-ok .before in let at-entry-at = at-entry-at2 .before in
+    let at-index = at-entry-at .before in let at-if1 = at-index .before .before in
+    let s = start at-messages-ok in
     let t = s .args .t .now in
     let n = s .args .n in
     let p = s .args .p in
-    let lies = at-record m .record-at .ensures in
-    let mine = own (m .before .before .before .before .before .before .before .before .before .before .before .before .before .before .before .before) in
+    let lies = at-record at-messages-ok .record-at .ensures in
+    let mine = own at-index in
     let files = entries-read t n (s .pre .0 .0) p _ mine file (λ d. (omega arith, omega arith)) _
-    (m .before .before .before .before .before .before .before .before .before .before .before .before .before .before .before .entry-at .ensures .0) in
+    (at-entry-at .entry-at .ensures .0) in
     let segments = entries-read t n (s .pre .0 .0) p _ mine segment (λ d. (omega arith, omega arith)) _
-    (m .before .before .before .before .before .before .before .before .before .before .before .before .before .before .entry-at2 .ensures .0) in
+    (at-entry-at2 .entry-at2 .ensures .0) in
     let once = once-read t n (s .pre .0 .0) p _
-    (m .before .before .before .before .before .before .before .before .before .before .before .before .before .before .entry-at2 .ensures .0) in
-    let held = m .before .before .before .designators-ok .ensures .0 ∙ ap₂ _&&_ segments once in
+    (at-entry-at2 .entry-at2 .ensures .0) in
+    let held = at-designators-ok .designators-ok .ensures .0 ∙ ap₂ _&&_ segments once in
     let says =
-    c .record-ok .ensures
-    ∙ live-process t n (s .pre .0 .0) p _ lies _ _ _ _ _ _ _ _
-    (m .before .before .before .before .before .before .before .before .before .before .before .before .before .parent-ok .ensures)
-    (ap (λ (x : ℕ). leb x 8) (m .before .before .before .before .before .before .before .before .before .before .before .wide .ensures
-    ∙ record-word t n (s .pre .0 .0) process p queue _ lies))
-    (ap (λ (x : ℕ). leb x maxBits) (record-word t n (s .pre .0 .0) process p (bits process) _ lies))
-    (ap (λ (x : ℕ). eqb x 0) (record-word t n (s .pre .0 .0) process p zero7 _ lies))
-    (m .before .before .before .before .before .before .before .descriptors-ok .ensures .0 ∙ files)
-    held
-    (m .messages-ok .ensures)
+    c .record-ok .ensures ∙ live-process t n (s .pre .0 .0) p _ lies _ _ _ _ _ _ _ _ (at-parent-ok .parent-ok .ensures) (ap (λ (x : ℕ). leb x 8)
+    (at-wide .wide .ensures ∙ record-word t n (s .pre .0 .0) process p queue _ lies)) (ap (λ (x : ℕ). leb x maxBits) (record-word t n
+    (s .pre .0 .0) process p (bits process) _ lies)) (ap (λ (x : ℕ). eqb x 0) (record-word t n (s .pre .0 .0) process p zero7 _ lies))
+    (at-descriptors-ok .descriptors-ok .ensures .0 ∙ files) held (at-messages-ok .messages-ok .ensures)
     (c .before .pages-ok .ensures) in
     let alive = sym (record-word t n (s .pre .0 .0) process p live _ lies)
-    ∙ m .before .before .before .before .before .before .before .before .before .before .before .before .before .before .before .before .before .before .if1 .taken in (
+    ∙ at-if1 .if1 .taken in (
       says,
       (
         λ good.
             let right = right-segments (configuration t) (rd (configuration t) t) p alive (sym says ∙ good) in
-            live-counted t n (s .pre .0 .0) p _ mine segment (λ d. (omega arith, omega arith)) _
-            (m .before .before .before .before .before .before .before .before .before .before .before .before .before .before .entry-at2 .ensures .0) _ _ _
-            (m .before .before .before .designators-ok .ensures .1) (held ∙ and-both _ _ right
+            live-counted t n (s .pre .0 .0) p _ mine segment (λ d. (omega arith, omega arith)) _ (at-entry-at2 .entry-at2 .ensures .0) _ _ _
+            (at-designators-ok .designators-ok .ensures .1) (held ∙ and-both _ _ right
             (right-once (configuration t) (rd (configuration t) t) p alive (sym says ∙ good))) right,
         λ good.
             let right = right-files (configuration t) (rd (configuration t) t) p alive (sym says ∙ good) in
-            live-counted t n (s .pre .0 .0) p _ mine file (λ d. (omega arith, omega arith)) _
-            (m .before .before .before .before .before .before .before .before .before .before .before .before .before .before .before .entry-at .ensures .0) _ _ _
-            (m .before .before .before .before .before .before .before .descriptors-ok .ensures .1)
-            (m .before .before .before .before .before .before .before .descriptors-ok .ensures .0 ∙ files ∙ right) right,
+            live-counted t n (s .pre .0 .0) p _ mine file (λ d. (omega arith, omega arith)) _ (at-entry-at .entry-at .ensures .0) _ _ _
+            (at-descriptors-ok .descriptors-ok .ensures .1)
+            (at-descriptors-ok .descriptors-ok .ensures .0 ∙ files ∙ right) right,
       ),
     )
 
@@ -205,13 +212,14 @@ record-ok-requires-2 c κs = search needs
 
 returns-2 : tie.Need-returns-2
 returns-2 c =
-    let s = c .before .before .before .before .before .before .before in
-    let t = s .args .t .now in
-    let n = s .args .n in
-    let p = s .args .p in
-    let lies = c .before .before .before .record-at .ensures in
-    let free : rd (configuration t) t (at process p live) ≡ 1 → ⊥ = λ e. c .before .if1 .left (record-word t n (s .pre .0 .0) process p live _ lies ∙ e) in
-    let says = c .record-ok2 .ensures ∙ dead-process t n (s .pre .0 .0) p _ lies free _ in (
+    let at-record-at = c .before .before .before in let at-start = at-record-at .before .before .before .before in
+    let t = at-start .args .t .now in
+    let n = at-start .args .n in
+    let p = at-start .args .p in
+    let lies = at-record-at .record-at .ensures in
+    let free : rd (configuration t) t (at process p live) ≡ 1 → ⊥ = λ e. c .before .if1 .left (record-word t n
+    (at-start .pre .0 .0) process p live _ lies ∙ e) in
+    let says = c .record-ok2 .ensures ∙ dead-process t n (at-start .pre .0 .0) p _ lies free _ in (
       says,
       (
         λ good. free-counted _ _ p free segment _ (sym says ∙ good) (λ d l. (omega arith, omega arith)),

@@ -31,20 +31,28 @@ slots-requires c κs = search needs
 
 loop-holds : tie.Need-loop-holds Inv-loop μ-loop
 loop-holds c =
-    let s = c .before .before .before .before in (
+    let at-start = c .before .before .before .before in (
       search needs,
-      c .slots .ensures ∙ sym (slots-read (s .args .t .now) (s .args .n) (s .pre .0 .0 .framed .header) process),
+      c .slots .ensures ∙ sym (slots-read (at-start .args .t .now) (at-start .args .n) (at-start .pre .0 .0 .framed .header) process),
       c .slots .ensures,
       all-first _,
-      s .pre .1 .0,
-      s .pre .1 .1,
+      at-start .pre .1 .0,
+      at-start .pre .1 .1,
     )
 
 process-ok-requires : tie.Need-process-ok-requires Inv-loop μ-loop
 process-ok-requires c κs =
-    let s = c .before .before .before .before .before .before .before .before in
-    let l = c .before .before .before .loop in (
-      (s .pre .0 .0, s .pre .0 .1, s .pre .0 .2, s .pre .0 .3, s .pre .0 .4, omega (arith, l .inv .2, c .before .before .loop-test .taken)),
+    let at-in-loop = c .before .before in let at-loop = at-in-loop .before in let at-start = at-loop .before .before .before .before .before in
+    let l = at-loop .loop in (
+      (
+        at-start .pre .0 .0,
+        at-start .pre .0 .1,
+        at-start .pre .0 .2,
+        at-start .pre .0 .3,
+        at-start .pre .0 .4,
+        omega
+            (arith, l .inv .2, at-in-loop .loop-test .taken),
+      ),
       (
         record {
           long = l .inv .4 .long;
@@ -52,8 +60,8 @@ process-ok-requires c κs =
             arith,
             l .inv .4 .few i m,
             l .inv .2,
-            c .before .before .loop-test .taken,
-            s .pre .0 .0 .framed .small .few-processes,
+            at-in-loop .loop-test .taken,
+            at-start .pre .0 .0 .framed .small .few-processes,
           );
         },
         record {
@@ -62,8 +70,8 @@ process-ok-requires c κs =
             arith,
             l .inv .5 .few i m,
             l .inv .2,
-            c .before .before .loop-test .taken,
-            s .pre .0 .0 .framed .small .few-processes,
+            at-in-loop .loop-test .taken,
+            at-start .pre .0 .0 .framed .small .few-processes,
           );
         },
       ),
@@ -77,10 +85,12 @@ same-length-2 c = search needs
 
 returns : tie.Need-returns Inv-loop μ-loop
 returns c =
-    let l = c .before .before .before .before .before .before .before .before .before .loop in
+    let at-process-ok = c .before .before .before .before .before in let at-in-loop = at-process-ok .before .before .before in
+    let at-loop = at-in-loop .before in
+    let l = at-loop .loop in
     let bad = failed _ (c .if1 .taken) in (
-      sym (all-not _ _ (l .p) (omega (arith, l .inv .1, c .before .before .before .before .before .before .before .before .loop-test .taken))
-          (sym (c .before .before .before .before .before .process-ok .ensures .0) ∙ bad)),
+      sym (all-not _ _ (l .p) (omega (arith, l .inv .1, at-in-loop .loop-test .taken))
+          (sym (at-process-ok .process-ok .ensures .0) ∙ bad)),
       (λ e. absurd (true≢false (sym e)), λ e. absurd (true≢false (sym e))),
     )
 
@@ -92,16 +102,17 @@ loop-less c = search needs
 
 loop-again : tie.Need-loop-again Inv-loop μ-loop
 loop-again c =
-    let l = c .before .before .before .before .before .before .before .before .before .loop in
+    let at-process-ok = c .before .before .before .before .before in let at-loop = at-process-ok .before .before .before .before in
+    let l = at-loop .loop in
     let good = passed _ (c .if1 .left) in (
       search needs,
       search needs,
       search needs,
-      all-next _ (l .inv .3) (sym good ∙ c .before .before .before .before .before .process-ok .ensures .0),
-      tally-next _ _ _ (l .p) _ _ (l .inv .4) (c .before .before .before .before .before .process-ok .ensures .1 .0 good)
-          (c .before .before .before .before .before .process-ok .kept .1 .1 .1 .1 .1 .1 .1 .0),
-      tally-next _ _ _ (l .p) _ _ (l .inv .5) (c .before .before .before .before .before .process-ok .ensures .1 .1 good)
-          (c .before .before .before .before .before .process-ok .kept .1 .1 .1 .1 .1 .1 .1 .1 .0),
+      all-next _ (l .inv .3) (sym good ∙ at-process-ok .process-ok .ensures .0),
+      tally-next _ _ _ (l .p) _ _ (l .inv .4) (at-process-ok .process-ok .ensures .1 .0 good)
+          (at-process-ok .process-ok .kept .1 .1 .1 .1 .1 .1 .1 .0),
+      tally-next _ _ _ (l .p) _ _ (l .inv .5) (at-process-ok .process-ok .ensures .1 .1 good)
+          (at-process-ok .process-ok .kept .1 .1 .1 .1 .1 .1 .1 .1 .0),
     )
 
 same-length-3 : tie.Need-same-length-3 Inv-loop μ-loop
@@ -112,8 +123,9 @@ same-length-4 c = search needs
 
 returns-2 : tie.Need-returns-2 Inv-loop μ-loop
 returns-2 c =
+    let at-slots = c .before .before in let at-start = at-slots .before .before .before .before in
     let l = c .before .loop in
-    let end : l .p ≡ slots (configuration (c .before .before .before .before .before .before .args .t .now)) process =
+    let end : l .p ≡ slots (configuration (at-start .args .t .now)) process =
     omega (arith, l .inv .0, l .inv .1, c .loop-test .left) in
     (all-last _ (l .inv .3) (l .inv .0) (c .loop-test .left) (l .inv .1), (λ e. rw end at (l .inv .4), λ e. rw end at (l .inv .5)))
 

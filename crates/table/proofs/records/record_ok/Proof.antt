@@ -36,8 +36,10 @@ zeros-requires c κs = search needs
 
 returns : tie.Need-returns
 returns c =
-    let a = c .before .before .before .before .before .before .args in
-    rw (c .zeros .ensures, c .before .record-words .ensures) (free-record (recordAt (a .t .now) (a .at)) (kindOf (a .kind)) 0 (is (a .alive)) (c .before .before .if1 .taken))
+    let at-if1 = c .before .before in let at-start = at-if1 .before .before .before .before in
+    let a = at-start .args in
+    rw (c .zeros .ensures, c .before .record-words .ensures) (free-record (recordAt (a .t .now) (a .at)) (kindOf (a .kind)) 0 (is (a .alive))
+    (at-if1 .if1 .taken))
 
 add-owned : tie.Need-add-owned
 add-owned c = search needs
@@ -59,8 +61,9 @@ shared-slice-read-owned-2 c = search needs
 
 returns-2 : tie.Need-returns-2
 returns-2 c =
-    let a = c .before .before .before .before .before .before .args in
-    other-record (recordAt (a .t .now) (a .at)) (kindOf (a .kind)) 0 (is (a .alive)) (c .before .before .if1 .left)
+    let at-if1 = c .before .before in let at-start = at-if1 .before .before .before .before in
+    let a = at-start .args in
+    other-record (recordAt (a .t .now) (a .at)) (kindOf (a .kind)) 0 (is (a .alive)) (at-if1 .if1 .left)
 
 pub record-ok-spec : {M : Type 1} → statement M
 record-ok-spec =

@@ -36,43 +36,44 @@ wide-requires c κs = search needs
 
 loop-holds : tie.Need-loop-holds Inv-loop2 μ-loop2 Inv-loop μ-loop
 unfolding firstSlot
-loop-holds c = (
-  search needs,
-  c .wide .ensures ∙ sym (cells-read _ _ (c .before .before .before .before .pre .0 .framed .header)),
-  ap length (c .before .before .before .before .pre .1) ∙ length-replicate {A = ℕ} maxSlots 0,
-  search needs,
-  λ κ e. (sum-first _, filled-none _ κ _ (c .before .before .before .before .pre .1)),
-)
+loop-holds c =
+    let at-start = c .before .before .before .before in (
+      search needs,
+      c .wide .ensures ∙ sym (cells-read _ _ (at-start .pre .0 .framed .header)),
+      ap length (at-start .pre .1) ∙ length-replicate {A = ℕ} maxSlots 0,
+      search needs,
+      λ κ e. (sum-first _, filled-none _ κ _ (at-start .pre .1)),
+    )
 
 mul-wide : tie.Need-mul-wide Inv-loop2 μ-loop2 Inv-loop μ-loop
 mul-wide c =
-    let s = c .before .before .before .before .before .before in
-    omega (arith, c .before .before .wide .ensures, c .loop-test .taken, s .pre .0 .framed .small .few-cells)
+    let at-wide = c .before .before in let at-start = at-wide .before .before .before .before in
+    omega (arith, at-wide .wide .ensures, c .loop-test .taken, at-start .pre .0 .framed .small .few-cells)
 
 add-wide : tie.Need-add-wide Inv-loop2 μ-loop2 Inv-loop μ-loop
 add-wide c =
-    let s = c .before .before .before .before .before .before in
-    omega (arith, c .before .before .wide .ensures, c .loop-test .taken, s .pre .0 .framed .small .few-cells)
+    let at-wide = c .before .before in let at-start = at-wide .before .before .before .before in
+    omega (arith, at-wide .wide .ensures, c .loop-test .taken, at-start .pre .0 .framed .small .few-cells)
 
 add-wide-2 : tie.Need-add-wide-2 Inv-loop2 μ-loop2 Inv-loop μ-loop
 add-wide-2 c =
-    let s = c .before .before .before .before .before .before in
-    omega (arith, c .before .before .wide .ensures, c .loop-test .taken, s .pre .0 .framed .small .few-cells, c .before .before .before .cell-word .ensures .1)
+    let at-wide = c .before .before in let at-cell-word = at-wide .before in let at-start = at-cell-word .before .before .before in
+    omega (arith, at-wide .wide .ensures, c .loop-test .taken, at-start .pre .0 .framed .small .few-cells, at-cell-word .cell-word .ensures .1)
 
 mul-wide-2 : tie.Need-mul-wide-2 Inv-loop2 μ-loop2 Inv-loop μ-loop
 mul-wide-2 c =
-    let s = c .before .before .before .before .before .before in
-    omega (arith, c .before .before .wide .ensures, c .loop-test .taken, s .pre .0 .framed .small .few-cells, c .before .before .before .cell-word .ensures .1)
+    let at-wide = c .before .before in let at-cell-word = at-wide .before in let at-start = at-cell-word .before .before .before in
+    omega (arith, at-wide .wide .ensures, c .loop-test .taken, at-start .pre .0 .framed .small .few-cells, at-cell-word .cell-word .ensures .1)
 
 shared-slice-read-wide : tie.Need-shared-slice-read-wide Inv-loop2 μ-loop2 Inv-loop μ-loop
 shared-slice-read-wide c =
-    let s = c .before .before .before .before .before .before .before in
+    let at-wide = c .before .before .before in let at-cell-word = at-wide .before in let at-start = at-cell-word .before .before .before in
     omega (
       arith,
-      c .before .before .before .wide .ensures,
+      at-wide .wide .ensures,
       c .before .loop-test .taken,
-      s .pre .0 .framed .exact,
-      c .before .before .before .before .cell-word .ensures .1,
+      at-start .pre .0 .framed .exact,
+      at-cell-word .cell-word .ensures .1,
     )
 
 wide-requires-2 : tie.Need-wide-requires-2 Inv-loop2 μ-loop2 Inv-loop μ-loop
@@ -80,41 +81,43 @@ wide-requires-2 c κs = search needs
 
 add-end : tie.Need-add-end Inv-loop2 μ-loop2 Inv-loop μ-loop
 add-end c =
-    let s = c .before .before .before .before .before in
+    let at-loop = c .before .before .before in let at-cell-word = at-loop .before .before in
     omega (
       arith,
       c .wide2 .ensures,
-      c .before .before .before .loop .inv .3,
-      c .before .shared-slice-known2 .given (cellAt (c .before .before .before .loop .c) (s .cell-word .result)),
+      at-loop .loop .inv .3,
+      c .before .shared-slice-known2 .given (cellAt (at-loop .loop .c) (at-cell-word .cell-word .result)),
     )
 
 loop2-holds : tie.Need-loop2-holds Inv-loop2 μ-loop2 Inv-loop μ-loop
 loop2-holds c =
-    let s = c .before .before .before .before .before .before .before .before in
-    let t = s .args .t .now in
-    let κ₀ = kindOf (s .args .kind) in
-    let e₀ = sym (c .before .before .before .before .before .cell-word .ensures .0) in
-    let l = c .before .before .before .loop in
-    let in-table : l .c < s .args .n .cells = omega (arith, c .before .before .before .before .wide .ensures, c .before .before .loop-test .taken) in
-    let is : s .args .n .cells ≡ cells (configuration t) = sym (cells-read t (s .args .n) (s .pre .0 .framed .header)) in
-    let next : (κ : Kind) → cellSlotsWord κ ≡ c .before .before .before .before .before .cell-word .result
+    let at-in-loop = c .before .before in let at-loop = at-in-loop .before in let at-wide = at-loop .before in
+    let at-cell-word = at-wide .before in let at-start = at-cell-word .before .before .before in
+    let t = at-start .args .t .now in
+    let κ₀ = kindOf (at-start .args .kind) in
+    let e₀ = sym (at-cell-word .cell-word .ensures .0) in
+    let l = at-loop .loop in
+    let in-table : l .c < at-start .args .n .cells = omega (arith, at-wide .wide .ensures, at-in-loop .loop-test .taken) in
+    let is : at-start .args .n .cells ≡ cells (configuration t) = sym (cells-read t (at-start .args .n) (at-start .pre .0 .framed .header)) in
+    let next : (κ : Kind) → cellSlotsWord κ ≡ at-cell-word .cell-word .result
     → firstSlot (configuration t) κ (l .c) + c .wide2 .result ≡ firstSlot (configuration t) κ (l .c + 1) =
-    λ κ e. run-next t (s .args .n) (s .pre .0) κ (l .c) _ _ (omega (arith, in-table, s .pre .0 .framed .header .cells-is))
-    (c .before .before .before .before .before .cell-word .ensures .1) e (c .wide2 .ensures) in (
+    λ κ e. run-next t (at-start .args .n) (at-start .pre .0) κ (l .c) _ _ (omega (arith, in-table, at-start .pre .0 .framed .header .cells-is))
+    (at-cell-word .cell-word .ensures .1) e (c .wide2 .ensures) in (
       search needs,
-      omega (arith, l .inv .4 κ₀ e₀ .0, next κ₀ e₀, run-fits t (s .args .n) (s .pre .0) κ₀ (l .c) in-table is),
+      omega (arith, l .inv .4 κ₀ e₀ .0, next κ₀ e₀, run-fits t (at-start .args .n) (at-start .pre .0) κ₀ (l .c) in-table is),
       search needs,
       λ κ e. (omega (arith, l .inv .4 κ e .0), omega (arith, l .inv .4 κ e .0, next κ e), l .inv .4 κ e .1),
     )
 
 cast-of : tie.Need-cast-of Inv-loop2 μ-loop2 Inv-loop μ-loop
 cast-of c =
-    let s = c .before .before .before .before .before .before .before .before .before .before in
+    let at-in-loop = c .before .before .before .before in let at-wide = at-in-loop .before .before in
+    let at-start = at-wide .before .before .before .before in
     omega (
       arith,
-      c .before .before .before .before .before .before .wide .ensures,
-      c .before .before .before .before .loop-test .taken,
-      s .pre .0 .framed .small .few-cells,
+      at-wide .wide .ensures,
+      at-in-loop .loop-test .taken,
+      at-start .pre .0 .framed .small .few-cells,
     )
 
 slice-write-of : tie.Need-slice-write-of Inv-loop2 μ-loop2 Inv-loop μ-loop
@@ -128,6 +131,7 @@ loop2-less c = search needs
 
 loop2-again : tie.Need-loop2-again Inv-loop2 μ-loop2 Inv-loop μ-loop
 loop2-again c =
+    let at-in-loop = c .before .before .before .before in let at-loop = at-in-loop .before in
     let l = c .before .loop2 in
     let f = l .inv .3 in (
       search needs,
@@ -136,11 +140,11 @@ loop2-again c =
       λ κ e. (
         omega (arith, f κ e .0),
         f κ e .1,
-        filled-more _ κ (l .of) (l .i) (c .before .before .before .before .before .loop .c)
+        filled-more _ κ (l .of) (l .i) (at-loop .loop .c)
             (omega (arith, c .loop2-test .taken, l .inv .1)) (omega (
               arith,
-              c .before .before .before .before .loop-test .taken,
-              c .before .before .before .before .before .loop .inv .1,
+              at-in-loop .loop-test .taken,
+              at-loop .loop .inv .1,
             )) (f κ e .0) (omega (arith, f κ e .1, c .loop2-test .taken)) (f κ e .2),
       ),
     )
@@ -167,12 +171,12 @@ same-length c = search needs
 
 returns : tie.Need-returns Inv-loop2 μ-loop2 Inv-loop μ-loop
 returns c =
-    let s = c .before .before .before .before .before .before in
+    let at-cell-word = c .before .before .before in let at-start = at-cell-word .before .before .before in
     let l = c .before .loop in
-    let κ₀ = kindOf (s .args .kind) in
-    let f = l .inv .4 κ₀ (sym (c .before .before .before .cell-word .ensures .0)) in
-    let all : l .c ≡ cells (configuration (s .args .t .now)) = omega (arith, l .inv .0, l .inv .1, c .loop-test .left) in
-    filled-all _ κ₀ _ (l .i) (f .0 ∙ ap (firstSlot (configuration (s .args .t .now)) κ₀) all ∙ s .pre .0 .sums κ₀) (f .1)
+    let κ₀ = kindOf (at-start .args .kind) in
+    let f = l .inv .4 κ₀ (sym (at-cell-word .cell-word .ensures .0)) in
+    let all : l .c ≡ cells (configuration (at-start .args .t .now)) = omega (arith, l .inv .0, l .inv .1, c .loop-test .left) in
+    filled-all _ κ₀ _ (l .i) (f .0 ∙ ap (firstSlot (configuration (at-start .args .t .now)) κ₀) all ∙ at-start .pre .0 .sums κ₀) (f .1)
 
 pub slot-cells-spec : {M : Type 1} → statement M
 slot-cells-spec =

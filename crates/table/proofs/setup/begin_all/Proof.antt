@@ -51,56 +51,64 @@ mul-owner c =
     omega (arith, begun-low _ _ _ _ _ _ (s .loop .inv), cell-in _ _ _ _ _ _ (s .loop .inv) (c .before .before .loop-test .taken))
 
 slice-read-owner : tie.Need-slice-read-owner Inv-loop μ-loop
-slice-read-owner c = omega (arith, cell-in _ _ _ _ _ _ (c .before .before .before .before .loop .inv) (c .before .before .before .loop-test .taken))
+slice-read-owner c =
+    let at-in-loop = c .before .before .before in let at-loop = at-in-loop .before in
+    omega (arith, cell-in _ _ _ _ _ _ (at-loop .loop .inv) (at-in-loop .loop-test .taken))
 
 add-group : tie.Need-add-group Inv-loop μ-loop
 add-group c =
-    let s = c .before .before .before .before in
-    omega (arith, begun-low _ _ _ _ _ _ (s .loop .inv), cell-in _ _ _ _ _ _ (s .loop .inv) (c .before .before .before .loop-test .taken))
+    let at-in-loop = c .before .before .before in let at-loop = at-in-loop .before in
+    omega (arith, begun-low _ _ _ _ _ _ (at-loop .loop .inv), cell-in _ _ _ _ _ _ (at-loop .loop .inv) (at-in-loop .loop-test .taken))
 
 mul-group : tie.Need-mul-group Inv-loop μ-loop
 mul-group c =
-    let s = c .before .before .before .before in
-    omega (arith, begun-low _ _ _ _ _ _ (s .loop .inv), cell-in _ _ _ _ _ _ (s .loop .inv) (c .before .before .before .loop-test .taken))
+    let at-in-loop = c .before .before .before in let at-loop = at-in-loop .before in
+    omega (arith, begun-low _ _ _ _ _ _ (at-loop .loop .inv), cell-in _ _ _ _ _ _ (at-loop .loop .inv) (at-in-loop .loop-test .taken))
 
 slice-read-group : tie.Need-slice-read-group Inv-loop μ-loop
-slice-read-group c = omega (arith, cell-in _ _ _ _ _ _ (c .before .before .before .before .before .loop .inv) (c .before .before .before .before .loop-test .taken))
+slice-read-group c =
+    let at-in-loop = c .before .before .before .before in let at-loop = at-in-loop .before in
+    omega (arith, cell-in _ _ _ _ _ _ (at-loop .loop .inv) (at-in-loop .loop-test .taken))
 
 mul-begin : tie.Need-mul-begin Inv-loop μ-loop
 mul-begin c =
-    let s = c .before .before .before .before .before .before in
-    omega (arith, begun-low _ _ _ _ _ _ (s .loop .inv), record-in _ _ _ _ _ _ (s .loop .inv) (c .before .before .before .before .before .loop-test .taken))
+    let at-in-loop = c .before .before .before .before .before in let at-loop = at-in-loop .before in
+    omega (arith, begun-low _ _ _ _ _ _ (at-loop .loop .inv), record-in _ _ _ _ _ _ (at-loop .loop .inv) (at-in-loop .loop-test .taken))
 
 add-begin : tie.Need-add-begin Inv-loop μ-loop
 add-begin c =
-    let s = c .before .before .before .before .before .before in
-    omega (arith, begun-low _ _ _ _ _ _ (s .loop .inv), record-in _ _ _ _ _ _ (s .loop .inv) (c .before .before .before .before .before .loop-test .taken))
+    let at-in-loop = c .before .before .before .before .before in let at-loop = at-in-loop .before in
+    omega (arith, begun-low _ _ _ _ _ _ (at-loop .loop .inv), record-in _ _ _ _ _ _ (at-loop .loop .inv) (at-in-loop .loop-test .taken))
 
 begin-requires : tie.Need-begin-requires Inv-loop μ-loop
 begin-requires c κs =
-    let s = c .before .before .before .before .before .before in
-    omega (arith, record-in _ _ _ _ _ _ (s .loop .inv) (c .before .before .before .before .before .loop-test .taken))
+    let at-in-loop = c .before .before .before .before .before in let at-loop = at-in-loop .before in
+    omega (arith, record-in _ _ _ _ _ _ (at-loop .loop .inv) (at-in-loop .loop-test .taken))
 
 add-slot : tie.Need-add-slot Inv-loop μ-loop
 add-slot c =
-    let s = c .before .before .before .before .before .before .before .before .before in
+    let at-begin = c .before .before in let at-wide2 = at-begin .before .before .before .before in let at-in-loop = at-wide2 .before .before in
+    let at-loop = at-in-loop .before in
     omega (
       arith,
-      slot-in _ _ _ _ _ _ (s .loop .inv) (c .before .before .before .before .before .before .before .before .loop-test .taken) _
-          (c .before .before .before .before .before .before .wide2 .ensures),
+      slot-in _ _ _ _ _ _ (at-loop .loop .inv) (at-in-loop .loop-test .taken) _
+          (at-wide2 .wide2 .ensures),
     )
 
 add-c : tie.Need-add-c Inv-loop μ-loop
-add-c c = omega (arith, c .before .before .before .before .before .before .before .before .loop-test .taken)
+add-c c =
+    let at-begin = c .before .before in let at-wide2 = at-begin .before .before .before .before in let at-in-loop = at-wide2 .before .before in
+    omega (arith, at-in-loop .loop-test .taken)
 
 loop-less : tie.Need-loop-less Inv-loop μ-loop
 loop-less c = search needs
 
 loop-again : tie.Need-loop-again Inv-loop μ-loop
 loop-again c =
-    let s = c .before .before .before .before .before .before .before .before .before in
-    begun-more _ _ _ _ _ _ (s .loop .inv) (c .before .before .before .before .before .before .before .before .loop-test .taken) _ _ _ _
-    (c .before .before .before .before .before .before .wide2 .ensures) refl refl (c .before .before .begin .ensures)
+    let at-begin = c .before .before in let at-wide2 = at-begin .before .before .before .before in let at-in-loop = at-wide2 .before .before in
+    let at-loop = at-in-loop .before in
+    begun-more _ _ _ _ _ _ (at-loop .loop .inv) (at-in-loop .loop-test .taken) _ _ _ _ (at-wide2 .wide2 .ensures) refl refl
+    (at-begin .begin .ensures)
 
 same-length : tie.Need-same-length Inv-loop μ-loop
 same-length c = begun-long _ _ _ _ _ _ (c .before .loop .inv)

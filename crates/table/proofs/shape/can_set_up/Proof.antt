@@ -28,15 +28,16 @@ returns-3 c = sym (wrong-lengths _ _ (sym (c .before .lengths-exact .ensures) �
 
 cells-right-requires : tie.Need-cells-right-requires
 cells-right-requires c κs =
-    let is = header-read _ _ (c .before .before .before .before .header-of .ensures) in
-    framed-of _ _ is _ (small-of _ _ is (sym (c .before .before .before .header-ok .ensures) ∙ passed _ (c .before .before .if2 .left)))
-    (sym (c .before .lengths-exact .ensures) ∙ passed _ (c .if3 .left))
+    let at-if2 = c .before .before in let at-header-ok = at-if2 .before in let at-header-of = at-header-ok .before in
+    let is = header-read _ _ (at-header-of .header-of .ensures) in
+    framed-of _ _ is _ (small-of _ _ is (sym (at-header-ok .header-ok .ensures) ∙ passed _ (at-if2 .if2 .left))) (sym
+    (c .before .lengths-exact .ensures) ∙ passed _ (c .if3 .left))
 
 returns-4 : tie.Need-returns-4
 returns-4 c =
-    c .cells-right .ensures
-    ∙ right-frame _ _ (sym (c .before .before .before .before .header-ok .ensures) ∙ passed _ (c .before .before .before .if2 .left))
-    (sym (c .before .before .lengths-exact .ensures) ∙ passed _ (c .before .if3 .left))
+    let at-lengths-exact = c .before .before in let at-if2 = at-lengths-exact .before in let at-header-ok = at-if2 .before in
+    c .cells-right .ensures ∙ right-frame _ _ (sym (at-header-ok .header-ok .ensures) ∙ passed _ (at-if2 .if2 .left)) (sym
+    (at-lengths-exact .lengths-exact .ensures) ∙ passed _ (c .before .if3 .left))
 
 pub can-set-up-spec : {M : Type 1} → statement M
 can-set-up-spec =

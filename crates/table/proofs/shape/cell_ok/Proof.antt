@@ -59,15 +59,15 @@ shared-slice-read-result-5 c = search needs
 returns : tie.Need-returns
 unfolding cellOk
 returns c =
-    let s = c .before .before .before .before .before in
-    let t = s .args .t .now in
-    let c = s .args .c in
+    let at-start = c .before .before .before .before .before in
+    let t = at-start .args .t .now in
+    let c = at-start .args .c in
     rw (
-      cell-word t c 0 (s .pre .0) (search needs),
-      cell-word t c 1 (s .pre .0) (search needs),
-      cell-word t c 3 (s .pre .0) (search needs),
-      cell-word t c 6 (s .pre .0) (search needs),
-      cell-word t c 7 (s .pre .0) (search needs),
+      cell-word t c 0 (at-start .pre .0) (search needs),
+      cell-word t c 1 (at-start .pre .0) (search needs),
+      cell-word t c 3 (at-start .pre .0) (search needs),
+      cell-word t c 6 (at-start .pre .0) (search needs),
+      cell-word t c 7 (at-start .pre .0) (search needs),
     )
 
 pub cell-ok-spec : {M : Type 1} → statement M

@@ -25,10 +25,11 @@ loop-holds : tie.Need-loop-holds Inv-loop μ-loop
 loop-holds c = (search needs, c .wide .ensures ∙ sym (cells-read _ _ (c .before .before .pre .header)), all-first _)
 
 cell-ok-requires : tie.Need-cell-ok-requires Inv-loop μ-loop
-cell-ok-requires c κs = (
-  omega (arith, c .before .before .wide .ensures, c .loop-test .taken, c .before .before .before .before .pre .header .cells-is),
-  omega (arith, c .before .before .wide .ensures, c .loop-test .taken, c .before .before .before .before .pre .exact),
-)
+cell-ok-requires c κs =
+    let at-wide = c .before .before in let at-start = at-wide .before .before in (
+      omega (arith, at-wide .wide .ensures, c .loop-test .taken, at-start .pre .header .cells-is),
+      omega (arith, at-wide .wide .ensures, c .loop-test .taken, at-start .pre .exact),
+    )
 
 add-c : tie.Need-add-c Inv-loop μ-loop
 add-c c = search needs

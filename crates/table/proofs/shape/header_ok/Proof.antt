@@ -27,16 +27,17 @@ shared-slice-read-result-2 c = search needs
 returns : tie.Need-returns
 unfolding headerOk
 returns c =
-    let s = c .before .before .before .before .before .before .before .before .before .before .before in
-    let t = s .args .t .now in
-    let n = s .args .n in
+    let at-struct-known6 = c .before .before .before .before .before in
+    let at-struct-known = at-struct-known6 .before .before .before .before .before in let at-start = at-struct-known .before in
+    let t = at-start .args .t .now in
+    let n = at-start .args .n in
     rw (
-      cells-read t n (s .pre .1),
-      slots-read t n (s .pre .1) process,
-      slots-read t n (s .pre .1) segment,
-      slots-read t n (s .pre .1) file,
-      blocks-read t n (s .pre .1),
-      guard-read t n (s .pre .1),
+      cells-read t n (at-start .pre .1),
+      slots-read t n (at-start .pre .1) process,
+      slots-read t n (at-start .pre .1) segment,
+      slots-read t n (at-start .pre .1) file,
+      blocks-read t n (at-start .pre .1),
+      guard-read t n (at-start .pre .1),
       head-word t 6 (search needs),
       head-word t 7 (search needs),
     )

@@ -18,26 +18,28 @@ wide-requires-2 : tie.Need-wide-requires-2
 wide-requires-2 c κs = search needs
 
 mul-result : tie.Need-mul-result
-mul-result c = omega (arith, c .wide2 .ensures, c .before .before .before .before .pre .1 .few-blocks)
+mul-result c =
+    let at-start = c .before .before .before .before in
+    omega (arith, c .wide2 .ensures, at-start .pre .1 .few-blocks)
 
 mul-result-2 : tie.Need-mul-result-2
 mul-result-2 c =
-    let s = c .before .before .before .before in
-    rw (c .before .wide .ensures, c .wide2 .ensures) (omega (arith, mul-le-mul (s .pre .1 .few-files) (s .pre .1 .few-blocks)))
+    let at-start = c .before .before .before .before in
+    rw (c .before .wide .ensures, c .wide2 .ensures) (omega (arith, mul-le-mul (at-start .pre .1 .few-files) (at-start .pre .1 .few-blocks)))
 
 returns : tie.Need-returns
 unfolding lengthsExact
 returns c =
-    let s = c .before .before .before .before in
-    let t = s .args .t .now in
-    let n = s .args .n in
+    let at-table-words = c .before .before in let at-start = at-table-words .before .before in
+    let t = at-start .args .t .now in
+    let n = at-start .args .n in
     rw (
-      c .before .before .table-words .ensures,
+      at-table-words .table-words .ensures,
       c .before .wide .ensures,
       c .wide2 .ensures,
-      base-read t n (s .pre .0) file,
-      slots-read t n (s .pre .0) file,
-      blocks-read t n (s .pre .0),
+      base-read t n (at-start .pre .0) file,
+      slots-read t n (at-start .pre .0) file,
+      blocks-read t n (at-start .pre .0),
     )
 
 pub lengths-exact-spec : {M : Type 1} → statement M

@@ -61,13 +61,19 @@ array-copy-out-mine : tie.Need-array-copy-out-mine Inv-loop2 μ-loop2 Inv-loop �
 array-copy-out-mine c = omega (arith, c .before .loop .inv .2, c .loop-test .taken)
 
 loop2-holds : tie.Need-loop2-holds Inv-loop2 μ-loop2 Inv-loop μ-loop
-loop2-holds c = (search needs, pair-first (differ (c .before .before .before .before .before .before .args .t .now)) _ (c .before .before .loop .inv .3))
+loop2-holds c =
+    let at-loop = c .before .before in let at-start = at-loop .before .before .before .before in
+    (search needs, pair-first (differ (at-start .args .t .now)) _ (at-loop .loop .inv .3))
 
 mul-other : tie.Need-mul-other Inv-loop2 μ-loop2 Inv-loop μ-loop
-mul-other c = omega (arith, c .before .before .before .before .loop .inv .2, c .before .before .before .loop-test .taken, c .loop2-test .taken)
+mul-other c =
+    let at-in-loop = c .before .before .before in let at-loop = at-in-loop .before in
+    omega (arith, at-loop .loop .inv .2, at-in-loop .loop-test .taken, c .loop2-test .taken)
 
 array-copy-out-other : tie.Need-array-copy-out-other Inv-loop2 μ-loop2 Inv-loop μ-loop
-array-copy-out-other c = omega (arith, c .before .before .before .before .loop .inv .2, c .before .before .before .loop-test .taken, c .loop2-test .taken)
+array-copy-out-other c =
+    let at-in-loop = c .before .before .before in let at-loop = at-in-loop .before in
+    omega (arith, at-loop .loop .inv .2, at-in-loop .loop-test .taken, c .loop2-test .taken)
 
 equals-requires : tie.Need-equals-requires Inv-loop2 μ-loop2 Inv-loop μ-loop
 equals-requires c κs = search needs
@@ -80,13 +86,14 @@ loop2-less c = search needs
 
 loop2-again : tie.Need-loop2-again Inv-loop2 μ-loop2 Inv-loop μ-loop
 loop2-again c =
-    let at-loop2 = c .before .before .before in let at-loop = at-loop2 .before .before .before in let at-levels = at-loop .before .before in
+    let at-in-loop2 = c .before .before in let at-loop2 = at-in-loop2 .before in let at-in-loop = at-loop2 .before .before in
+    let at-loop = at-in-loop .before in let at-levels = at-loop .before .before in let at-start = at-levels .before .before in
     let d = at-loop .loop .d in
     let i = at-loop2 .loop2 .c in
-    let low : d < maxCells = omega (arith, at-loop .loop .inv .2, at-loop2 .before .before .loop-test .taken) in
-    let lower : i < maxCells = omega (arith, c .before .before .loop2-test .taken, low) in (
+    let low : d < maxCells = omega (arith, at-loop .loop .inv .2, at-in-loop .loop-test .taken) in
+    let lower : i < maxCells = omega (arith, at-in-loop2 .loop2-test .taken, low) in (
       search needs,
-      pair-next (differ (at-levels .before .before .args .t .now)) d i (at-loop2 .loop2 .inv .1)
+      pair-next (differ (at-start .args .t .now)) d i (at-loop2 .loop2 .inv .1)
           (ap not (c .equals .ensures ∙ ap₂ equals (level-is at-levels i _ lower) (level-is at-levels d _ low))),
     )
 
@@ -98,11 +105,11 @@ loop-less c = search needs
 
 loop-again : tie.Need-loop-again Inv-loop2 μ-loop2 Inv-loop μ-loop
 loop-again c =
-    let at-loop = c .before .before .before .before in (
+    let at-wide = c .before .before .before .before .before in let at-start = at-wide .before .before .before in (
       search needs,
       search needs,
       search needs,
-      pair-last (differ (at-loop .before .before .before .before .args .t .now)) _ _ (c .before .loop2 .inv .1) (c .before .loop2 .inv .0) (c .loop2-test .left),
+      pair-last (differ (at-start .args .t .now)) _ _ (c .before .loop2 .inv .1) (c .before .loop2 .inv .0) (c .loop2-test .left),
     )
 
 returns : tie.Need-returns Inv-loop2 μ-loop2 Inv-loop μ-loop

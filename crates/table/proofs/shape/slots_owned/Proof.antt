@@ -24,40 +24,45 @@ loop-holds : tie.Need-loop-holds Inv-loop μ-loop
 loop-holds c = (search needs, c .wide .ensures ∙ sym (cells-read _ _ (c .before .before .pre .0 .header)), sum-first _, search needs)
 
 mul-wide : tie.Need-mul-wide Inv-loop μ-loop
-mul-wide c = omega (arith, c .before .before .wide .ensures, c .loop-test .taken, c .before .before .before .before .pre .0 .small .few-cells)
+mul-wide c =
+    let at-wide = c .before .before in let at-start = at-wide .before .before in
+    omega (arith, at-wide .wide .ensures, c .loop-test .taken, at-start .pre .0 .small .few-cells)
 
 add-wide : tie.Need-add-wide Inv-loop μ-loop
-add-wide c = omega (arith, c .before .before .wide .ensures, c .loop-test .taken, c .before .before .before .before .pre .0 .small .few-cells)
+add-wide c =
+    let at-wide = c .before .before in let at-start = at-wide .before .before in
+    omega (arith, at-wide .wide .ensures, c .loop-test .taken, at-start .pre .0 .small .few-cells)
 
 add-wide-2 : tie.Need-add-wide-2 Inv-loop μ-loop
 add-wide-2 c =
-    let s = c .before .before .before .before in
-    omega (arith, c .before .before .wide .ensures, c .loop-test .taken, s .pre .0 .small .few-cells, s .pre .1)
+    let at-wide = c .before .before in let at-start = at-wide .before .before in
+    omega (arith, at-wide .wide .ensures, c .loop-test .taken, at-start .pre .0 .small .few-cells, at-start .pre .1)
 
 mul-wide-2 : tie.Need-mul-wide-2 Inv-loop μ-loop
 mul-wide-2 c =
-    let s = c .before .before .before .before in
-    omega (arith, c .before .before .wide .ensures, c .loop-test .taken, s .pre .0 .small .few-cells, s .pre .1)
+    let at-wide = c .before .before in let at-start = at-wide .before .before in
+    omega (arith, at-wide .wide .ensures, c .loop-test .taken, at-start .pre .0 .small .few-cells, at-start .pre .1)
 
 shared-slice-read-wide : tie.Need-shared-slice-read-wide Inv-loop μ-loop
 shared-slice-read-wide c =
-    let s = c .before .before .before .before .before in
-    omega (arith, c .before .before .before .wide .ensures, c .before .loop-test .taken, s .pre .0 .exact, s .pre .1)
+    let at-wide = c .before .before .before in let at-start = at-wide .before .before in
+    omega (arith, at-wide .wide .ensures, c .before .loop-test .taken, at-start .pre .0 .exact, at-start .pre .1)
 
 wide-requires-2 : tie.Need-wide-requires-2 Inv-loop μ-loop
 wide-requires-2 c κs = search needs
 
 add-sum : tie.Need-add-sum Inv-loop μ-loop
 add-sum c =
-    let s = c .before .before .before .before .before .before in
+    let at-in-loop = c .before .before in let at-loop = at-in-loop .before in let at-wide = at-loop .before in
+    let at-start = at-wide .before .before in
     omega (
       arith,
       c .wide2 .ensures,
-      c .before .before .before .loop .inv .3,
-      c .before .before .before .before .wide .ensures,
-      c .before .before .loop-test .taken,
-      s .pre .0 .small .few-cells,
-      c .before .shared-slice-known2 .given (cellAt (c .before .before .before .loop .c) (s .args .k)),
+      at-loop .loop .inv .3,
+      at-wide .wide .ensures,
+      at-in-loop .loop-test .taken,
+      at-start .pre .0 .small .few-cells,
+      c .before .shared-slice-known2 .given (cellAt (at-loop .loop .c) (at-start .args .k)),
     )
 
 add-c : tie.Need-add-c Inv-loop μ-loop
@@ -68,13 +73,14 @@ loop-less c = search needs
 
 loop-again : tie.Need-loop-again Inv-loop μ-loop
 loop-again c =
-    let s = c .before .before .before .before .before .before in
-    let l = c .before .before .before .loop in (
+    let at-in-loop = c .before .before in let at-loop = at-in-loop .before in let at-wide = at-loop .before in
+    let at-start = at-wide .before .before in
+    let l = at-loop .loop in (
       search needs,
       search needs,
-      sum-next _ (l .inv .2) (c .wide2 .ensures ∙ sym (cell-word (s .args .t .now) (l .c) (s .args .k)
-          (omega (arith, c .before .before .before .before .wide .ensures, c .before .before .loop-test .taken, s .pre .0 .header .cells-is)) (s .pre .1))),
-      omega (arith, c .wide2 .ensures, l .inv .3, c .before .shared-slice-known2 .given (cellAt (l .c) (s .args .k))),
+      sum-next _ (l .inv .2) (c .wide2 .ensures ∙ sym (cell-word (at-start .args .t .now) (l .c) (at-start .args .k)
+          (omega (arith, at-wide .wide .ensures, at-in-loop .loop-test .taken, at-start .pre .0 .header .cells-is)) (at-start .pre .1))),
+      omega (arith, c .wide2 .ensures, l .inv .3, c .before .shared-slice-known2 .given (cellAt (l .c) (at-start .args .k))),
     )
 
 returns : tie.Need-returns Inv-loop μ-loop

@@ -27,18 +27,19 @@ wide-requires-3 c κs = search needs
 returns : tie.Need-returns
 unfolding sumsMatch firstSlot
 returns c =
-    let s = c .before .before .before .before .before .before .before in
-    let t = s .args .t .now in
-    let n = s .args .n in
+    let at-wide2 = c .before .before in let at-slots-owned2 = at-wide2 .before in let at-wide = at-slots-owned2 .before in
+    let at-slots-owned = at-wide .before in let at-start = at-slots-owned .before .before in
+    let t = at-start .args .t .now in
+    let n = at-start .args .n in
     rw (
-      slots-read t n (s .pre .header) process,
-      slots-read t n (s .pre .header) segment,
-      slots-read t n (s .pre .header) file,
-      c .before .before .before .before .wide .ensures,
-      c .before .before .wide2 .ensures,
+      slots-read t n (at-start .pre .header) process,
+      slots-read t n (at-start .pre .header) segment,
+      slots-read t n (at-start .pre .header) file,
+      at-wide .wide .ensures,
+      at-wide2 .wide2 .ensures,
       c .wide3 .ensures,
-      c .before .before .before .before .before .slots-owned .ensures,
-      c .before .before .before .slots-owned2 .ensures,
+      at-slots-owned .slots-owned .ensures,
+      at-slots-owned2 .slots-owned2 .ensures,
       c .before .slots-owned3 .ensures,
     )
 
