@@ -22,7 +22,7 @@ use Rattle.rules.specs.Find.{stale, rightsAt}
 use Rattle.rules.specs.Call13.{block, unbuffered, readBlock}
 use Rattle.rules.specs.Call14.{blockWritten, writeBlock}
 use Rattle.rules.specs.View.{blockPlace}
-use Rattle.laws.proofs.Tests.{passed, both-ways}
+use Rattle.laws.proofs.Tests.{passed}
 use Rattle.laws.proofs.Shape.{descriptor, file-record}
 use Rattle.layout.specs.declared.Header.{Header}
 use Rattle.layout.specs.Header.{placeOf}

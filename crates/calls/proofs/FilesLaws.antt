@@ -1,21 +1,21 @@
 -- What the calls on files find and write, in the rules' terms: their refusals are the rules', and so are the words that they write.
 use mathlib.Core.Path.{_≡_, refl, sym, ap, _∙_}
-use mathlib.Core.Bool.{Bool, true, false, cond, _&&_, _||_, not}
+use mathlib.Core.Bool.{Bool, true, false, _&&_, _||_, not}
 use mathlib.Core.List.{List, [], _∷_, _++_}
 use Prim.Native.Nat.{ℕ, _+_, _*_, _-_, _≤_, _<_}
 use native.Mathlib.Omega.{arith}
 use native.Mathlib.Decide.{ℕ-discrete}
 use lib.Dec.{eqb, leb, ltb}
 use lib.ListN.{getD, set}
-use borrow.Author.Tests.{eq-eqb, ne-eqb, eqb-true}
-use Rattle.rules.specs.Layout.{maxSlots, maxBits, maxLinks, maxSerial, Kind, process, segment, file, configuration, slots, blocks, cellOf, Addr, at, offset, entries, heldAt, usedAt, cellWord, cellSlotsWord, live, serial, owner, group, bits, links, size, opens, recordWords}
-use Rattle.rules.specs.Seid.{class, classOf, seid, indexOf, isSeid, formed, orSelf}
+use borrow.Author.Tests.{eq-eqb, ne-eqb}
+use Rattle.rules.specs.Layout.{maxSlots, maxBits, maxLinks, Kind, process, segment, file, configuration, slots, cellOf, Addr, at, offset, entries, heldAt, usedAt, cellWord, cellSlotsWord, live, serial, owner, group, bits, links, opens, recordWords}
+use Rattle.rules.specs.Seid.{class, classOf, seid, indexOf, formed, orSelf}
 use Rattle.rules.specs.Modes.{validModes, reads, writes, clash}
 use Rattle.rules.specs.Rights.{lacks}
 use Rattle.rules.specs.Errors.{XbParam, XbadModes, XdapViol, Xbusy, XbadLink, XodSpace, XnoSpace, XshSg}
 use Rattle.rules.specs.Rule.{Refusal, _⇒_, Rule, firstRefusal, write}
-use Rattle.rules.specs.Find.{inOwnCell, flowsToCaller, rightsAt, freeSlot, noSlot, freeEntry, noEntry, entered, own, find}
-use Rattle.rules.specs.Call07.{created, create}
+use Rattle.rules.specs.Find.{inOwnCell, flowsToCaller, rightsAt, freeEntry, noEntry, entered, own, find}
+use Rattle.rules.specs.Call07.{create}
 use Rattle.rules.specs.Call08.{clashesAt, clashes, openFile}
 use Rattle.rules.specs.Call10.{link}
 use Rattle.rules.specs.Call11.{unlinked, unlink}
@@ -40,8 +40,8 @@ use Rattle.ids.specs.Seid.{seidOf}
 use Rattle.calls.specs.Calls.{giveUpRule, openTests}
 use Rattle.calls.specs.declared.entries.Entry.{Entry}
 use Rattle.calls.specs.Entries.{entryOf, freedAt, madeAt, takenUpAt}
-use Rattle.calls.proofs.Worlds.{spot, shape, first-by-kind}
-use Rattle.calls.proofs.Refusals.{numbered, refusing-first, past, only-then, Clear, clear-of}
+use Rattle.calls.proofs.Worlds.{spot, first-by-kind}
+use Rattle.calls.proofs.Refusals.{numbered, refusing-first, past, only-then, clear-of}
 use Rattle.calls.proofs.Looks.{own-numbered, by-kind, form-past, find-first, own-first, seen-formed, own-is, slot-is, slot-in}
 use Rattle.calls.proofs.Given.{begins, freed-is}
 use Rattle.calls.proofs.Holders.{made-is, entered-is, one-fits, taken-told}

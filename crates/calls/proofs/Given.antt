@@ -2,13 +2,13 @@
 use mathlib.Core.Path.{_≡_, refl, sym, ap, _∙_}
 use mathlib.Core.Bool.{Bool, true, false, cond, _&&_, not}
 use mathlib.Core.List.{List, [], _∷_}
-use Prim.Native.Nat.{ℕ, zero, suc, _+_, _*_, _-_, _≤_}
+use Prim.Native.Nat.{ℕ, zero, suc, _+_, _-_}
 use native.Mathlib.Omega.{arith}
 use lib.Dec.{eqb}
 use lib.ListN.{getD, set, replicate}
 use lib.Seq.{sets}
 use Rattle.rules.specs.Words.{tabFrom}
-use Rattle.rules.specs.Layout.{Kind, process, segment, file, recordWords, configuration, cellOf, Addr, at, offset, rd, heldAt, usedAt, holders}
+use Rattle.rules.specs.Layout.{Kind, process, segment, file, recordWords, configuration, cellOf, Addr, at, offset, heldAt, usedAt, holders}
 use Rattle.rules.specs.Seid.{indexOf}
 use Rattle.rules.specs.Rule.{_≔_, write}
 use Rattle.rules.specs.Find.{inOwnCell, zeros, freed, kept, oneLess, pagesCleared, emptied, givenUp}

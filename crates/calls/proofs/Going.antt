@@ -2,7 +2,7 @@
 use mathlib.Core.Bool.{Bool, true, false, cond}
 use mathlib.Core.List.{List, [], _∷_, _++_, append-nil, map-append}
 use mathlib.Core.Path.{_≡_, refl, sym, ap, ap₂, _∙_}
-use Prim.Native.Nat.{ℕ, zero, suc, _+_, _-_, _<_, _≤_}
+use Prim.Native.Nat.{ℕ, _+_, _-_, _<_, _≤_}
 use native.Mathlib.Nat.{add-zero}
 use native.Mathlib.Numerals.{add-one}
 use native.Mathlib.Omega.{arith}
@@ -14,7 +14,6 @@ use lib.WfN.{Nat·lt-wfRel}
 use lib.ListN.{length, getD, set, take, drop, length-set, length-map, drop-of-length-le}
 use lib.Seq.{take-all, drop-cons, length-take-le, getD-take, getD-drop, drop-set-lt, drop-drop, take-suc-set, append-snoc}
 use Rattle.rules.specs.Errors.{XOK}
-use Rattle.rules.specs.Step.{State}
 use Rattle.rules.specs.Tray as rules
 use Rattle.rules.specs.Tray.{Tray, left, behind, inOrder, trayAnswer, afterTray}
 use Rattle.laws.proofs.Tests.{cond-true, cond-false, split}

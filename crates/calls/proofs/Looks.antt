@@ -1,7 +1,7 @@
 -- What the code sees of an object leads to the rule's refusals: "find" and "own", over the kind.
-use mathlib.Core.Path.{_≡_, refl, sym, ap, _∙_}
+use mathlib.Core.Path.{_≡_, refl, ap}
 use mathlib.Core.Bool.{Bool, true, false, not, cond}
-use mathlib.Core.List.{List, [], _∷_, _++_}
+use mathlib.Core.List.{List, _∷_, _++_}
 use Prim.Native.Nat.{ℕ, _<_}
 use native.Mathlib.Omega.{arith}
 use lib.Dec.{eqb}
@@ -16,7 +16,6 @@ use Rattle.layout.specs.declared.Header.{Header}
 use Rattle.layout.specs.Header.{slotsOf}
 use Rattle.calls.specs.declared.objects.Seen.{Seen}
 use Rattle.calls.specs.World.{Known, wordsOf}
-use Rattle.calls.specs.Refusing.{refusing}
 use Rattle.calls.specs.Seen.{nameOf, namedOf, seenAs, unseen, seenOf, findTests, ownTests}
 use Rattle.calls.proofs.Worlds.{slots-is}
 use Rattle.calls.proofs.Refusals.{numbered, past}

@@ -1,10 +1,10 @@
 -- Posts: what refuses one, the message's words, and the two ends of the call.
-use mathlib.Core.Path.{_≡_, refl, sym, ap, _∙_}
-use mathlib.Core.Bool.{Bool, true, false, cond, _&&_, not}
-use mathlib.Core.List.{List, [], _∷_}
+use mathlib.Core.Path.{_≡_, refl, sym, _∙_}
+use mathlib.Core.Bool.{Bool, true, false, _&&_, not}
+use mathlib.Core.List.{List, []}
 use Prim.Native.Nat.{ℕ, _+_, _*_, _<_}
 use native.Mathlib.Omega.{arith}
-use lib.Dec.{ltb, leb, eqb}
+use lib.Dec.{ltb, leb}
 use lib.ListN.{length, getD, set}
 use borrow.Author.Tests.{leb-true, leb-false, lt-ltb, le-ltb}
 use Rattle.rules.specs.Words.{word4}
@@ -12,7 +12,6 @@ use Rattle.rules.specs.Layout.{process, configuration, cellOf, flows, flowMatri
 use Rattle.rules.specs.Seid.{indexOf, formed, present, seidAt, orSelf}
 use Rattle.rules.specs.Rule.{write, firstRefusal}
 use Rattle.rules.specs.Rights.{mayWrite}
-use Rattle.rules.specs.Find.{inOwnCell}
 use Rattle.rules.specs.Call15.{queued, mayPost, post}
 use Rattle.laws.proofs.Tests.{passed, failed, and-right}
 use Rattle.levels.proofs.Cells.{matrix-any}
@@ -22,7 +21,7 @@ use Rattle.calls.specs.declared.Answer.{Answer}
 use Rattle.calls.specs.declared.Caller.{Caller}
 use Rattle.calls.specs.declared.objects.Seen.{Seen}
 use Rattle.calls.specs.World.{Known, Sound, wordsOf}
-use Rattle.calls.specs.Seen.{nameOf, namedOf, seenOf}
+use Rattle.calls.specs.Seen.{namedOf, seenOf}
 use Rattle.calls.specs.Entries.{fourAt}
 use Rattle.calls.specs.Left.{said, ruleAt, Left}
 use Rattle.calls.specs.Refusing.{refusing}

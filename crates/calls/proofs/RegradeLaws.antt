@@ -1,6 +1,6 @@
 -- What a regrade finds, copies and writes, in the rules' terms.
 use mathlib.Core.Path.{_≡_, refl, sym, ap, _∙_}
-use mathlib.Core.Bool.{Bool, true, false, cond, _&&_, _||_, not}
+use mathlib.Core.Bool.{true, false, cond, _&&_, _||_, not}
 use mathlib.Core.List.{List, [], _∷_, _++_}
 use Prim.Native.Nat.{ℕ, suc, _+_, _*_, _-_, _≤_, _<_, _%_, _^_, min}
 use native.Mathlib.Omega.{arith}
@@ -11,7 +11,7 @@ use lib.ListN.{length, getD, set, drop}
 use lib.Seq.{sets, getD-take, getD-drop, getD-set-other}
 use borrow.Author.Tests.{eqb-true, leb-false}
 use Rattle.rules.specs.Words.{part, word2}
-use Rattle.rules.specs.Layout.{maxSlots, maxBlocks, maxSerial, maxBits, blockBytes, process, file, configuration, cells, slots, blocks, storeBytes, at, live, serial, heldAt, size}
+use Rattle.rules.specs.Layout.{maxSlots, maxBlocks, maxSerial, maxBits, blockBytes, process, file, configuration, cells, blocks, storeBytes, at, live, serial, heldAt, size}
 use Rattle.rules.specs.Seid.{class, seid, indexOf, serialOf, formed}
 use Rattle.rules.specs.Modes.{reads}
 use Rattle.rules.specs.Errors.{XnoSPriv, XbSz, XbParam, XnotReadable, XnoSpace}

@@ -7,10 +7,10 @@ use native.Mathlib.Omega.{arith}
 use native.Mathlib.Decide.{ℕ-discrete}
 use lib.Dec.{eqb, ltb, leb}
 use lib.ListN.{getD}
-use borrow.Author.Tests.{leb-false, ltb-true, ltb-false, lt-ltb}
-use Rattle.rules.specs.Layout.{maxSlots, maxSerial, Kind, process, segment, file, recordWords, configuration, cells, slots, cellWord, cellSlots, cellSlotsWord, firstSlot, cellOf, at, rd, heldAt, live, serial, group, holders}
+use borrow.Author.Tests.{ltb-true, ltb-false, lt-ltb}
+use Rattle.rules.specs.Layout.{maxSlots, maxSerial, Kind, process, segment, file, recordWords, configuration, cells, slots, cellWord, cellSlots, cellSlotsWord, firstSlot, at, rd, heldAt, live, serial, group, holders}
 use Rattle.rules.specs.Seid.{class, seid}
-use Rattle.rules.specs.Find.{canTake, freeSlot, noSlot, freeEntry}
+use Rattle.rules.specs.Find.{canTake, freeSlot, freeEntry}
 use Rattle.laws.proofs.Search.{lowest-same}
 use Rattle.laws.proofs.Least.{Choice, choice-start, choice-past, choice-taken, choice-end, least-same}
 use Rattle.laws.proofs.Tests.{both-ways, and-left, and-right, and-both}
@@ -18,14 +18,14 @@ use Rattle.laws.proofs.Cells.{run-end}
 use Rattle.laws.proofs.Shape.{in-run}
 use Rattle.laws.proofs.Slots.{FreeSlot, free-slot}
 use Rattle.layout.specs.declared.Header.{Header}
-use Rattle.layout.specs.Header.{baseOf, recordOf, placeOf}
+use Rattle.layout.specs.Header.{baseOf, recordOf}
 use Rattle.ids.specs.Seid.{seidOf}
 use Rattle.ids.proofs.Parts.{seid-fits}
 use Rattle.calls.specs.declared.Caller.{Caller}
 use Rattle.calls.specs.declared.room.Slot.{Slot}
 use Rattle.calls.specs.World.{Known, Sound, wordsOf, holdable, firstBy, freeTest, serialAt, freeAt, emptyTest, emptyAt}
 use Rattle.calls.specs.Seen.{slotFound}
-use Rattle.calls.proofs.Worlds.{spot, shape, cells-is, first-by-kind, first-bound, kind-word}
+use Rattle.calls.proofs.Worlds.{spot, shape, cells-is, first-by-kind, first-bound}
 
 -- ---- cells
 

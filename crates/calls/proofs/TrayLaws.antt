@@ -1,22 +1,22 @@
 -- Calls by the tray, on plain values: what judging a tray hands on, and the two ways through one record.
 use mathlib.Core.Path.{_≡_, refl, sym, ap, ap₂, _∙_}
-use mathlib.Core.Bool.{Bool, true, false, cond, _&&_, not}
-use mathlib.Core.List.{List, [], _∷_, _++_, map}
+use mathlib.Core.Bool.{Bool, true, false, cond}
+use mathlib.Core.List.{List, [], _++_}
 use Prim.Native.Nat.{ℕ, _+_, _-_, _≤_, _<_}
 use native.Mathlib.Omega.{arith}
 use lib.Dec.{ltb, leb, eqb}
-use lib.ListN.{length, getD, take, drop, replicate}
+use lib.ListN.{length, getD, take, drop}
 use lib.Seq.{sets}
 use borrow.Author.Tests.{lt-ltb, le-leb, lt-leb, eq-eqb, ne-eqb}
-use Rattle.rules.specs.Words.{part, tabFrom}
+use Rattle.rules.specs.Words.{part}
 use Rattle.rules.specs.Claim.{Holds, test}
 use Rattle.rules.specs.Layout.{cells, levelOf, flows, configuration, flowMatrix}
-use Rattle.rules.specs.WellFormed.{configured, lengthsExact, wellFormed}
+use Rattle.rules.specs.WellFormed.{wellFormed}
 use Rattle.rules.specs.Errors.{XOK, XbTab, XbPrSd, XbdKcl, XbParam, XbSz}
-use Rattle.rules.specs.Step.{State, Outcome, badCaller, badCode, step}
+use Rattle.rules.specs.Step.{Outcome, badCaller, badCode, step}
 use Rattle.rules.specs.Tray as rules
-use Rattle.rules.specs.Tray.{inside, recordStep, withAnswer, mostRecords, trayRefusals, trayAnswer}
-use Rattle.laws.proofs.Tests.{and-left, and-right, and-both, cond-true, cond-false, split}
+use Rattle.rules.specs.Tray.{inside, recordStep, withAnswer, mostRecords, trayAnswer}
+use Rattle.laws.proofs.Tests.{cond-true, cond-false, split}
 use Rattle.laws.proofs.Claims.{holds, tested}
 use Rattle.laws.proofs.Shape.{good-of}
 use Rattle.laws.proofs.Parts.{sets-part, part-back, part-long}
@@ -31,7 +31,7 @@ use Rattle.calls.specs.declared.Answer.{Answer}
 use Rattle.calls.specs.World.{wordsOf, Judged}
 use Rattle.calls.specs.Left.{said}
 use Rattle.calls.specs.Did.{stateOf, callOf, ruleAnswer, Did}
-use Rattle.calls.specs.Tray.{recordOf, recordsOf, answeredBy, Ran, Ready, noHall, begun, verdictOf}
+use Rattle.calls.specs.Tray.{recordOf, answeredBy, Ran, Ready, noHall, begun, verdictOf}
 use Rattle.calls.proofs.Whole.{header-conf}
 
 -- ---- the judging of a tray

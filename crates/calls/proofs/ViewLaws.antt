@@ -1,7 +1,7 @@
 -- The ends of a view: a bad table, a bad caller, and the block's own list.
 use mathlib.Core.Path.{_≡_, refl, sym, ap, _∙_}
-use mathlib.Core.Bool.{Bool, true, false, cond}
-use mathlib.Core.List.{List, []}
+use mathlib.Core.Bool.{Bool, true, false}
+use mathlib.Core.List.{List}
 use Prim.Native.Nat.{ℕ, _+_, _-_, _≤_}
 use native.Mathlib.Omega.{arith}
 use lib.ListN.{length, take, drop}
@@ -10,7 +10,6 @@ use Rattle.rules.specs.Words.{part}
 use Rattle.rules.specs.Claim.{test}
 use Rattle.rules.specs.Layout.{configuration}
 use Rattle.rules.specs.WellFormed.{wellFormed}
-use Rattle.rules.specs.SetUp.{canSetUp}
 use Rattle.rules.specs.Call13.{unbuffered}
 use Rattle.rules.specs.Step.{badCaller}
 use Rattle.rules.specs.View.{viewRefusals, viewNumber, blockPlace, viewFrom, viewCount, viewShown}

@@ -7,9 +7,9 @@ use native.Mathlib.Omega.{arith}
 use lib.Dec.{ltb, leb, eqb}
 use lib.ListN.{length, getD, replicate}
 use borrow.Author.Tests.{leb-false, ltb-false, eqb-false}
-use Rattle.rules.specs.Claim.{Holds, test, _&_}
+use Rattle.rules.specs.Claim.{Holds, test}
 use Rattle.rules.specs.Layout.{maxSlots, process, segment, file, cells, blocks, guard, configuration, slots, storeBytes, at, live}
-use Rattle.rules.specs.WellFormed.{wellFormed, lengthsExact, configured}
+use Rattle.rules.specs.WellFormed.{wellFormed, lengthsExact}
 use Rattle.rules.specs.Step.{badCaller, badCode, lastCode, step}
 use Rattle.laws.proofs.Tests.{or-left, or-right, cond-true}
 use Rattle.laws.proofs.Claims.{holds}
@@ -18,7 +18,6 @@ use Rattle.layout.specs.declared.Header.{Header}
 use Rattle.layout.specs.Header.{headerOf}
 use Rattle.layout.specs.Hall.{cellsAt, hallBytes, hallOf, matrixIn}
 use Rattle.layout.proofs.Hall.{matrix-told}
-use Rattle.calls.specs.declared.Caller.{Caller}
 use Rattle.calls.specs.declared.Answer.{Answer}
 use Rattle.calls.specs.World.{Known, Sound, wordsOf, Judged}
 use Rattle.calls.specs.Tray.{Ready}

@@ -1,22 +1,22 @@
 -- The header's numbers are the configuration's: places, readings and cells by the one are those of the other.
 use mathlib.Core.Path.{_≡_, refl, sym, ap, _∙_}
-use mathlib.Core.Bool.{Bool, true, false, _&&_, cond}
+use mathlib.Core.Bool.{Bool, true, false, cond}
 use mathlib.Core.List.{List}
 use Prim.Native.Nat.{ℕ, _+_, _*_, _≤_, _<_}
 use native.Mathlib.Omega.{arith}
 use native.Mathlib.Decide.{ℕ-discrete}
-use lib.Dec.{leb, ltb, eqb}
+use lib.Dec.{leb, ltb}
 use lib.ListN.{getD}
 use borrow.Author.Tests.{lt-ltb, le-ltb, leb-true, leb-false, eq-eqb, ne-eqb}
 use Rattle.rules.specs.Words.{sumBelow}
-use Rattle.rules.specs.Layout.{maxSlots, maxSerial, Kind, process, segment, file, cellWords, recordWords, cells, slots, slotsWord, blocks, guard, cellWord, cellSlotsWord, configuration, firstSlot, cellOf, Addr, at, base, offset, rd, live, cellAt}
+use Rattle.rules.specs.Layout.{maxSlots, Kind, process, segment, file, cellWords, cells, slots, blocks, guard, cellWord, cellSlotsWord, configuration, firstSlot, cellOf, Addr, at, base, offset, rd, cellAt}
 use Rattle.laws.proofs.Below.{sum-more, sum-grows}
 use Rattle.laws.proofs.Search.{lowest-is, lowest-none}
 use Rattle.laws.proofs.Tests.{cond-true, cond-false, split}
-use Rattle.laws.proofs.Places.{conf-cells, conf-slots, conf-blocks, conf-cell}
+use Rattle.laws.proofs.Places.{conf-cells, conf-cell}
 use Rattle.laws.proofs.Shape.{Shape, shape-of}
 use Rattle.layout.specs.declared.Header.{Header}
-use Rattle.layout.specs.Header.{headerOf, slotsOf, baseOf, recordOf, placeOf}
+use Rattle.layout.specs.Header.{slotsOf, baseOf, recordOf, placeOf}
 use Rattle.calls.specs.World.{Known, wordsOf, firstBy, cellBy, emptyTest}
 
 -- ---- places and readings

@@ -2,7 +2,7 @@
 use mathlib.Core.Path.{_≡_}
 use mathlib.Core.List.{List, []}
 use Prim.Native.Nat.{ℕ}
-use Rattle.rules.specs.Layout.{configuration, rd, storeBytes}
+use Rattle.rules.specs.Layout.{configuration, rd}
 use Rattle.rules.specs.Rule.{Rule}
 use Rattle.rules.specs.Step as rules
 use Rattle.rules.specs.Step.{State, Call, Outcome, ruleOf}

@@ -1,6 +1,5 @@
 // Blocks: view, read and write.
 ghost use mathlib.Core.Path.{_≡_};
-ghost use mathlib.Core.Bool.{Bool};
 ghost use Prim.Native.Nat.{_+_, _-_, _*_, _≤_, _<_, _^_, max};
 ghost use lib.ListN.{length, replicate};
 ghost use lib.Seq.{sets};

@@ -1,13 +1,12 @@
 // Files: create, open, link, unlink; set bits; and giving up an entry, which closes a file or releases a segment.
 ghost use mathlib.Core.Path.{_≡_};
-ghost use mathlib.Core.Bool.{true, _&&_, _||_, not};
-ghost use mathlib.Core.List.{List, [], _∷_, _++_};
+ghost use mathlib.Core.Bool.{true, _&&_};
+ghost use mathlib.Core.List.{List};
 ghost use Prim.Native.Nat.{ℕ, _<_};
-ghost use lib.Dec.{leb, eqb};
-ghost use Rattle.rules.specs.Layout.{Addr, file, at, configuration, cellOf};
-ghost use Rattle.rules.specs.Seid.{indexOf, orSelf};
-ghost use Rattle.rules.specs.Modes.{validModes};
-ghost use Rattle.rules.specs.Rule.{Rule, write};
+ghost use lib.Dec.{eqb};
+ghost use Rattle.rules.specs.Layout.{file, configuration, cellOf};
+ghost use Rattle.rules.specs.Seid.{indexOf};
+ghost use Rattle.rules.specs.Rule.{write};
 ghost use Rattle.rules.specs.Call07.{create};
 ghost use Rattle.rules.specs.Call08.{clashes, openFile};
 ghost use Rattle.rules.specs.Call10.{link};

@@ -1,15 +1,14 @@
 // Messages: post and receive.
 ghost use mathlib.Core.Path.{_≡_};
-ghost use mathlib.Core.List.{List};
-ghost use Prim.Native.Nat.{ℕ, _+_, _*_, _≤_, _<_, _^_};
-ghost use lib.ListN.{getD, length};
+ghost use Prim.Native.Nat.{_+_, _*_, _≤_, _<_, _^_};
+ghost use lib.ListN.{length};
 ghost use lib.Seq.{sets};
 ghost use Rattle.rules.specs.Words.{bytes4, word4};
 ghost use Rattle.rules.specs.Layout.{configuration, messages, messageWords};
 ghost use Rattle.rules.specs.Rule.{write};
 ghost use Rattle.rules.specs.Call15.{queued, post};
 ghost use Rattle.rules.specs.Call16.{receive};
-ghost use Rattle.calls.specs.World.{Known, Sound, wordsOf};
+ghost use Rattle.calls.specs.World.{Known, Sound};
 ghost use Rattle.calls.specs.Handed.{Handed};
 ghost use Rattle.calls.specs.Left.{Left, ruleAt, bufferOf};
 ghost use Rattle.calls.specs.Refusing.{refusing};

@@ -1,7 +1,7 @@
 // What a caller sees of the object that a word names, and the refusals of "find" and "own".
 ghost use mathlib.Core.Path.{_≡_};
-ghost use mathlib.Core.Bool.{Bool, false, not};
-ghost use mathlib.Core.List.{[], _∷_};
+ghost use mathlib.Core.Bool.{false};
+ghost use mathlib.Core.List.{[]};
 ghost use Prim.Native.Nat.{_+_, _<_};
 ghost use lib.ListN.{getD};
 ghost use Rattle.rules.specs.Layout.{maxSlots, process, segment, file, configuration};
@@ -9,7 +9,7 @@ ghost use Rattle.rules.specs.Seid.{orSelf};
 ghost use Rattle.rules.specs.Find.{absent};
 ghost use Rattle.layout.specs.Kinds.{kindOf};
 ghost use Rattle.layout.specs.Hall.{cellsAt};
-ghost use Rattle.calls.specs.World.{Known, Sound, wordsOf};
+ghost use Rattle.calls.specs.World.{Sound, wordsOf};
 ghost use Rattle.calls.specs.Handed.{Handed};
 ghost use Rattle.calls.specs.Refusing.{refusing};
 ghost use Rattle.calls.specs.Seen.{namedOf, kindBy, Sixteen, unseen, seenOf, findTests, ownTests};

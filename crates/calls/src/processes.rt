@@ -1,6 +1,5 @@
 // Processes: spawn, release.
 ghost use mathlib.Core.Path.{_≡_};
-ghost use mathlib.Core.Bool.{true};
 ghost use mathlib.Core.List.{List};
 ghost use Prim.Native.Nat.{ℕ, _<_};
 ghost use Rattle.rules.specs.Layout.{process, configuration, entries};
@@ -8,7 +7,7 @@ ghost use Rattle.rules.specs.Rule.{write};
 ghost use Rattle.rules.specs.Call01.{spawn};
 ghost use Rattle.rules.specs.Call02.{dropped, droppedTo, releaseProcess};
 ghost use Rattle.layout.specs.Kinds.{kindOf};
-ghost use Rattle.calls.specs.World.{Known, Sound, wordsOf, holdable};
+ghost use Rattle.calls.specs.World.{Sound, wordsOf};
 ghost use Rattle.calls.specs.Handed.{Handed};
 ghost use Rattle.calls.specs.Left.{Left};
 ghost use Rattle.calls.specs.Seen.{slotFound};

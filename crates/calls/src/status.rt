@@ -8,7 +8,7 @@ ghost use Rattle.rules.specs.Layout.{cells, configuration};
 ghost use Rattle.rules.specs.WellFormed.{configured};
 ghost use Rattle.rules.specs.Call17.{statusOf, status};
 ghost use Rattle.layout.specs.Kinds.{kindOf};
-ghost use Rattle.calls.specs.World.{Known, Sound, wordsOf};
+ghost use Rattle.calls.specs.World.{Sound};
 ghost use Rattle.calls.specs.Handed.{Handed};
 ghost use Rattle.calls.specs.Left.{answerOf, bufferOf, ruleAt};
 ghost use Rattle.calls.specs.Told.{toldAt};

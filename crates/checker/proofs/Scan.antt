@@ -1,17 +1,17 @@
 -- The finding, byte by byte, is the rules'; and so it is piece by piece.
-use mathlib.Core.Bool.{Bool, true, false, cond, _&&_, not, true≢false}
+use mathlib.Core.Bool.{Bool, true, false, cond, not}
 use mathlib.Core.List.{List, [], _∷_, _++_}
 use mathlib.Core.Path.{_≡_, refl, sym, ap, ap₂, _∙_, subst}
-use Prim.Native.Nat.{ℕ, zero, suc, _+_, _-_, _%_, _^_, _<_, _≤_}
+use Prim.Native.Nat.{ℕ, _+_, _^_, _<_, _≤_}
 use native.Mathlib.Omega.{arith}
 use native.Mathlib.Nat.{mod-eq-of-lt}
 use lib.Dec.{eqb}
-use lib.ListN.{length, take, drop, length-append}
+use lib.ListN.{length, drop}
 use lib.Seq.{drop-drop}
 use borrow.Author.Tests.{eqb-true, eq-eqb}
 use Rattle.rules.specs.Replay.{listing}
-use Rattle.laws.proofs.Tests.{split, cond-true, cond-false}
-use Rattle.rules.specs.Finding.{begins, endsLine, linesOf, same, Finding, agree, wrong, missing, over, compared, finding}
+use Rattle.laws.proofs.Tests.{split}
+use Rattle.rules.specs.Finding.{begins, endsLine, linesOf, same, agree, wrong, compared, finding}
 use Rattle.checker.specs.Scan.{verdict, scanned, Agreed, linesAfter, agreeing, alike}
 
 -- ---- the lines of a text begin with its first byte

@@ -1,27 +1,25 @@
 -- What each way through the check's code comes to.
-use mathlib.Core.Bool.{Bool, true, false, cond, _||_, not, true≢false}
+use mathlib.Core.Bool.{Bool, true, false, _||_, not, true≢false}
 use mathlib.Core.List.{List, [], _∷_}
 use mathlib.Core.Path.{_≡_, refl, sym, ap, ap₂, _∙_, subst}
-use Prim.Native.Nat.{ℕ, zero, suc, _+_, _-_, _%_, _^_, _<_, _≤_, min}
+use Prim.Native.Nat.{ℕ, suc, _+_, _-_, _<_, _≤_, min}
 use native.Mathlib.Omega.{arith}
 use native.Mathlib.Decide.{decLt}
 use lib.Dec.{eqb}
-use lib.ListN.{length, getD, take, drop, length-take, length-drop, drop-of-length-le}
-use lib.Seq.{drop-cons, drop-drop, drop-nil, getD-take}
+use lib.ListN.{length, getD, take, drop, length-take, drop-of-length-le}
+use lib.Seq.{drop-cons, getD-take}
 use borrow.Author.Tests.{eqb-true}
-use Rattle.rules.specs.Replay.{listing}
 use Rattle.laws.proofs.Tests.{cond-true, cond-false}
 use Rattle.output.specs.Wrote.{Wrote}
 use Rattle.session.specs.declared.Session.{Session}
 use Rattle.session.specs.declared.Stepped.{Stepped}
 use Rattle.session.specs.Turn.{finishText, Turn, turn, Written, Turned}
 use Rattle.checker.specs.declared.Check.{Check}
-use Rattle.checker.specs.declared.Checked.{Checked}
 use Rattle.checker.specs.declared.Finding as code
 use Rattle.checker.specs.declared.Finding.the-variants as found
 use Rattle.rules.specs.Finding.{endsLine, said}
-use Rattle.checker.specs.Scan.{Agreed, linesAfter, agreeing, alike, verdict}
-use Rattle.checker.specs.Check.{waits, filled, Fed, fedBy, fed, Feeds, ended, lastCheck, lastOutput, coded, meant}
+use Rattle.checker.specs.Scan.{linesAfter, agreeing, alike, verdict}
+use Rattle.checker.specs.Check.{waits, filled, Fed, fed, Feeds, ended, lastCheck, lastOutput, coded, meant}
 
 -- ---- what is due next
 module _ (x : Check) (t st l o s : List ℕ) (i : ℕ) where

@@ -1,14 +1,12 @@
 -- The whole: whatever pieces an input comes in, and whatever pieces the recorded listing, what a check finds is what the rules find.
-use mathlib.Core.Bool.{Bool, true, false, cond, _||_, not, true≢false}
-use mathlib.Core.List.{List, [], _∷_, _++_, append-nil}
+use mathlib.Core.Bool.{Bool, true, false, _||_, true≢false}
+use mathlib.Core.List.{List, [], _++_, append-nil}
 use mathlib.Core.Path.{_≡_, refl, sym, ap, ap₂, _∙_, subst}
 use Prim.Native.Nat.{ℕ, _+_, _^_, _<_, _≤_, min}
 use native.Mathlib.Omega.{arith}
-use lib.Dec.{ltb}
 use lib.ListN.{length, take, drop, length-take, length-drop, drop-of-length-le}
 use lib.Seq.{sets, length-sets}
 use borrow.Author.Tests.{ltb-true, ltb-false}
-use Rattle.rules.specs.Replay.{listing}
 use Rattle.laws.proofs.Tests.{passed, split, cond-true, cond-false, or-rest}
 use Rattle.output.proofs.Laws.{take-sets}
 use Rattle.text.specs.Room.{lineBytes}

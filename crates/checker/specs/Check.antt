@@ -14,7 +14,7 @@ use Rattle.checker.specs.declared.Checked.{Checked}
 use Rattle.checker.specs.declared.Finding as code
 use Rattle.checker.specs.declared.Finding.the-variants as found
 use Rattle.rules.specs.Finding.{Finding, agree, wrong, missing, over}
-use Rattle.checker.specs.Scan.{Agreed, agreeing, verdict}
+use Rattle.checker.specs.Scan.{Agreed, agreeing}
 
 -- nothing is read yet
 abbrev pub newCheck : Check

@@ -11,7 +11,7 @@ ghost use Rattle.rules.specs.Replay.{decimal};
 ghost use Rattle.output.specs.Wrote.{Wrote};
 ghost use Rattle.session.specs.Turn.{blankTable};
 ghost use Rattle.rules.specs.Finding.{said};
-ghost use Rattle.checker.specs.Scan.{linesAfter, agreeing, verdict};
+ghost use Rattle.checker.specs.Scan.{linesAfter, verdict};
 ghost use Rattle.checker.specs.Scan.{alike as Scan·alike};
 ghost use Rattle.checker.specs.Check.{newCheck, waits, wantsInput, fed, Feeds, ended, lastCheck, lastOutput, agreed, met, coded, meant};
 use session::Session;

@@ -12,7 +12,7 @@ use Rattle.numerals.specs.declared.Part.{Part}
 use Rattle.numerals.specs.declared.Fed.{Fed}
 use Rattle.numerals.specs.declared.Fed.the-variants.{More, Done, Bad}
 use Rattle.numerals.specs.declared.Scan.{Scan}
-use Rattle.numerals.specs.Fed.{start, fedBy, scan, scanOf}
+use Rattle.numerals.specs.Fed.{start, fedBy, scanOf}
 use Rattle.numerals.proofs.Read.{readOn, afterByte, Small, small-start, small-more, read-byte}
 use Rattle.numerals.proofs.Scanning.{scan-more, scan-done, scan-bad, scan-end, scan-past}
 use Rattle.laws.proofs.Tests.{both-ways}

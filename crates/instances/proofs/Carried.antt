@@ -1,11 +1,10 @@
 -- A call on a well-formed table, less the judgement of the table: that is nearly all there is to compute of a step, and crates/kept has it. The examples compute these.
 use mathlib.Core.Path.{_≡_, refl}
-use mathlib.Core.Bool.{Bool, cond, not}
+use mathlib.Core.Bool.{Bool, cond}
 use mathlib.Core.List.{List, [], _∷_, _++_}
 use Prim.Native.Nat.{ℕ}
 use lib.Dec.{eqb}
 use lib.ListN.{length}
-use Rattle.rules.specs.Claim.{test}
 use Rattle.rules.specs.Layout.{configuration, rd}
 use Rattle.rules.specs.WellFormed.{wellFormed}
 use Rattle.rules.specs.Errors.{XOK, XbPrSd, XbdKcl}

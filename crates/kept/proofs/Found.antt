@@ -2,12 +2,12 @@
 use mathlib.Core.Path.{_≡_, sym}
 use mathlib.Core.Bool.{Bool, true, false, _&&_, not, true≢false}
 use mathlib.Core.List.{List}
-use Prim.Native.Nat.{ℕ, _+_, _≤_, _<_}
+use Prim.Native.Nat.{ℕ, _≤_, _<_}
 use native.Mathlib.Omega.{arith}
-use lib.Dec.{ltb, eqb}
-use borrow.Author.Tests.{eqb-true, ltb-true, leb-false}
+use lib.Dec.{eqb}
+use borrow.Author.Tests.{eqb-true, leb-false}
 use Rattle.rules.specs.Words.{lowest}
-use Rattle.rules.specs.Layout.{maxSerial, Kind, process, cells, slots, cellSlots, firstSlot, cellOf, Addr, at, live, serial, entries, heldAt}
+use Rattle.rules.specs.Layout.{Kind, process, slots, cellOf, Addr, at, serial, entries, heldAt}
 use Rattle.rules.specs.Seid.{class, formed, isSeid, indexOf, seidAt, present}
 use Rattle.rules.specs.Find.{inOwnCell, freeSlot, noSlot, freeEntry, noEntry}
 use Rattle.laws.proofs.Tests.{passed}

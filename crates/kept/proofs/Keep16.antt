@@ -7,7 +7,7 @@ use native.Mathlib.Omega.{arith}
 use native.Mathlib.Decide.{ℕ-discrete}
 use borrow.Author.Tests.{eqb-false}
 use Rattle.rules.specs.Words.{tabFrom}
-use Rattle.rules.specs.Layout.{process, recordWords, Addr, at, queue, messages, messageWords, messagesAt, messageAt, pagesAt}
+use Rattle.rules.specs.Layout.{process, Addr, at, queue, messages, messageWords, messagesAt, messageAt, pagesAt}
 use Rattle.rules.specs.Rule.{Word, over, _≔_, sameAddr}
 use Rattle.rules.specs.Find.{zeros}
 use Rattle.rules.specs.Call16.{receive, movedUp}

@@ -1,15 +1,14 @@
 -- Call 19, remap, keeps tables well formed.
 use mathlib.Core.Path.{_≡_, refl}
-use mathlib.Core.Bool.{Bool, true, false, _&&_, _||_}
+use mathlib.Core.Bool.{true, false, _&&_}
 use mathlib.Core.List.{List}
-use Prim.Native.Nat.{ℕ, _+_, _-_, _<_}
+use Prim.Native.Nat.{ℕ, _+_, _-_}
 use native.Mathlib.Omega.{arith}
-use lib.Dec.{ltb, leb, eqb}
+use lib.Dec.{ltb, leb}
 use borrow.Author.Tests.{ltb-true, eqb-false}
-use Rattle.rules.specs.Layout.{process, segment, Addr, at, entries, heldAt, pages, pageAt}
-use Rattle.rules.specs.Find.{pageLeft}
+use Rattle.rules.specs.Layout.{process, segment, Addr, at, entries, heldAt, pageAt}
 use Rattle.rules.specs.Call19.{named, vacant, pagesOf, pageTaken, remapped, remap}
-use Rattle.laws.proofs.Tests.{or-left, split, cond-true}
+use Rattle.laws.proofs.Tests.{or-left, split}
 use Rattle.laws.proofs.Refusals.{clear}
 use Rattle.kept.proofs.Fine.{Paged}
 use Rattle.kept.proofs.Keeps.{KeptBy, Caller}

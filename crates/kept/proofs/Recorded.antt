@@ -1,11 +1,10 @@
 -- One record of a tray, on a well-formed table: where its part lies inside the byte slice, what it does is what `step` does with its call; where it does not, nothing
 -- changes. So a record keeps tables well formed, and their configuration.
 use mathlib.Core.Path.{_≡_, refl, sym, ap, _∙_}
-use mathlib.Core.Bool.{Bool, true, false, cond, not}
+use mathlib.Core.Bool.{true, false, cond}
 use mathlib.Core.List.{List, [], _∷_}
 use Prim.Native.Nat.{ℕ}
 use native.Mathlib.Omega.{arith}
-use lib.Dec.{eqb}
 use lib.ListN.{length}
 use borrow.Author.Tests.{ne-eqb}
 use Rattle.rules.specs.Layout.{configuration, rd}

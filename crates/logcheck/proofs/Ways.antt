@@ -6,7 +6,7 @@ use mathlib.Core.Path.{_≡_, refl, sym, ap, _∙_, subst}
 use Prim.Native.Nat.{ℕ, _<_, _≤_}
 use native.Mathlib.Omega.{arith}
 use lib.ListN.{length, take, drop}
-use Rattle.laws.proofs.Tests.{passed, failed, refuted, cond-false, or-left, or-by-right}
+use Rattle.laws.proofs.Tests.{failed, refuted, cond-false, or-left, or-by-right}
 use Rattle.text.specs.Room.{lineBytes}
 use Rattle.session.specs.Turn.{blankTable}
 use Rattle.checker.specs.declared.Check.{Check}

@@ -9,7 +9,6 @@ use lib.Seq.{drop-cons}
 use Rattle.numerals.specs.declared.Part.{Part}
 use Rattle.numerals.specs.declared.Fed.{Fed}
 use Rattle.numerals.specs.declared.Fed.the-variants.{More, Done, Bad}
-use Rattle.numerals.specs.declared.Scan.{Scan}
 use Rattle.numerals.specs.Fed.{fedBy, scan, scanOf}
 
 module _ (p : Part) (b : ℕ) (s : List ℕ) (i : ℕ) where

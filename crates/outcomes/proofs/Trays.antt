@@ -16,7 +16,7 @@ use denote.Triple.Clauses.{Lasts, atExit}
 use Rattle.rules.specs.Tray as rules
 use Rattle.calls.specs.declared.Record.{Record}
 use Rattle.calls.specs.Did.{stateOf}
-use Rattle.calls.specs.Tray.{recordOf, recordsOf, Trayed}
+use Rattle.calls.specs.Tray.{recordsOf, Trayed}
 use Rattle.calls.proofs.tray as calls
 use Rattle.monitor.proofs.monitor_tray as monitor
 use Rattle.outcomes.proofs.Exact.{one, both}

@@ -1,6 +1,5 @@
 // Replay over standard input and standard output, in a fixed amount of memory: reads a piece of the script, plays it and writes the text that is due, until the input
 // ends, a bad line is written, or a read or a write fails.
-ghost use mathlib.Core.List.{[]};
 ghost use mathlib.Core.Path.{_≡_};
 ghost use Prim.Native.Nat.{_≤_};
 ghost use lib.ListN.{length};

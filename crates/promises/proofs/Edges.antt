@@ -8,7 +8,7 @@ use lib.ListN.{replicate}
 use borrow.Author.Tests.{eq-eqb, ne-eqb}
 use Rattle.rules.specs.Words.{allBelow}
 use Rattle.rules.specs.Level.{Level, level, has, within, flowsTo}
-use Rattle.rules.specs.Layout.{maxSerial, Kind, process, file, slots, configuration, flows, at, rd, live, serial}
+use Rattle.rules.specs.Layout.{maxSerial, Kind, process, file, configuration, at, rd, live, serial}
 use Rattle.rules.specs.Seid.{class, seid, classOf, indexOf, present}
 use Rattle.rules.specs.Modes.{validModes}
 use Rattle.rules.specs.Rights.{rights, mayRead, mayWrite, access}

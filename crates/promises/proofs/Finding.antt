@@ -1,14 +1,14 @@
 -- A recorded listing's finding, read: "all agree" exactly when it is the listing; a wrong line is the first that differs.
-use mathlib.Core.Bool.{Bool, true, false, cond, _&&_, true≢false}
+use mathlib.Core.Bool.{true, true≢false}
 use mathlib.Core.List.{List, [], _∷_, _++_}
 use mathlib.Core.Path.{_≡_, refl, sym, ap, ap₂, _∙_, subst}
-use Prim.Native.Nat.{ℕ, zero, suc, _+_, _-_, _<_, _≤_}
+use Prim.Native.Nat.{ℕ, zero, suc, _+_, _-_, _<_}
 use native.Mathlib.Omega.{arith}
 use lib.Dec.{eqb}
 use lib.ListN.{length, getD, take, drop}
-use borrow.Author.Tests.{eqb-true, eq-eqb, ne-eqb}
+use borrow.Author.Tests.{eqb-true, eq-eqb}
 use Rattle.rules.specs.Replay.{listing}
-use Rattle.laws.proofs.Tests.{and-left, and-right, and-both, split, cond-true, cond-false, both-ways}
+use Rattle.laws.proofs.Tests.{and-left, and-right, and-both, split, both-ways}
 use Rattle.rules.specs.Finding.{begins, endsLine, linesOf, same, Finding, agree, wrong, missing, over, compared, finding}
 
 -- ---- the test of two lines

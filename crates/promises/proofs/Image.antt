@@ -1,7 +1,6 @@
 -- "Image then reload gives equal table and store; an accepted image, written again, gives equal bytes." The length told is the length
 -- written, and refusals change nothing. Of every table and store, well formed or not, and of every image.
 use mathlib.Core.Path.{_≡_, refl, sym, ap, _∙_}
-use mathlib.Core.Bool.{not}
 use mathlib.Core.List.{List, [], _∷_, _++_, append-assoc, append-nil}
 use Prim.Native.Nat.{ℕ, zero, suc, _+_, _^_, _<_, _≤_}
 use native.Mathlib.Omega.{arith}

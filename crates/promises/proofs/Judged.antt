@@ -5,12 +5,12 @@ use mathlib.Core.List.{List, [], _∷_, _++_}
 use Prim.Native.Nat.{ℕ, _+_, _-_, _*_}
 use lib.ListN.{set, replicate}
 use Rattle.rules.specs.Claim.{test}
-use Rattle.rules.specs.Layout.{headerWords, cellWords, process, segment, file, recordWords, cells, slots, guard, Addr, at, live, serial, owner, group, parent, queue, zero7, heldAt, usedAt, messageAt, pageAt, bits, sharable, size, references, opens}
+use Rattle.rules.specs.Layout.{headerWords, cellWords, process, segment, file, recordWords, Addr, at, live, serial, owner, group, parent, queue, zero7, heldAt, usedAt, messageAt, pageAt, bits, sharable, size, references, opens}
 use Rattle.rules.specs.Seid.{class, seid}
 use Rattle.rules.specs.Modes.{clash}
 use Rattle.rules.specs.WellFormed.{headerOk, wellFormed}
 use Rattle.rules.specs.Rule.{Word, _≔_, write}
-use Rattle.rules.specs.SetUp.{canSetUp, firstProcesses, freshTable, setUpTable}
+use Rattle.rules.specs.SetUp.{setUpTable}
 use Rattle.promises.proofs.Opened.{open-table, open-set-up}
 
 -- two cells of security 1 and 3, with a process and a file slot each, and a segment slot in the first; B 1

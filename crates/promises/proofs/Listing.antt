@@ -4,12 +4,8 @@ use mathlib.Core.List.{List, [], _∷_, _++_}
 use Prim.Native.Nat.{ℕ}
 use Prim.Native.String.{String}
 use lib.ListN.{replicate}
-use Rattle.rules.specs.Layout.{cells, slots, guard}
-use Rattle.rules.specs.Modes.{reads}
 use Rattle.rules.specs.Errors.{ascii, errorNames, errorName}
 use Rattle.rules.specs.Rule.{sameAddr, over}
-use Rattle.rules.specs.Call07.{create}
-use Rattle.rules.specs.Call09.{close}
 use Rattle.rules.specs.Replay.{encoded, newline, groups, numberFrom, numbersFrom, configurationIn, replayable, callIn, scriptIn, decimalIn, hex, showsBuffer, line, linesFrom, heading, startOf, scriptListing, listing}
 use Rattle.promises.proofs.Opened.{open-table, open-set-up, open-calls, open-step}
 

@@ -1,11 +1,11 @@
 -- A listing, line by line: the heading is line 0, and the line of call n, which says n, is line n.
 use mathlib.Core.Bool.{Bool, true, false, cond, _&&_, not}
-use mathlib.Core.List.{List, [], _∷_, _++_, append-assoc, append-nil}
-use mathlib.Core.Path.{_≡_, refl, sym, ap, ap₂, _∙_, subst}
+use mathlib.Core.List.{List, [], _∷_, _++_, append-assoc}
+use mathlib.Core.Path.{_≡_, refl, sym, ap, _∙_, subst}
 use Prim.Native.Nat.{ℕ, zero, suc, _+_, _/_, _%_}
 use Prim.Native.String.{String}
 use native.Mathlib.Omega.{arith}
-use lib.Dec.{ltb, eqb}
+use lib.Dec.{ltb}
 use lib.ListN.{getD}
 use borrow.Author.Tests.{ne-eqb}
 use Rattle.rules.specs.Claim.{test}
@@ -13,7 +13,7 @@ use Rattle.rules.specs.Errors.{ascii, errorNames, errorName}
 use Rattle.rules.specs.Step.{State, Call, Answer, step, next}
 use Rattle.rules.specs.Replay.{Taken, took, bad, configurationIn, replayable, Script, script, decimalIn, decimal, hexDigit, hex, space, newline, showsBuffer, line, linesFrom, heading, badConfiguration, badScript, startOf, scriptListing, listing}
 use Rattle.rules.specs.Finding.{begins, endsLine, linesOf}
-use Rattle.laws.proofs.Tests.{and-left, and-right, and-both, split, cond-true, cond-both, not-of, failed}
+use Rattle.laws.proofs.Tests.{and-left, and-right, and-both, cond-true, cond-both, not-of, failed}
 use Rattle.promises.proofs.Finding.{dueLines}
 
 -- ---- text without a newline

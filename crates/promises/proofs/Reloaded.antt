@@ -9,7 +9,6 @@ use lib.ListN.{length, getD, take, replicate, length-replicate}
 use borrow.Author.Tests.{ltb-true}
 use Rattle.rules.specs.Layout.{file}
 use Rattle.rules.specs.Seid.{seid, class}
-use Rattle.rules.specs.Modes.{writes}
 use Rattle.rules.specs.WellFormed.{wellFormed}
 use Rattle.rules.specs.Errors.{XOK}
 use Rattle.rules.specs.Step.{State, Call, answer, step, next, run}

@@ -1,25 +1,25 @@
 -- "The outcome is that of the calls made singly": what a tray leaves of table, store, byte slice and records is what `step` leaves, one call after another, each
 -- on its own part of the byte slice. A record whose part lies outside makes no call: it is answered 2 or 3 as a call would be, else 5, and nothing changes.
 use mathlib.Core.Path.{_≡_, refl, sym, ap, _∙_}
-use mathlib.Core.Bool.{Bool, true, false, cond, not}
+use mathlib.Core.Bool.{false, cond, not}
 use mathlib.Core.List.{List, [], _∷_}
 use Prim.Native.Nat.{ℕ, _≤_, _<_}
 use native.Mathlib.Omega.{arith}
 use native.Mathlib.Decide.{ℕ-discrete}
-use lib.Dec.{eqb, ltb}
+use lib.Dec.{eqb}
 use lib.ListN.{length}
 use lib.Seq.{sets}
 use borrow.Author.Tests.{eqb-true, ne-eqb, lt-ltb, le-ltb}
-use Rattle.rules.specs.Claim.{Holds, test}
-use Rattle.rules.specs.Layout.{blockBytes, Kind, process, segment, file, configuration, Addr, rd}
+use Rattle.rules.specs.Claim.{test}
+use Rattle.rules.specs.Layout.{blockBytes, configuration, Addr, rd}
 use Rattle.rules.specs.WellFormed.{wellFormed}
-use Rattle.rules.specs.Errors.{XOK, XbTab, XbPrSd, XbdKcl, XbParam, XbSz}
-use Rattle.rules.specs.Rule.{Refusal, _⇒_, firstRefusal, Rule}
+use Rattle.rules.specs.Errors.{XOK, XbTab, XbParam, XbSz}
+use Rattle.rules.specs.Rule.{Refusal, _⇒_, Rule}
 use Rattle.rules.specs.Call13.{block, readBlock}
 use Rattle.rules.specs.Call16.{messageBytes, receive}
 use Rattle.rules.specs.Call17.{statusBytes, told, statusOf, status}
-use Rattle.rules.specs.Step.{State, Call, Answer, answer, Outcome, badCaller, badCode, ruleOf, carriedOut, wholeRule, step, next, run}
-use Rattle.rules.specs.Tray.{Record, partOf, callIn, inside, recordRule, recordStep, withAnswer, Tray, left, behind, inOrder, mostRecords, trayAnswer, afterTray}
+use Rattle.rules.specs.Step.{State, Call, Outcome, ruleOf, wholeRule, step, next, run}
+use Rattle.rules.specs.Tray.{Record, callIn, inside, recordStep, withAnswer, Tray, left, behind, inOrder, mostRecords, trayAnswer, afterTray}
 use Rattle.laws.proofs.Tests.{cond-true, cond-false, cond-both, split, passed}
 use Rattle.laws.proofs.Claims.{tested}
 use Rattle.laws.proofs.Refusals.{Clear}

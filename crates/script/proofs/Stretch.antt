@@ -5,7 +5,6 @@ use mathlib.Core.Path.{_≡_, refl, sym, ap, _∙_}
 use Prim.Native.Nat.{ℕ, suc, _+_, _-_, _<_, _≤_}
 use native.Mathlib.Omega.{arith}
 use native.Mathlib.Numerals.{add-one}
-use lib.Dec.{ltb}
 use lib.ListN.{getD, set, take as firsts, drop, length, length-take, length-drop, take-append-drop}
 use lib.Seq.{sets, take-all, drop-cons, drop-drop}
 use borrow.Author.Tests.{lt-ltb, le-ltb}
@@ -22,7 +21,7 @@ use Rattle.script.specs.declared.Reader.{Reader}
 use Rattle.script.specs.declared.Took.{Took}
 use Rattle.script.specs.declared.Moved.{Moved}
 use Rattle.script.specs.declared.What.the-variants.{More, Call}
-use Rattle.script.specs.Take.{isMore, isBytes, onward, further, bytesLeft, withPart, atCall, took, fedTook, fedTable, Read, read, numberRead, byteTook, takeAt, take}
+use Rattle.script.specs.Take.{isMore, isBytes, further, bytesLeft, withPart, atCall, took, fedTook, fedTable, Read, read, numberRead, byteTook, takeAt, take}
 use Rattle.script.specs.Advance.{Advanced, advanced, stopped, advance, resumed, Advances, Goes}
 use Rattle.script.proofs.Piece.{goes-on, stops, ends, code-ends, going-resumed, stopped-resumed, cut}
 

@@ -1,7 +1,7 @@
 -- Call 4 writes in its own cell and reads down.
 use mathlib.Core.Bool.{Bool}
 use mathlib.Core.List.{List}
-use mathlib.Core.Path.{_≡_, refl}
+use mathlib.Core.Path.{_≡_}
 use Prim.Native.Nat.{ℕ}
 use borrow.Author.Tests.{eqb-true, lt-leb}
 use Rattle.rules.specs.Layout.{process, segment, cellOf, Addr, entries}

@@ -1,18 +1,17 @@
 -- Call 19 writes the caller's own pages and reads down.
 use mathlib.Core.Path.{_≡_, refl, sym, ap}
 use mathlib.Core.Bool.{Bool, true, false, _&&_, _||_, not}
-use mathlib.Core.List.{List, [], _∷_}
-use Prim.Native.Nat.{ℕ, _+_, _≤_, _<_}
+use mathlib.Core.List.{List, []}
+use Prim.Native.Nat.{ℕ, _+_, _<_}
 use native.Mathlib.Omega.{arith}
 use lib.Dec.{ltb, leb, eqb}
 use borrow.Author.Tests.{lt-leb, ltb-true, ltb-false}
-use Rattle.rules.specs.Words.{someBelow}
 use Rattle.rules.specs.Layout.{process, segment, cellOf, Addr, at, entries, heldAt, pages, pageAt, size}
 use Rattle.rules.specs.Seid.{indexOf}
 use Rattle.rules.specs.Find.{stale, pageLeft, pagesSet}
 use Rattle.rules.specs.Rule.{Word, effect}
 use Rattle.rules.specs.Call19.{named, vacant, isMapped, pagesOf, conflict, pageTaken, remapped, remap}
-use Rattle.laws.proofs.Tests.{split, or-left, or-right}
+use Rattle.laws.proofs.Tests.{split, or-left}
 use Rattle.laws.proofs.Below.{some-same}
 use Rattle.secrecy.proofs.Shown.{up-rules, WritesUp, Alike, alike-test, alike-effect, same-effect}
 use Rattle.secrecy.proofs.View

@@ -11,9 +11,9 @@
 --
 -- It is the two-run theorem (Unwind) of a machine that holds a state and a byte slice and takes one record after the other.
 use mathlib.Core.Path.{_≡_, refl, sym, ap, ap₂, _∙_}
-use mathlib.Core.Bool.{Bool, true, false, cond, _&&_, _||_, not}
-use mathlib.Core.Option.{Option, none, some}
-use mathlib.Core.List.{List, [], _∷_, _++_}
+use mathlib.Core.Bool.{Bool, true, false, _&&_, _||_, not}
+use mathlib.Core.Option.{Option}
+use mathlib.Core.List.{List, [], _∷_}
 use Prim.Native.Nat.{ℕ, _+_, _≤_, _<_}
 use native.Mathlib.Omega.{arith}
 use lib.Dec.{leb, ltb}
@@ -23,21 +23,20 @@ use borrow.Author.Tests.{leb-true, le-leb, lt-ltb}
 use Rattle.rules.specs.Layout.{configuration, guard, rd}
 use Rattle.rules.specs.Copy.{Copy}
 use Rattle.rules.specs.Call21.{carried}
-use Rattle.rules.specs.Rule.{firstRefusal}
-use Rattle.rules.specs.Step.{State, Call, Answer, answer, Outcome, Reply, badCaller, badCode, step, next, reply}
+use Rattle.rules.specs.Step.{State, Call, answer, Outcome, Reply, step, reply}
 use Rattle.rules.specs.Observer.{observer, Closed, Agree, stays}
 use Rattle.rules.specs.Tray.{Record, partOf, callIn, inside, recordRule, recordStep, withAnswer, Tray, inOrder, mostRecords, afterTray, staysIn, remainingIn, asked, within, seen, hidden, Apart, SameParts}
-use Rattle.rules.specs.Regrade.{into, accepted, Event, remains, brings, withoutRefused, guardWithin, NamesNone, asks}
+use Rattle.rules.specs.Regrade.{into, accepted, Event, remains, withoutRefused, guardWithin, NamesNone}
 use Rattle.rules.specs.TrayRegrade.{callsIn, acceptedIn, eventIn, eventsIn, asksIn, AsksNoneIn}
-use Rattle.laws.proofs.Tests.{and-left, and-right, and-both, or-by-left, or-by-right, not-of, both-ways, refuted, split, cond-true, cond-false}
+use Rattle.laws.proofs.Tests.{and-right, and-both, or-by-left, or-by-right, not-of, both-ways, refuted, split}
 use Rattle.laws.proofs.Stored.{sets-out, sets-both}
 use Rattle.laws.proofs.Written.{AllOf}
 use Rattle.laws.proofs.Parts.{part-short, same-part, sets-part}
 use Rattle.kept.proofs.Kept.{Well}
-use Rattle.kept.proofs.Recorded.{outsideNumber, inside-is-step, outside-is-refused, record-kept, record-conf-kept}
+use Rattle.kept.proofs.Recorded.{outsideNumber, inside-is-step, outside-is-refused}
 use Rattle.promises.proofs.Tray.{tray-runs, buffer-fits, tray-conf-kept}
 use Rattle.secrecy.proofs.CellFlow.{flows-trans}
-use Rattle.secrecy.proofs.Unwind.{push, pushed, runs, trace, views, Along, Unwinds, two-runs}
+use Rattle.secrecy.proofs.Unwind.{runs, trace, views, Along, Unwinds, two-runs}
 use Rattle.secrecy.proofs.Apply.{AgreeAt, agree-sym, agree-trans}
 use Rattle.secrecy.proofs.Steps as steps
 use Rattle.secrecy.proofs.Steps.{WellUnder, at-configuration, from-configuration, struck-out, both-bring, same-caller}

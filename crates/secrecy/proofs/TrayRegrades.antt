@@ -1,8 +1,8 @@
 -- The premise of CR 9 of trays, in other words: a record is accepted, and asks about a cell, as its call does where its part lies inside the byte slice, and else not. So what
 -- Regrades says of calls is so of records.
 use mathlib.Core.Path.{_≡_, refl, sym, ap, _∙_}
-use mathlib.Core.Bool.{Bool, true, false, cond, _&&_, _||_}
-use mathlib.Core.List.{List, [], _∷_, _++_}
+use mathlib.Core.Bool.{Bool, true, false, _&&_, _||_}
+use mathlib.Core.List.{List, [], _∷_}
 use Prim.Native.Nat.{ℕ}
 use lib.Dec.{eqb}
 use lib.Seq.{sets}

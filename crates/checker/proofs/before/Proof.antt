@@ -2,7 +2,6 @@
 use Rattle.checker.proofs.before.Statement.{statement}
 use Rattle.checker.proofs.before.Tie as tie
 use borrow.Author.Needs.{needs}
-use native.Mathlib.Omega.{arith}
 
 sub-result : tie.Need-sub-result
 sub-result c = search needs

@@ -1,6 +1,5 @@
 -- `image::image` meets its contract: no length, a short buffer, and neither.
 use borrow.Author.Needs.{needs}
-use lib.ListN.{length}
 use Rattle.image.proofs.Imaged.{no-image, too-short, is-put}
 use Rattle.image.proofs.image.Statement.{statement}
 use Rattle.image.proofs.image.Tie as tie

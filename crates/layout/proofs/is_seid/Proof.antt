@@ -1,5 +1,4 @@
 -- `layout::is_seid` meets its contract: the code's tests are the rule's.
-use native.Mathlib.Omega.{arith}
 use borrow.Author.Needs.{needs}
 use Rattle.rules.specs.Seid.{isSeid}
 use Rattle.layout.proofs.is_seid.Statement.{statement}

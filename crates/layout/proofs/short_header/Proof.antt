@@ -1,5 +1,4 @@
 -- `layout::short_header` meets its contract: the header's words, each as the rules have it, and 0 where there is none.
-use native.Mathlib.Omega.{arith}
 use borrow.Author.Needs.{needs}
 use Rattle.rules.specs.Layout.{cells, slots, blocks, guard}
 use Rattle.layout.proofs.short_header.Statement.{statement}

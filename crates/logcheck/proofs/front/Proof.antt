@@ -4,7 +4,6 @@ use Prim.Native.Nat.{_≤_}
 use native.Mathlib.Omega.{arith}
 use lib.ListN.{length}
 use lib.Seq.{length-take-le, take-length, take-all}
-use borrow.Author.Needs.{needs}
 use Rattle.logcheck.proofs.front.Statement.{statement}
 use Rattle.logcheck.proofs.front.Tie as tie
 

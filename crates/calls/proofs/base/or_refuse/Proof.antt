@@ -1,7 +1,5 @@
 -- `base::or_refuse` meets its contract, case by case.
 use borrow.Author.Tests.{eq-eqb, ne-eqb}
-use borrow.Author.Needs.{needs}
-use native.Mathlib.Omega.{arith}
 use Rattle.calls.proofs.base.or_refuse.Statement.{statement}
 use Rattle.calls.proofs.base.or_refuse.Tie as tie
 

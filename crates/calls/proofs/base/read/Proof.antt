@@ -1,6 +1,5 @@
 -- `base::read` meets its contract: what stands there is the table's word.
 use Rattle.calls.proofs.Worlds.{see}
-use native.Mathlib.Omega.{arith}
 use borrow.Author.Needs.{needs}
 use Rattle.calls.proofs.base.read.Statement.{statement}
 use Rattle.calls.proofs.base.read.Tie as tie

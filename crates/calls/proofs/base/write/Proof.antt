@@ -1,6 +1,5 @@
 -- `base::write` meets its contract: the word lies where the record begins, and so much further.
 use mathlib.Core.Path.{_∙_}
-use native.Mathlib.Omega.{arith}
 use borrow.Author.Needs.{needs}
 use Rattle.calls.proofs.base.write.Statement.{statement}
 use Rattle.calls.proofs.base.write.Tie as tie

@@ -1,7 +1,6 @@
 -- `entries::entry_of` meets its contract: the two words follow each other.
 use Rattle.calls.proofs.Given.{entry-read}
 use Rattle.layout.specs.Kinds.{kindOf}
-use native.Mathlib.Omega.{arith}
 use borrow.Author.Needs.{needs}
 use Rattle.calls.proofs.entries.entry_of.Statement.{statement}
 use Rattle.calls.proofs.entries.entry_of.Tie as tie

@@ -1,5 +1,4 @@
 -- `entries::is_kept` meets its contract, kind by kind.
-use native.Mathlib.Omega.{arith}
 use borrow.Author.Needs.{needs}
 use Rattle.calls.proofs.entries.is_kept.Statement.{statement}
 use Rattle.calls.proofs.entries.is_kept.Tie as tie

@@ -4,8 +4,6 @@ use Rattle.calls.proofs.Opens.{own-cell}
 use borrow.Author.Tests.{eq-eqb, ne-eqb}
 use lib.Dec.{eqb}
 use mathlib.Core.Path.{sym}
-use borrow.Author.Needs.{needs}
-use native.Mathlib.Omega.{arith}
 use Rattle.calls.proofs.files.busy.Statement.{statement}
 use Rattle.calls.proofs.files.busy.Tie as tie
 

@@ -1,7 +1,6 @@
 -- `files::drop_link` meets its contract: freed, or one link less.
 use Rattle.calls.proofs.FilesLaws.{drop-freed, drop-counted}
 use mathlib.Core.Path.{_∙_}
-use native.Mathlib.Omega.{arith}
 use borrow.Author.Needs.{needs}
 use Rattle.calls.proofs.files.drop_link.Statement.{statement}
 use Rattle.calls.proofs.files.drop_link.Tie as tie

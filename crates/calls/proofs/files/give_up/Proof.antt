@@ -10,7 +10,6 @@ use Rattle.rules.specs.Layout.{configuration}
 use Prim.Native.Nat.{ℕ}
 use mathlib.Core.List.{List}
 use mathlib.Core.Path.{_≡_, ap, _∙_}
-use native.Mathlib.Omega.{arith}
 use borrow.Author.Needs.{needs}
 use Rattle.calls.proofs.files.give_up.Statement.{statement}
 use Rattle.calls.proofs.files.give_up.Tie as tie

@@ -1,5 +1,4 @@
 -- `files::may_open` meets its contract: its five tests in their order.
-use native.Mathlib.Omega.{arith}
 use borrow.Author.Needs.{needs}
 use Rattle.calls.proofs.files.may_open.Statement.{statement}
 use Rattle.calls.proofs.files.may_open.Tie as tie

@@ -10,7 +10,6 @@ use Rattle.rules.specs.Layout.{configuration}
 use Prim.Native.Nat.{ℕ}
 use mathlib.Core.List.{List}
 use mathlib.Core.Path.{_≡_, _∙_}
-use native.Mathlib.Omega.{arith}
 use borrow.Author.Needs.{needs}
 use Rattle.calls.proofs.files.set_bits_of.Statement.{statement}
 use Rattle.calls.proofs.files.set_bits_of.Tie as tie

@@ -4,12 +4,10 @@ use Rattle.calls.proofs.Leaves.{left-refused, left-done}
 use Rattle.calls.specs.Left.{ruleAt}
 use Rattle.rules.specs.Rule.{firstRefusal}
 use Rattle.rules.specs.Call11.{unlink}
-use Rattle.rules.specs.Layout.{maxLinks}
 use lib.Dec.{eqb}
 use Prim.Native.Nat.{ℕ}
-use mathlib.Core.List.{List, []}
+use mathlib.Core.List.{List}
 use mathlib.Core.Path.{_≡_, _∙_}
-use native.Mathlib.Omega.{arith}
 use borrow.Author.Needs.{needs}
 use Rattle.calls.proofs.files.unlink.Statement.{statement}
 use Rattle.calls.proofs.files.unlink.Tie as tie

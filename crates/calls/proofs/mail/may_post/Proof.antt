@@ -1,5 +1,4 @@
 -- `mail::may_post` meets its contract: its six tests in their order.
-use native.Mathlib.Omega.{arith}
 use borrow.Author.Needs.{needs}
 use Rattle.calls.proofs.mail.may_post.Statement.{statement}
 use Rattle.calls.proofs.mail.may_post.Tie as tie

@@ -2,7 +2,7 @@
 use Rattle.calls.proofs.Posts.{room-told, Posted, posted, post-refused, post-delivered, post-dropped, post-done}
 use lib.ListN.{length}
 use mathlib.Core.Logic.{⊎-elim}
-use mathlib.Core.Path.{_≡_, ap, _∙_}
+use mathlib.Core.Path.{ap, _∙_}
 use Rattle.calls.proofs.Names.{sixteen}
 use borrow.Author.Needs.{needs}
 use Rattle.calls.proofs.mail.post.Statement.{statement}

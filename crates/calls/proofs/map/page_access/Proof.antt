@@ -1,6 +1,6 @@
 -- `map::page_access` meets its contract: two refusals, and then those and the answer of call 18.
 use mathlib.Core.Path.{_≡_, refl, sym, ap, _∙_}
-use mathlib.Core.List.{List, [], _∷_, _++_}
+use mathlib.Core.List.{List, [], _∷_}
 use Prim.Native.Nat.{ℕ, _-_}
 use lib.Dec.{leb, eqb}
 use Rattle.rules.specs.Layout.{process, configuration, at, pages, pageAt}

@@ -12,7 +12,7 @@ use Rattle.rules.specs.Errors.{XnSgDes, XbSgDes, XbSgSd, XoutSgAldUmp, XinSgAld
 use Rattle.rules.specs.Rule.{Word, write, _⇒_, firstRefusal}
 use Rattle.rules.specs.Find.{stale, pageLeft, pagesSet}
 use Rattle.rules.specs.Call19.{named, isMapped, conflict, pagesOf, remap}
-use Rattle.laws.proofs.Tests.{split, or-left, or-right}
+use Rattle.laws.proofs.Tests.{split, or-left}
 use Rattle.layout.specs.declared.Header.{Header}
 use Rattle.calls.specs.declared.Caller.{Caller}
 use Rattle.calls.specs.declared.entries.Entry.{Entry}

@@ -1,6 +1,4 @@
 -- `map::run_of` meets its contract: the size is rounded up.
-use mathlib.Core.Path.{_∙_}
-use native.Mathlib.Omega.{arith}
 use borrow.Author.Needs.{needs}
 use Rattle.calls.proofs.map.run_of.Statement.{statement}
 use Rattle.calls.proofs.map.run_of.Tie as tie

@@ -1,6 +1,6 @@
 -- `map::taken` meets its contract: of the pages passed, those of the run hold the number.
 use Prim.Native.Nat.{_+_, _-_, _≤_}
-use mathlib.Core.Path.{_≡_, _∙_}
+use mathlib.Core.Path.{_∙_}
 use mathlib.Core.Bool.{cond, _&&_}
 use native.Mathlib.Omega.{arith}
 use lib.Dec.{ltb, leb}

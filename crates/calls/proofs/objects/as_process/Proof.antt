@@ -3,7 +3,6 @@ use Rattle.calls.proofs.Names.{named, name-none}
 use Rattle.ids.proofs.Parts.{process-is, process-not}
 use Rattle.rules.specs.Layout.{process}
 use mathlib.Core.Path.{sym, _∙_}
-use native.Mathlib.Omega.{arith}
 use borrow.Author.Needs.{needs}
 use Rattle.calls.proofs.objects.as_process.Statement.{statement}
 use Rattle.calls.proofs.objects.as_process.Tie as tie

@@ -3,7 +3,6 @@ use Rattle.calls.proofs.Names.{named, name-none}
 use Rattle.ids.proofs.Parts.{segment-is, segment-not}
 use Rattle.rules.specs.Layout.{segment}
 use mathlib.Core.Path.{sym, _∙_}
-use native.Mathlib.Omega.{arith}
 use borrow.Author.Needs.{needs}
 use Rattle.calls.proofs.objects.as_segment.Statement.{statement}
 use Rattle.calls.proofs.objects.as_segment.Tie as tie

@@ -1,5 +1,4 @@
 -- `objects::find` meets its contract: its three tests in their order.
-use native.Mathlib.Omega.{arith}
 use borrow.Author.Needs.{needs}
 use Rattle.calls.proofs.objects.find.Statement.{statement}
 use Rattle.calls.proofs.objects.find.Tie as tie

@@ -1,6 +1,5 @@
 -- `objects::name_of` meets its contract, kind by kind.
 use mathlib.Core.Path.{_∙_}
-use native.Mathlib.Omega.{arith}
 use borrow.Author.Needs.{needs}
 use Rattle.calls.proofs.objects.name_of.Statement.{statement}
 use Rattle.calls.proofs.objects.name_of.Tie as tie

@@ -1,6 +1,5 @@
 -- `objects::or_self` meets its contract.
 use Rattle.calls.proofs.Names.{self-told}
-use native.Mathlib.Omega.{arith}
 use borrow.Author.Needs.{needs}
 use Rattle.calls.proofs.objects.or_self.Statement.{statement}
 use Rattle.calls.proofs.objects.or_self.Tie as tie

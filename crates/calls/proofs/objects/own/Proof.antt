@@ -1,5 +1,4 @@
 -- `objects::own` meets its contract: "find", then the owner.
-use native.Mathlib.Omega.{arith}
 use borrow.Author.Needs.{needs}
 use Rattle.calls.proofs.objects.own.Statement.{statement}
 use Rattle.calls.proofs.objects.own.Tie as tie

@@ -1,5 +1,4 @@
 -- `regrade::regrade` meets its contract: the rule's refusals in their order, the record made and the blocks copied.
-use native.Mathlib.Omega.{arith}
 use mathlib.Core.Path.{_≡_}
 use lib.ListN.{length}
 use Rattle.rules.specs.Rule.{firstRefusal}

@@ -2,7 +2,6 @@
 use Rattle.calls.proofs.Worlds.{cells-is, kind-word, by-kind}
 use Rattle.layout.specs.Kinds.{kindOf}
 use mathlib.Core.Path.{_∙_}
-use native.Mathlib.Omega.{arith}
 use borrow.Author.Needs.{needs}
 use Rattle.calls.proofs.room.cell_of.Statement.{statement}
 use Rattle.calls.proofs.room.cell_of.Tie as tie

@@ -1,6 +1,5 @@
 -- `room::free_entry` meets its contract: the search in the words is the rule's.
 use Rattle.calls.proofs.Searches.{entry-told}
-use native.Mathlib.Omega.{arith}
 use borrow.Author.Needs.{needs}
 use Rattle.calls.proofs.room.free_entry.Statement.{statement}
 use Rattle.calls.proofs.room.free_entry.Tie as tie

@@ -1,7 +1,6 @@
 -- `matrix_in` meets its contract: the first c rows are there.
 use Prim.Native.Nat.{_-_}
 use mathlib.Core.List.{[]}
-use native.Mathlib.Omega.{arith}
 use Rattle.rules.specs.Words.{tabFrom}
 use Rattle.rules.specs.Layout.{maxCells}
 use Rattle.layout.specs.Hall.{flowByte, matrixIn}

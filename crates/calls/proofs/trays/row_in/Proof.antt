@@ -2,7 +2,6 @@
 use Prim.Native.Nat.{_-_}
 use mathlib.Core.Path.{refl}
 use mathlib.Core.Bool.{false}
-use native.Mathlib.Omega.{arith}
 use Rattle.rules.specs.Layout.{maxCells}
 use Rattle.layout.specs.Hall.{flowByte}
 use Rattle.laws.proofs.Tab.{Filled, filled-none, filled-more, filled-all}

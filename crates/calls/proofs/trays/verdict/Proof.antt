@@ -1,5 +1,5 @@
 -- `verdict` meets its contract.
-use mathlib.Core.Path.{_≡_, refl, sym, _∙_}
+use mathlib.Core.Path.{_≡_, sym, _∙_}
 use lib.Dec.{ltb}
 use Rattle.rules.specs.Tray.{mostRecords}
 use mathlib.Core.Bool.{true, false}

@@ -1,7 +1,6 @@
 -- `pages::page_ok` meets its contract: a page that is 0, that names no designator, or by what the designator holds.
-use mathlib.Core.Path.{_≡_, sym, ap, _∙_}
-use Prim.Native.Nat.{ℕ, _≤_, _<_}
-use Rattle.rules.specs.Layout.{process, at, pageAt, entries}
+use mathlib.Core.Path.{sym, _∙_}
+use Rattle.rules.specs.Layout.{at}
 use Rattle.table.specs.Entries.{recordAt}
 use Rattle.table.proofs.Alive.{page-free, page-beyond, page-held}
 use native.Mathlib.Omega.{arith}

@@ -1,7 +1,7 @@
 -- `runs::slot_cells` meets its contract: the runs of the cells passed are filled, and of this cell's run the slots passed; what lies past them is still 0.
 use native.Mathlib.Omega.{arith}
 use mathlib.Core.Path.{_≡_, sym, ap, _∙_}
-use Prim.Native.Nat.{ℕ, _+_, _*_, _-_, _≤_, _<_}
+use Prim.Native.Nat.{ℕ, _+_, _-_, _≤_, _<_}
 use lib.ListN.{length, length-replicate, length-set}
 use Rattle.rules.specs.Layout.{maxSlots, Kind, cells, cellSlotsWord, firstSlot, configuration, cellAt}
 use Rattle.layout.specs.Kinds.{kindOf}

@@ -1,7 +1,7 @@
 -- `shape::slots_owned` meets its contract: the sum of the cells passed, which fits since each word does.
 use native.Mathlib.Omega.{arith}
 use mathlib.Core.Path.{_≡_, sym, _∙_}
-use Prim.Native.Nat.{_≤_, _-_, _+_, _*_}
+use Prim.Native.Nat.{_≤_, _-_, _*_}
 use Rattle.rules.specs.Words.{sumBelow}
 use Rattle.rules.specs.Layout.{cells, cellWord, configuration, cellAt}
 use Rattle.table.proofs.Loops.{sum-first, sum-next, sum-last}
