@@ -18,6 +18,9 @@ Kind-bits-word = (λ κs a. tt, λ κs a z z′ w w′ p q. (one p q, refl))
 pub Kind-holders-word : Exact code.Kind.holders_word.Kinds.ps code.Kind.holders_word.Kinds.r code.Kind.holders_word.Reads.Asked code.Kind.holders_word.Reads.Learnt
 Kind-holders-word = (λ κs a. tt, λ κs a z z′ w w′ p q. (one p q, refl))
 
+pub Kind-cells-at : Exact code.Kind.cells_at.Kinds.ps code.Kind.cells_at.Kinds.r code.Kind.cells_at.Reads.Asked code.Kind.cells_at.Reads.Learnt
+Kind-cells-at = (λ κs a. tt, λ κs a z z′ w w′ p q. (one p q, refl))
+
 pub header-of : Exact code.header_of.Kinds.ps code.header_of.Kinds.r code.header_of.Reads.Asked code.header_of.Reads.Learnt
 header-of = (λ κs a. tt, λ κs a z z′ w w′ p q. (one p q, refl))
 
