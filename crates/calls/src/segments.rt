@@ -45,8 +45,10 @@ use rules::ENTRIES;
 use rules::GROUP;
 use rules::MAX_BITS;
 use rules::MAX_CELLS;
+use rules::MAX_SEGMENT;
 use rules::OWNER;
 use rules::SEGMENT_CLASS;
+use rules::SEGMENT_UNIT;
 use rules::SERIAL;
 use rules::SHARABLE;
 use rules::XB_PARAM;
@@ -94,7 +96,7 @@ fn twice(t: &[u32], n: Header, c: Caller, e: u32, s: u32) -> bool
 fn is_size(n: u32) -> bool
     ensures { λ r. ⌜ r ≡ segmentSize n ⌝ }
 {
-    (n % 512 == 0) & ((512 <= n) & (n <= 65024))
+    (n % SEGMENT_UNIT == 0) & ((SEGMENT_UNIT <= n) & (n <= MAX_SEGMENT))
 }
 
 // The owner's read and write bits, as access.

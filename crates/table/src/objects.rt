@@ -16,16 +16,13 @@ use rules::BITS;
 use rules::LINKS;
 use rules::MAX_BITS;
 use rules::MAX_LINKS;
+use rules::MAX_SEGMENT;
 use rules::OPENS;
 use rules::REFERENCES;
+use rules::SEGMENT_UNIT;
 use rules::SHARABLE;
 use rules::SIZE;
 use words::wide;
-
-// A segment's size is a multiple of the one, up to the other.
-const SIZE_UNIT: u32 = 512;
-
-const MAX_SIZE: u32 = 65024;
 
 // A segment; held is how many entries of its own cell hold it.
 fn segment_ok(t: &[u32], n: Header, s: usize, held: u32) -> bool
@@ -35,7 +32,7 @@ fn segment_ok(t: &[u32], n: Header, s: usize, held: u32) -> bool
     let at = places::record_at(n, Kind::Segment, s);
     let size = t[at + SIZE];
     let references = t[at + REFERENCES];
-    let sized = (size % SIZE_UNIT == 0) & ((SIZE_UNIT <= size) & (size <= MAX_SIZE));
+    let sized = (size % SEGMENT_UNIT == 0) & ((SEGMENT_UNIT <= size) & (size <= MAX_SEGMENT));
     let alive = (t[at + BITS] <= MAX_BITS)
         & ((t[at + SHARABLE] <= 1) & (sized & (1 <= references)));
     records::record_ok(t, Kind::Segment, at, alive) & (references == held)
