@@ -1,4 +1,4 @@
-// The twenty-one calls over the lent table, store and buffer.
+// The twenty-one calls over the lent table, store and buffer, singly and by the tray, and the view of a block.
 ghost use mathlib.Core.Path.{_≡_};
 ghost use Prim.Native.Nat.{_+_, _≤_};
 ghost use denote.Ref.{ptr};

@@ -1,4 +1,4 @@
--- The check's answer is the number of what it found.
+-- `monitor_check` meets its contract: the answer is the number of what the check found.
 use mathlib.Core.Path.{ap, sym, _∙_}
 use mathlib.Core.Bool.{cond}
 use borrow.Author.Needs.{needs}
