@@ -41,7 +41,8 @@ use Rattle.calls.specs.Blocks.{readUse, ReadLeft, WriteLeft}
 use Rattle.calls.specs.View.{partOf, partAt, ShownBy}
 use Rattle.calls.specs.declared.blocks.Use.{Use}
 use Rattle.calls.proofs.Worlds.{spot, shape, blocks-is}
-use Rattle.calls.proofs.Refusals.{refusing-first, refusing-alike, none-found, Clear, clear-of}
+use Rattle.laws.proofs.Refusals.{Clear, clear}
+use Rattle.calls.proofs.Refusals.{refusing-first, refusing-alike, none-found}
 use Rattle.calls.proofs.Looks.{seen-formed, slot-is, slot-in}
 use Rattle.calls.proofs.Leaves.{left-refused, left-done, store-refused, store-done, buffer-refused, buffer-done}
 
@@ -180,7 +181,7 @@ module _ {t : List ℕ} {n : Header} {c : Caller} {a : ℕ} {d : Entry} {f : See
 
     module _ (none : e ≡ 0) where
       read-clear : Clear (readTests a d f z (n .blocks) b)
-      read-clear = clear-of (readTests a d f z (n .blocks) b) refl (none-found e₀ (readTests a d f z (n .blocks) b) refl (sym told ∙ none))
+      read-clear = clear (readTests a d f z (n .blocks) b) refl (none-found e₀ (readTests a d f z (n .blocks) b) refl (sym told ∙ none))
 
       read-formed : formed (configuration t) file (d .held) ≡ true
       read-formed = form u (read-clear .0) (read-clear .1 .0)
@@ -220,8 +221,8 @@ module _ (t st : List ℕ) (p a b : ℕ) (buf : List ℕ) {e : ℕ} {s : Part} (
     right-length : length buf ≡ blockBytes
     unfolding readBlock
     right-length =
-        let clear = clear-of (ruleAt t (λ h q. readBlock h q st p a b buf) .refusals) refl (sym read-number ∙ none) in
-        eqb-true (length buf) blockBytes (passed (eqb (length buf) blockBytes) (clear .0))
+        let unrefused = clear (ruleAt t (λ h q. readBlock h q st p a b buf) .refusals) refl (sym read-number ∙ none) in
+        eqb-true (length buf) blockBytes (passed (eqb (length buf) blockBytes) (unrefused .0))
 
     pub read-within : (s .from + blockBytes ≤ length st) × (length buf ≡ blockBytes)
     read-within = (omega (arith, found .inside, ap (λ (x : Part). x .count) at-block), right-length)
@@ -253,7 +254,7 @@ module _ {t : List ℕ} {n : Header} {c : Caller} {a : ℕ} {d : Entry} {f : See
 
     module _ (none : e ≡ 0) where
       write-clear : Clear (writeTests (length buf) a d f (n .blocks) b)
-      write-clear = clear-of (writeTests (length buf) a d f (n .blocks) b) refl (sym told ∙ none)
+      write-clear = clear (writeTests (length buf) a d f (n .blocks) b) refl (sym told ∙ none)
 
       write-formed : formed (configuration t) file (d .held) ≡ true
       write-formed = form u (write-clear .1 .0) (write-clear .1 .1 .0)

@@ -1,5 +1,5 @@
 -- What the calls on files find and write, in the rules' terms: their refusals are the rules', and so are the words that they write.
-use mathlib.Core.Path.{_≡_, refl, sym, ap, _∙_}
+use mathlib.Core.Path.{_≡_, refl, sym, ap, _∙_, ap₂}
 use mathlib.Core.Bool.{Bool, true, false, _&&_, _||_, not}
 use mathlib.Core.List.{List, [], _∷_, _++_}
 use Prim.Native.Nat.{ℕ, _+_, _*_, _-_, _≤_, _<_}
@@ -7,7 +7,7 @@ use native.Mathlib.Omega.{arith}
 use native.Mathlib.Decide.{ℕ-discrete}
 use lib.Dec.{eqb, leb, ltb}
 use lib.ListN.{getD, set}
-use borrow.Author.Tests.{eq-eqb, ne-eqb}
+use borrow.Author.Tests.{lt-ltb, eq-eqb, ne-eqb}
 use Rattle.rules.specs.Layout.{maxSlots, maxBits, maxLinks, Kind, process, segment, file, configuration, slots, cellOf, Addr, at, offset, entries, heldAt, usedAt, cellWord, cellSlotsWord, live, serial, owner, group, bits, links, opens, recordWords}
 use Rattle.rules.specs.Seid.{class, classOf, seid, indexOf, formed, orSelf}
 use Rattle.rules.specs.Modes.{validModes, reads, writes, clash}
@@ -32,7 +32,8 @@ use Rattle.layout.specs.Header.{recordOf, placeOf}
 use Rattle.calls.specs.declared.Caller.{Caller}
 use Rattle.calls.specs.declared.objects.Seen.{Seen}
 use Rattle.calls.specs.World.{Known, Sound, wordsOf, Clashable, firstBy}
-use Rattle.calls.specs.Left.{ruleAt}
+use Rattle.calls.specs.declared.Answer.{Answer}
+use Rattle.calls.specs.Left.{ruleAt, said, Left}
 use Rattle.calls.specs.Refusing.{orRefuse, refusing}
 use Rattle.calls.specs.Seen.{namedOf, kindBy, seenOf, findTests, ownTests, slotFound}
 use Rattle.calls.specs.declared.room.Slot.{Slot}
@@ -41,7 +42,9 @@ use Rattle.calls.specs.Calls.{giveUpRule, openTests}
 use Rattle.calls.specs.declared.entries.Entry.{Entry}
 use Rattle.calls.specs.Entries.{entryOf, freedAt, madeAt, takenUpAt}
 use Rattle.calls.proofs.Worlds.{spot, first-by-kind}
-use Rattle.calls.proofs.Refusals.{numbered, refusing-first, past, only-then, clear-of}
+use Rattle.laws.proofs.Refusals.{numbered, clear}
+use Rattle.calls.proofs.Refusals.{refusing-first, past, only-then}
+use Rattle.calls.proofs.Leaves.{left-done}
 use Rattle.calls.proofs.Looks.{own-numbered, by-kind, form-past, find-first, own-first, seen-formed, own-is, slot-is, slot-in}
 use Rattle.calls.proofs.Given.{begins, freed-is}
 use Rattle.calls.proofs.Holders.{made-is, entered-is, one-fits, taken-told}
@@ -55,7 +58,7 @@ pub give-up-number : (h : List ℕ) (r : Addr → ℕ) (k : Kind) (p a beyond em
 give-up-number h r k p a beyond empty buffer lb le xe ze ee₁ ee₂ =
     rw (ee₂, ee₁, ze, xe)
     (refusing-first ((leb entries a ⇒ beyond) ∷ (eqb (r (at process p (heldAt k a))) 0 ⇒ empty) ∷ [])
-    (rw (ne-eqb beyond 0 (λ q. omega arith), ne-eqb empty 0 (λ q. omega arith))))
+    (rw (lt-ltb 0 beyond lb, lt-ltb 0 empty le)))
 
 -- ---- 10 and 11: link and unlink. s is the seid, f what is seen of it, m its links
 
@@ -84,7 +87,7 @@ module _ {t : List ℕ} {n : Header} {c : Caller} (sound : Sound t n c) (a : ℕ
   pub linked-form : (b : Bool) → e₂ ≡ orRefuse e₁ b XbadLink → e₂ ≡ 0 → formed (configuration t) file s ≡ true
   linked-form b last none =
       let tests = ownTests f file ++ (b ⇒ XbadLink) ∷ [] in
-      form-past (sound .known) (c .slot) file s seen (clear-of tests refl (sym (refusing-first tests refl) ∙ (sym (rw found at last) ∙ none)) .0)
+      form-past (sound .known) (c .slot) file s seen (clear tests refl (sym (refusing-first tests refl) ∙ (sym (rw found at last) ∙ none)) .0)
 
   -- its links stay in a byte
   pub links-few : (b : Bool) → e₂ ≡ orRefuse e₁ b XbadLink → e₂ ≡ 0 → m ≤ maxLinks
@@ -151,7 +154,7 @@ module _ {t : List ℕ} {n : Header} {c : Caller} (sound : Sound t n c) (k : Kin
   pub bits-words : e₃ ≡ 0 → {j : ℕ} → j ≡ bits k
       → set t (placeOf n (at k (x .slot) j)) b ≡ write (configuration t) t (setBitsOf (configuration t) (wordsOf t) (c .slot) s b buffer k .effects .words)
   bits-words none je =
-      let z = clear-of tests tests-numbered (sym tests-told ∙ none) in
+      let z = clear tests tests-numbered (sym tests-told ∙ none) in
       rw (je, spot (sound .known) (at k (x .slot) (bits k)), slot-is (sound .known) (c .slot) k s seen (form-past (sound .known) (c .slot) k s seen (z .1 .0)))
 
 -- it goes by the kind that the seid's class names
@@ -178,18 +181,18 @@ module _ {t : List ℕ} {n : Header} {c : Caller} (sound : Sound t n c) (a b : �
   create-number = create-found ∙ rw (entry, slot, sound .home)
 
   pub create-room : e₄ ≡ 0 → f .none ≡ false
-  create-room q = clear-of ((ltb maxBits a ⇒ XbParam) ∷ (not (validModes b) ⇒ XbadModes) ∷ (leb entries d ⇒ XodSpace) ∷ (f .none ⇒ XnoSpace) ∷ []) refl
+  create-room q = clear ((ltb maxBits a ⇒ XbParam) ∷ (not (validModes b) ⇒ XbadModes) ∷ (leb entries d ⇒ XodSpace) ∷ (f .none ⇒ XnoSpace) ∷ []) refl
       (sym create-found ∙ q) .1 .1 .1 .0
 
   -- x is the slot's serial, u and g the caller's owner and group, s the new seid
   module _ (none : e₄ ≡ 0) {x u g s : ℕ} (xe : x ≡ wordsOf t (at file (f .index) serial)) (ue : u ≡ wordsOf t (at process (c .slot) owner))
       (ge : g ≡ wordsOf t (at process (c .slot) group))
       (se : s ≡ seidOf (class file) (f .index) (x + 1)) where
-    pub create-seid : s ≡ ruleAt t (λ h q. create h q (c .slot) a b buffer) .effects .first
+    create-seid : s ≡ ruleAt t (λ h q. create h q (c .slot) a b buffer) .effects .first
     unfolding create
     create-seid = new-seid sound file slot (create-room none) xe se ∙ rw (slot, sound .home)
 
-    pub create-words : {o place : ℕ} {t₁ t₂ : List ℕ} → o ≡ recordOf n file (f .index) → t₁ ≡ madeAt t o (x + 1) u g a 0 0 1
+    create-words : {o place : ℕ} {t₁ t₂ : List ℕ} → o ≡ recordOf n file (f .index) → t₁ ≡ madeAt t o (x + 1) u g a 0 0 1
         → place ≡ recordOf n process (c .slot) + heldAt file d → t₂ ≡ set (set t₁ place s) (place + 1) b
         → t₂ ≡ write (configuration t) t (ruleAt t (λ h q. create h q (c .slot) a b buffer) .effects .words)
     unfolding create
@@ -213,6 +216,14 @@ module _ {t : List ℕ} {n : Header} {c : Caller} (sound : Sound t n c) (a b : �
         (wordsOf t (at process (c .slot) owner)) (wordsOf t (at process (c .slot) group)) a 0 0 1) file (c .slot) d
         (seid (class file) (f .index) (wordsOf t (at file (f .index) serial) + 1)) b [] refl)
         ∙ rw (slot, entry, sound .home))
+
+    -- with the answer, that is all that the rule leaves
+    pub create-left : {o place : ℕ} {t₁ t₂ : List ℕ} {r : Answer} → r ≡ said 0 s d → o ≡ recordOf n file (f .index) → t₁ ≡ madeAt t o (x + 1) u g a 0 0 1
+        → place ≡ recordOf n process (c .slot) + heldAt file d → t₂ ≡ set (set t₁ place s) (place + 1) b
+        → Left t (λ h q. create h q (c .slot) a b buffer) r t₂
+    unfolding create
+    create-left re oe e₁ pe e₂ =
+        left-done t (λ h q. create h q (c .slot) a b buffer) create-number none (re ∙ ap₂ (said 0) create-seid entry) (create-words oe e₁ pe e₂)
 
 -- ---- 8: open. The search for a clash: x is entry d of process p
 
@@ -254,12 +265,12 @@ module _ {t : List ℕ} {n : Header} {c : Caller} (sound : Sound t n c) (a b : �
   -- past the first stage the search may be made
   pub may-clash : e₁ ≡ 0 → Clashable t n s b
   may-clash none =
-      let clear = clear-of (openTests f b) refl (sym (refusing-first (openTests f b) refl) ∙ (sym first ∙ none)) in
+      let unrefused = clear (openTests f b) refl (sym (refusing-first (openTests f b) refl) ∙ (sym first ∙ none)) in
       record {
         known = sound .known;
         records = sound .records;
-        form = form-past (sound .known) (c .slot) file s seen (clear .1 .0);
-        modes = passed (validModes b) (clear .0);
+        form = form-past (sound .known) (c .slot) file s seen (unrefused .1 .0);
+        modes = passed (validModes b) (unrefused .0);
       }
 
   module _ {z e₂ e₃ : ℕ} {clashing : Bool} (searched : clashing ≡ eqb e₁ 0 && (f .own && clashes (configuration t) (wordsOf t) (c .cell) s b))
@@ -295,9 +306,9 @@ module _ {t : List ℕ} {n : Header} {c : Caller} (sound : Sound t n c) (a b : �
     -- past the refusals the seid is formed
     pub open-form : e₃ ≡ 0 → formed (configuration t) file s ≡ true
     open-form none =
-        let clear = clear-of (openTests f b ++ (f .own && clashes (configuration t) (wordsOf t) (c .cell) s b ⇒ Xbusy) ∷ (leb entries d ⇒ XodSpace) ∷ []) refl
+        let unrefused = clear (openTests f b ++ (f .own && clashes (configuration t) (wordsOf t) (c .cell) s b ⇒ Xbusy) ∷ (leb entries d ⇒ XodSpace) ∷ []) refl
         (sym open-found ∙ none) in
-        form-past (sound .known) (c .slot) file s seen (clear .1 .0)
+        form-past (sound .known) (c .slot) file s seen (unrefused .1 .0)
 
     pub open-fits : e₃ ≡ 0 → {object : ℕ} → object ≡ recordOf n file (f .slot) → getD t (object + opens) 0 ≤ maxSlots * entries
     open-fits none oe = one-fits sound file (f .slot) refl (slot-in (sound .known) (c .slot) file s seen (open-form none)) oe
@@ -309,7 +320,3 @@ module _ {t : List ℕ} {n : Header} {c : Caller} (sound : Sound t n c) (a b : �
         let form = open-form none in
         taken-told (sound .known) file (c .slot) d s b refl (slot-is (sound .known) (c .slot) file s seen form)
         (own-is (sound .known) (c .slot) file s seen form) pe oe ∙ rw (entry, self)
-
-pub and-none : (x : Bool) → x && false ≡ false
-and-none true = refl
-and-none false = refl

@@ -20,7 +20,6 @@ pub mod RegradeLaws
 pub mod Codes
 pub mod Whole
 pub mod ViewLaws
-pub mod Link
 pub mod TrayLaws
 pub mod Going
 pub mod Again

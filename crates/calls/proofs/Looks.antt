@@ -18,7 +18,8 @@ use Rattle.calls.specs.declared.objects.Seen.{Seen}
 use Rattle.calls.specs.World.{Known, wordsOf}
 use Rattle.calls.specs.Seen.{nameOf, namedOf, seenAs, unseen, seenOf, findTests, ownTests}
 use Rattle.calls.proofs.Worlds.{slots-is}
-use Rattle.calls.proofs.Refusals.{numbered, past}
+use Rattle.laws.proofs.Refusals.{numbered}
+use Rattle.calls.proofs.Refusals.{past}
 
 -- the tests of "find" and "own" have numbers
 pub find-numbered : (x : Seen) (k : Kind) (f : Bool) (ys : List Refusal) → numbered ys ≡ true → numbered (findTests x k f ++ ys) ≡ true

@@ -27,7 +27,8 @@ use Rattle.calls.specs.Left.{said, ruleAt, Left}
 use Rattle.calls.specs.Refusing.{refusing}
 use Rattle.calls.specs.Calls.{postTests}
 use Rattle.calls.proofs.Worlds.{spot, shape}
-use Rattle.calls.proofs.Refusals.{refusing-first, clear-of}
+use Rattle.laws.proofs.Refusals.{clear}
+use Rattle.calls.proofs.Refusals.{refusing-first}
 use Rattle.calls.proofs.Looks.{formed-is, seen-formed, slot-is}
 use Rattle.calls.proofs.Leaves.{left-refused, left-done}
 
@@ -109,8 +110,8 @@ module _ {t : List ℕ} {n : Header} {c : Caller} {a : ℕ} {b : List ℕ} {to :
     formed-past : formed (configuration t) process named ≡ true
     unfolding named
     formed-past =
-        let clear = clear-of (postTests to (length b) (flowsTo t (c .slot) to) (mayWrite (to .rights)) (leb messages y)) refl (sym (p .told) ∙ none) in
-        passed _ (rw (formed-is (p .sound .known) (c .slot) process named (p .seen)) at (clear .1 .0))
+        let unrefused = clear (postTests to (length b) (flowsTo t (c .slot) to) (mayWrite (to .rights)) (leb messages y)) refl (sym (p .told) ∙ none) in
+        passed _ (rw (formed-is (p .sound .known) (c .slot) process named (p .seen)) at (unrefused .1 .0))
 
     test-is : (to .present && (mayWrite (to .rights) && not (leb messages y)))
         ≡ (present (wordsOf t) process named && (mayPost (wordsOf t) (c .slot) (indexOf named) && ltb (wordsOf t (at process (indexOf named) queue)) messages))

@@ -10,7 +10,7 @@ use lib.ListN.{length, getD, set, length-set, replicate}
 use lib.Seq.{sets, length-sets, sets-eq, drop-length, getD-set-other}
 use borrow.Author.Tests.{eqb-true}
 use Rattle.rules.specs.Words.{tabFrom, bytes4}
-use Rattle.rules.specs.Layout.{Kind, process, configuration, at, offset, rd, queue, messages, messageWords, messagesAt, messageAt}
+use Rattle.rules.specs.Layout.{process, configuration, at, offset, rd, queue, messages, messageWords, messagesAt, messageAt}
 use Rattle.rules.specs.Errors.{XbSz, XbNoMes}
 use Rattle.rules.specs.Rule.{_≔_, write, firstRefusal}
 use Rattle.rules.specs.Find.{zeros}
@@ -27,7 +27,9 @@ use Rattle.calls.specs.Left.{said, ruleAt, bufferOf, Left}
 use Rattle.calls.specs.Refusing.{orRefuse}
 use Rattle.calls.specs.Mail.{shownAt, movedAt}
 use Rattle.calls.proofs.Worlds.{spot}
-use Rattle.calls.proofs.Refusals.{refusing-first, clear-of}
+use Rattle.calls.proofs.Given.{zeros-is}
+use Rattle.laws.proofs.Refusals.{clear}
+use Rattle.calls.proofs.Refusals.{refusing-first}
 use Rattle.calls.proofs.Leaves.{left-refused, left-done, buffer-refused, buffer-done}
 
 -- ---- a message shown
@@ -86,14 +88,6 @@ pub messages-within : {t u : List ℕ} {n : Header} {c : Caller} → Sound t n c
 messages-within {t} {c = c} s i v xe ue =
     let e = spot (s .known) (at process (c .slot) messagesAt) in
     rw (ue, length-set t i v, s .words) (omega (arith, xe, e, s .caller))
-
--- zeros from a word of a record on
-zeros-is : (h t : List ℕ) (k : Kind) (i j n : ℕ) → write h t (zeros k i j n) ≡ sets t (offset h (at k i j)) (replicate n 0)
-unfolding zeros tabFrom
-zeros-is h t k i j zero = refl
-zeros-is h t k i j (suc n) =
-    zeros-is h (set t (offset h (at k i j)) 0) k i (suc j) n
-    ∙ ap (λ (x : ℕ). sets (set t (offset h (at k i j)) 0) x (replicate n 0)) (omega arith)
 
 -- t is the table that is read, u the one that is written: they agree at the words to be moved
 moved-is : (h t u : List ℕ) (p n : ℕ)
@@ -163,7 +157,7 @@ module _ (t : List ℕ) (p : ℕ) (b : List ℕ) {waiting e e2 : ℕ} (queued : 
     unfolding receive
     sixteen =
         let tests = ruleAt t (λ h q. receive h q p b) .refusals in
-        eqb-true (length b) messageBytes (passed (eqb (length b) messageBytes) (clear-of tests refl (sym receive-number ∙ none) .0))
+        eqb-true (length b) messageBytes (passed (eqb (length b) messageBytes) (clear tests refl (sym receive-number ∙ none) .0))
 
     pub receive-done : {m : ℕ} {r : Answer} {u v z y : List ℕ} → m ≡ waiting - 1 → u ≡ set t (placeOf n (at process p queue)) m
         → v ≡ movedAt u (x + messagesAt) 28 → z ≡ sets v (x + messagesAt + 28) (replicate messageWords 0) → y ≡ shownAt t (x + messagesAt) b messageWords

@@ -1,18 +1,15 @@
 -- Refusals found one after the other are the rule's first refusal.
 use mathlib.Core.Path.{_≡_, refl, sym, _∙_}
-use mathlib.Core.Bool.{Bool, true, false, cond, _&&_, not}
+use mathlib.Core.Bool.{Bool, true, false, cond, _&&_}
 use mathlib.Core.List.{List, [], _∷_, _++_}
 use Prim.Native.Nat.{ℕ}
-use lib.Dec.{eqb}
-use borrow.Author.Tests.{eqb-true, eqb-false}
+use native.Mathlib.Omega.{arith}
+use lib.Dec.{ltb, eqb}
+use borrow.Author.Tests.{eqb-true, eqb-false, ne-eqb, ltb-true}
 use Rattle.rules.specs.Rule.{Refusal, _⇒_, firstRefusal}
-use Rattle.laws.proofs.Tests.{split, and-left, and-right, failed}
+use Rattle.laws.proofs.Tests.{split, and-left, and-right}
+use Rattle.laws.proofs.Refusals.{Clear, numbered, clear}
 use Rattle.calls.specs.Refusing.{orRefuse, refusing}
-
--- every number is one that refuses
-abbrev pub numbered : List Refusal → Bool
-numbered [] = true
-numbered (x ∷ xs) = not (eqb (x .number) 0) && numbered xs
 
 -- a number found stays
 found-stays : (e : ℕ) (xs : List Refusal) → eqb e 0 ≡ false → refusing e xs ≡ e
@@ -21,12 +18,12 @@ found-stays e (x ∷ xs) n = rw n (found-stays e xs n)
 
 one-more : (x : Refusal) (xs : List Refusal) → numbered (x ∷ xs) ≡ true → refusing 0 xs ≡ firstRefusal xs → (b : Bool) → x .test ≡ b
     → refusing 0 (x ∷ xs) ≡ firstRefusal (x ∷ xs)
-one-more x xs n h true e = rw e (found-stays (x .number) xs (failed (eqb (x .number) 0) (and-left _ (numbered xs) n)))
+one-more x xs n h true e = rw e (found-stays (x .number) xs (ne-eqb (x .number) 0 (λ z. omega (arith, ltb-true 0 (x .number) (and-left (ltb 0 (x .number)) (numbered xs) n)))))
 one-more x xs n h false e = rw e h
 
 pub refusing-first : (xs : List Refusal) → numbered xs ≡ true → refusing 0 xs ≡ firstRefusal xs
 refusing-first [] n = refl
-refusing-first (x ∷ xs) n = one-more x xs n (refusing-first xs (and-right (not (eqb (x .number) 0)) _ n)) (x .test) refl
+refusing-first (x ∷ xs) n = one-more x xs n (refusing-first xs (and-right (ltb 0 (x .number)) _ n)) (x .test) refl
 
 -- so also after a number found before: lists of one first refusal refuse alike, and where nothing was found, nothing of the list holds
 pub refusing-alike : (e : ℕ) (xs ys : List Refusal) → numbered xs ≡ true → numbered ys ≡ true → firstRefusal xs ≡ firstRefusal ys → refusing e xs ≡ refusing e ys
@@ -52,21 +49,6 @@ only-then e b n = by-found (eqb e 0) b n e
     by-found true b n e = refl
     by-found false b n e = refl
 
--- where nothing refuses, no test holds
-abbrev pub Clear : List Refusal → Type 0
-Clear [] = Unit
-Clear (x ∷ xs) = (x .test ≡ false) × Clear xs
-
-one-clear : (x : Refusal) (xs : List Refusal) → numbered (x ∷ xs) ≡ true → (firstRefusal xs ≡ 0 → Clear xs) → (b : Bool) → x .test ≡ b → firstRefusal (x ∷ xs) ≡ 0
-    → Clear (x ∷ xs)
-one-clear x xs n f true e z =
-    absurd (eqb-false (x .number) 0 (failed (eqb (x .number) 0) (and-left _ (numbered xs) n)) (rw e at z))
-one-clear x xs n f false e z = (e, f (rw e at z))
-
-pub clear-of : (xs : List Refusal) → numbered xs ≡ true → firstRefusal xs ≡ 0 → Clear xs
-clear-of [] n z = tt
-clear-of (x ∷ xs) n z = one-clear x xs n (clear-of xs (and-right (not (eqb (x .number) 0)) _ n)) (x .test) refl z
-
 -- what follows a list of refusals counts only where none of the list holds
 pub first-stops : (xs ys : List Refusal) → (firstRefusal xs ≡ 0 → ⊥) → firstRefusal xs ≡ firstRefusal (xs ++ ys)
 first-stops [] ys n = absurd (n refl)
@@ -81,4 +63,4 @@ clear-passes [] ys c = refl
 clear-passes (x ∷ xs) ys c = rw (c .0) (clear-passes xs ys (c .1))
 
 pub first-passes : (xs ys : List Refusal) → numbered xs ≡ true → firstRefusal xs ≡ 0 → firstRefusal (xs ++ ys) ≡ firstRefusal ys
-first-passes xs ys n z = clear-passes xs ys (clear-of xs n z)
+first-passes xs ys n z = clear-passes xs ys (clear xs n z)

@@ -37,7 +37,8 @@ use Rattle.calls.specs.Regrade.{Apart, Copyable, FoundIn, RegradeLeft}
 use Rattle.calls.specs.declared.blocks.Use.{Use}
 use Rattle.calls.specs.Blocks.{readUse}
 use Rattle.calls.proofs.Worlds.{shape, cells-is, blocks-is, guard-is}
-use Rattle.calls.proofs.Refusals.{refusing-first, past, Clear, clear-of}
+use Rattle.laws.proofs.Refusals.{Clear, clear}
+use Rattle.calls.proofs.Refusals.{refusing-first, past}
 use Rattle.calls.proofs.Looks.{seen-formed, slot-in}
 use Rattle.calls.proofs.Given.{begins}
 use Rattle.calls.proofs.Holders.{made-is}
@@ -142,27 +143,27 @@ module _ {t : List ℕ} {n : Header} {c : Caller} {a : ℕ} {d : Entry} {f : See
         ∙ rw (guard-is (u .sound .known), u .sound .home, cells-is (u .sound .known), held-is u, used-is u)
 
     module _ (none : e ≡ 0) where
-      clear : Clear (regradeTests n c a d f g b bits (length buf))
-      clear = clear-of (regradeTests n c a d f g b bits (length buf)) refl (sym told ∙ none)
+      unrefused : Clear (regradeTests n c a d f g b bits (length buf))
+      unrefused = clear (regradeTests n c a d f g b bits (length buf)) refl (sym told ∙ none)
 
       formed-so : formed (configuration t) file (d .held) ≡ true
-      formed-so = form u (clear .1 .1 .1 .0) (clear .1 .1 .1 .1 .0)
+      formed-so = form u (unrefused .1 .1 .1 .0) (unrefused .1 .1 .1 .1 .0)
 
       cell-in : b < cells (configuration t)
-      cell-in = in-cells (u .sound .known) b bits (clear .1 .1 .0)
+      cell-in = in-cells (u .sound .known) b bits (unrefused .1 .1 .0)
 
       slot-found : g .index ≡ freeSlot (configuration t) (wordsOf t) file b
       slot-found = ap (λ (x : Slot). x .index) (slot cell-in)
 
       -- the slot found is free, and the file that is copied is not: they are two
       free : FreeSlot (configuration t) (wordsOf t) file b (g .index)
-      free = taken-in (u .sound .known) file b cell-in (slot cell-in) (clear .1 .1 .1 .1 .1 .1 .1 .1 .0)
+      free = taken-in (u .sound .known) file b cell-in (slot cell-in) (unrefused .1 .1 .1 .1 .1 .1 .1 .1 .0)
 
       is-live : wordsOf t (at file (f .slot) live) ≡ 1
       is-live =
           let seen = seen-formed (u .sound .known) (c .slot) file (d .held) (u .seen) formed-so in
           let there : eqb (wordsOf t (at file (indexOf (d .held)) live)) 1 && eqb (wordsOf t (at file (indexOf (d .held)) serial)) (serialOf (d .held)) ≡ true
-          = sym (ap (λ (x : Seen). x .present) seen) ∙ passed (f .present) (clear .1 .1 .1 .1 .1 .1 .0) in
+          = sym (ap (λ (x : Seen). x .present) seen) ∙ passed (f .present) (unrefused .1 .1 .1 .1 .1 .1 .0) in
           rw (at-slot u formed-so) (eqb-true _ 1 (and-left _ _ there))
 
       other : f .slot ≡ g .index → ⊥

@@ -11,6 +11,7 @@ use borrow.Author.Tests.{ltb-true, ltb-false, lt-ltb}
 use Rattle.rules.specs.Layout.{maxSlots, maxSerial, Kind, process, segment, file, recordWords, configuration, cells, slots, cellWord, cellSlots, cellSlotsWord, firstSlot, at, rd, heldAt, live, serial, group, holders}
 use Rattle.rules.specs.Seid.{class, seid}
 use Rattle.rules.specs.Find.{canTake, freeSlot, freeEntry}
+use Rattle.laws.proofs.Seids.{class-low}
 use Rattle.laws.proofs.Search.{lowest-same}
 use Rattle.laws.proofs.Least.{Choice, choice-start, choice-past, choice-taken, choice-end, least-same}
 use Rattle.laws.proofs.Tests.{both-ways, and-left, and-right, and-both}
@@ -161,18 +162,13 @@ record-some file = omega arith
 
 -- ---- a slot that was found: it is one of the table's, its serial can rise, and the seid that the code makes of it is the rule's
 
-class-small : (k : Kind) → class k < 256
-class-small process = omega arith
-class-small segment = omega arith
-class-small file = omega arith
-
 -- in any cell
 pub taken-in : {t : List ℕ} {n : Header} → Known t n → (k : Kind) (b : ℕ) {x : Slot} → b < cells (configuration t) → x ≡ slotFound (configuration t) (wordsOf t) k b
     → x .none ≡ false → FreeSlot (configuration t) (wordsOf t) k b (x .index)
 taken-in {t} known k b l found room = rw found (free-slot (configuration t) (wordsOf t) (shape known) b l k (rw found at room))
 
 pub seid-made : (k : Kind) {i z s : ℕ} → i < maxSlots → z < maxSerial → s ≡ seidOf (class k) i (z + 1) → s ≡ seid (class k) i (z + 1)
-seid-made k {i} {z} l m se = se ∙ seid-fits (class k) i (z + 1) (class-small k) l (omega arith)
+seid-made k {i} {z} l m se = se ∙ seid-fits (class k) i (z + 1) (class-low k) l (omega arith)
 
 -- in the caller's
 module _ {t : List ℕ} {n : Header} {c : Caller} (sound : Sound t n c) (k : Kind) {x : Slot} (found : x ≡ slotFound (configuration t) (wordsOf t) k (c .cell))

@@ -30,7 +30,8 @@ use Rattle.calls.specs.Refusing.{orRefuse, refusing}
 use Rattle.calls.specs.Left.{said, ruleAt, answerOf, bufferOf}
 use Rattle.calls.specs.Told.{toldAt}
 use Rattle.calls.proofs.Worlds.{shape}
-use Rattle.calls.proofs.Refusals.{refusing-first, Clear, clear-of}
+use Rattle.laws.proofs.Refusals.{Clear, clear}
+use Rattle.calls.proofs.Refusals.{refusing-first}
 use Rattle.calls.proofs.Looks.{find-numbered, by-kind, formed-is, seen-formed, slot-is, slot-in}
 use Rattle.calls.proofs.Leaves.{answer-refused, answer-done, buffer-refused, buffer-done}
 use Rattle.calls.proofs.Queues.{sets-all}
@@ -87,14 +88,14 @@ module _ {t : List ℕ} {n : Header} {c : Caller} {k : Kind} {s : ℕ} {b : List
 
   -- past the refusals the buffer has sixteen bytes, and the seid its form
   module _ (none : e ≡ 0) where
-    clear : Clear (statusTests x k (length b))
-    clear = clear-of (statusTests x k (length b)) (find-numbered x k (not (x .flows)) [] refl) (sym (p .number) ∙ none)
+    unrefused : Clear (statusTests x k (length b))
+    unrefused = clear (statusTests x k (length b)) (find-numbered x k (not (x .flows)) [] refl) (sym (p .number) ∙ none)
 
     sixteen : length b ≡ statusBytes
-    sixteen = eqb-true (length b) statusBytes (passed (eqb (length b) statusBytes) (clear .0))
+    sixteen = eqb-true (length b) statusBytes (passed (eqb (length b) statusBytes) (unrefused .0))
 
     form : formed (configuration t) k s ≡ true
-    form = passed _ (rw (formed-is (p .sound .known) (c .slot) k s (p .seen)) at (clear .1 .0))
+    form = passed _ (rw (formed-is (p .sound .known) (c .slot) k s (p .seen)) at (unrefused .1 .0))
 
     cell-is : x .cell ≡ cellOf (configuration t) k (x .slot)
     cell-is = rw (seen-formed (p .sound .known) (c .slot) k s (p .seen) form)

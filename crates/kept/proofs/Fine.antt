@@ -12,7 +12,7 @@ use Rattle.rules.specs.Layout.{maxBits, maxLinks, Kind, process, segment, file,
 use Rattle.rules.specs.WellFormed.{recordOk, currentOk, entryOk, parentOk, heldOnce, messageOk, pageOk, processOk, ownEntries, segmentSize, segmentOk, fileOk, recordsOk}
 use Rattle.laws.proofs.Tests.{not-of, failed, passed}
 use Rattle.laws.proofs.Object.{Object}
-use Rattle.laws.proofs.Shape.{Record, Held, held-of, held-holds, Entry, LiveProcess, process-record, segment-record, file-record, descriptor, designator, references-counted, opens-counted}
+use Rattle.laws.proofs.Shape.{Record, Held, held-of, held-holds, Entry, LiveProcess, process-record, segment-record, file-record, descriptor, designator, references-counted, opens-counted, alive-map}
 
 -- ---- a live record's own words
 
@@ -77,17 +77,6 @@ pub record Fine (h : List ℕ) (r : Addr → ℕ) : Type 0 where
   pub counted : (k : Kind) → Object k → (i : ℕ) → i < slots h k → r (at k i (holders k)) ≡ ownEntries h r k i
 
 -- ---- from the claim
-
-alive-map : (r : Addr → ℕ) (k : Kind) (i : ℕ) (A B : Type 0) → (A → B) → Record r k i A → Record r k i B
-alive-map r k i A B f x = record {
-  flag = x .flag;
-  serial-fits = x .serial-fits;
-  free = x .free;
-  serial-some = x .serial-some;
-  owner-fits = x .owner-fits;
-  group-fits = x .group-fits;
-  alive = λ e. f (x .alive e);
-}
 
 module _ (h : List ℕ) (r : Addr → ℕ) (w : Holds (recordsOk h r)) where
   process-alive : (p : ℕ) → LiveProcess h r p → AliveProcess h r p

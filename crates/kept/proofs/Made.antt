@@ -5,9 +5,9 @@ use native.Mathlib.Omega.{arith}
 use Rattle.rules.specs.Layout.{maxSerial, maxOwner, Kind, process, segment, file, recordWords, Addr, at, live, serial, owner, group, entries, heldAt, usedAt, bits, holders}
 use Rattle.rules.specs.Rule.{over}
 use Rattle.rules.specs.Find.{freed}
-use Rattle.laws.proofs.Shape.{Record}
+use Rattle.laws.proofs.Shape.{Record, words-some}
 use Rattle.laws.proofs.Object.{Object}
-use Rattle.kept.proofs.Records.{words-some, freed-serial, freed-word}
+use Rattle.kept.proofs.Records.{freed-serial, freed-word}
 
 -- ---- places in a record
 

@@ -7,10 +7,9 @@ use native.Mathlib.Decide.{ℕ-discrete}
 use Rattle.rules.specs.Layout.{maxBits, Kind, process, segment, file, recordWords, slots, cellOf, Addr, at, Valid, live, serial, owner, group, parent, queue, zero7, entries, heldAt, usedAt, messages, messageWords, messageAt, pages, pageAt, bits, size, links, holders}
 use Rattle.rules.specs.Seid.{indexOf}
 use Rattle.laws.proofs.Seids.{is-formed}
-use Rattle.laws.proofs.Shape.{Held, Entry}
+use Rattle.laws.proofs.Shape.{Held, Entry, words-some}
 use Rattle.laws.proofs.Object.{Object}
 use Rattle.kept.proofs.Fine.{AliveObject, Paged, AliveProcess, Alive, Own, Fine}
-use Rattle.kept.proofs.Records.{words-some}
 use Rattle.kept.proofs.Counting.{count-all}
 use Rattle.kept.proofs.Made.{placed, object-words, live-record}
 

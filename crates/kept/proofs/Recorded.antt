@@ -11,7 +11,7 @@ use Rattle.rules.specs.Layout.{configuration, rd}
 use Rattle.rules.specs.WellFormed.{wellFormed}
 use Rattle.rules.specs.Errors.{XbPrSd, XbdKcl, XbSz}
 use Rattle.rules.specs.Rule.{_⇒_, firstRefusal, Rule}
-use Rattle.rules.specs.Step.{State, answer, Outcome, badCaller, badCode, ruleOf, carriedOut, wholeRule, step, next}
+use Rattle.rules.specs.Step.{State, answer, Outcome, badCaller, badCode, carriedOut, wholeRule, step, next}
 use Rattle.rules.specs.Tray.{Record, partOf, callIn, inside, recordRule, recordStep}
 use Rattle.laws.proofs.Tests.{cond-true, cond-false, cond-both, split}
 use Rattle.laws.proofs.Claims.{tested}
@@ -30,9 +30,6 @@ refusedOutside s bytes r = record { answered = answer (outsideNumber s r) 0 0; s
 module _ (s : State) (bytes : List ℕ) (r : Record) where
   abbrev conf : List ℕ
   conf = configuration (s .table)
-
-  abbrev own : Rule
-  own = ruleOf conf (rd conf (s .table)) (s .store) (callIn bytes r)
 
   -- two rules with one effect and one number are carried out alike
   same-carried : (k j : Rule) → k .effects ≡ j .effects → firstRefusal (k .refusals) ≡ firstRefusal (j .refusals)

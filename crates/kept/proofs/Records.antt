@@ -12,6 +12,7 @@ use Rattle.rules.specs.Layout.{Kind, process, segment, file, recordWords, slots
 use Rattle.rules.specs.Seid.{class}
 use Rattle.rules.specs.Rule.{Word, _≔_, sameAddr, over}
 use Rattle.rules.specs.Find.{zeros, freed}
+use Rattle.laws.proofs.Shape.{words-some}
 use Rattle.laws.proofs.Written.{AllOf, nil, also, all-map, Valids, hit, miss, over-append, over-miss, over-at}
 
 -- ---- one record or another
@@ -113,11 +114,6 @@ module _ (k : Kind) (i : ℕ) (f : ℕ → ℕ) where
     | yes e ↦ rw e (tab-past (suc j) n (λ b. cond (sameAddr b (at k i j)) (f j) (r b)) j (λ x y. omega arith) ∙ hit (at k i j) (at k i j) (f j) (r (at k i j)) refl)
     | no ne ↦ tab-at (suc j) n (λ b. cond (sameAddr b (at k i j)) (f j) (r b)) w (omega arith) (omega arith)
   ]
-
-pub words-some : (k : Kind) → 8 ≤ recordWords k
-words-some process = omega arith
-words-some segment = omega arith
-words-some file = omega arith
 
 -- ---- a record freed: zero but for its serial
 

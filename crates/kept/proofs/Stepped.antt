@@ -15,12 +15,11 @@ use Rattle.rules.specs.Rule.{Refusal, _⇒_, Rule, firstRefusal, Word, Bytes, w
 use Rattle.rules.specs.Step.{State, Call, Outcome, badCaller, badCode, ruleOf, wholeRule, carriedOut, step}
 use Rattle.laws.proofs.Tests.{passed, or-left, or-right, cond-both, cond-false}
 use Rattle.laws.proofs.Claims.{tested}
-use Rattle.laws.proofs.Shape.{Good, good-of}
+use Rattle.laws.proofs.Shape.{Good, good-of, words-some}
 use Rattle.laws.proofs.Stored.{length-store}
 use Rattle.laws.proofs.Written.{rd-write, conf-write, length-write}
 use Rattle.kept.proofs.Fine.{Fine, fine-of, fine-holds}
 use Rattle.laws.proofs.Refusals.{clear-first, never}
-use Rattle.kept.proofs.Records.{words-some}
 use Rattle.kept.proofs.Readings.{same-fine}
 use Rattle.kept.proofs.Keeps.{Keeps, Caller}
 use Rattle.kept.proofs.Calls

@@ -101,16 +101,6 @@ module _ (f : ℕ → Bool) (g : ℕ → ℕ) where
   pub least-is : (n i : ℕ) → least f g n i < i + n → Smallest f g i (i + n) (least f g n i)
   least-is n i l = least-choice n i .one (λ e. omega arith)
 
-  -- it finds one exactly when the search for the lowest does
-  pub least-le : (n i : ℕ) → least f g n i ≤ i + n
-  least-le n i = elim (ℕ-discrete (least f g n i) (i + n)) [ yes e ↦ omega arith | no m ↦ omega (arith, least-choice n i .one m .high) ]
-
-  pub least-before : (n i j : ℕ) → i ≤ j → j < i + n → f j ≡ true → least f g n i < i + n
-  least-before n i j lo hi e = elim (ℕ-discrete (least f g n i) (i + n)) [
-    | yes m ↦ both-ways (f j) e (least-choice n i .none m j lo hi)
-    | no m ↦ least-choice n i .one m .high
-  ]
-
   -- ---- the invariant of a loop: of the numbers from i up to j, b is the choice, and the end is the mark
 
   pub choice-start : (i mark : ℕ) → Choice f g i i mark mark

@@ -1,15 +1,15 @@
--- The search for a free slot, sealed: what it finds, when there is none, and what it hangs on. No other proof opens `freeSlot`.
+-- The search for a free slot, sealed: what it finds, when there is none, and what it hangs on.
 use mathlib.Core.Path.{_≡_}
 use mathlib.Core.Bool.{true, false}
 use mathlib.Core.List.{List}
 use Prim.Native.Nat.{ℕ, _+_, _≤_, _<_}
 use native.Mathlib.Omega.{arith}
 use lib.Dec.{ltb, eqb}
-use borrow.Author.Tests.{eqb-true, ltb-true, leb-false, eq-eqb, lt-ltb, lt-leb}
+use borrow.Author.Tests.{eqb-true, ltb-true, leb-false, eq-eqb, lt-ltb}
 use Rattle.rules.specs.Layout.{maxSerial, Kind, cells, slots, cellSlots, firstSlot, cellOf, Addr, at, live, serial}
 use Rattle.rules.specs.Find.{canTake, freeSlot, noSlot}
 use Rattle.laws.proofs.Tests.{and-left, and-right, and-both}
-use Rattle.laws.proofs.Least.{Smallest, least-is, least-before, least-same}
+use Rattle.laws.proofs.Least.{Smallest, least-is, least-same}
 use Rattle.laws.proofs.Cells.{cell-run, run-end}
 use Rattle.laws.proofs.Shape.{Shape}
 
@@ -62,12 +62,6 @@ module _ (h : List ℕ) (r : Addr → ℕ) (k : Kind) (c : ℕ) where
       let s = smallest n in
       let t = can-take r k i u in
       (s .smallest i (x .low) (x .high) t, λ l. s .first i (x .low) l t)
-
-  -- where one of the run can be taken, one is found
-  pub slot-there : (i : ℕ) → InRun h k c i → Untaken r k i → noSlot h r k c ≡ false
-  unfolding freeSlot
-  slot-there i x u =
-      lt-leb _ _ (least-before (canTake r k) (λ i. r (at k i serial)) (cellSlots h k c) (firstSlot h k c) i (x .low) (x .high) (can-take r k i u))
 
 -- it hangs on which slots of the run live, and on their serials
 pub same-slot : (h : List ℕ) (r q : Addr → ℕ) (k : Kind) (c : ℕ)

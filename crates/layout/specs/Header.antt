@@ -1,7 +1,6 @@
 -- The header's numbers, and where the records lie by them.
 use mathlib.Core.List.{List}
 use Prim.Native.Nat.{ℕ, _+_, _*_}
-use lib.ListN.{getD}
 use Rattle.rules.specs.Layout.{Kind, process, segment, file, headerWords, cellWords, recordWords, cells, slots, blocks, guard, Addr}
 use Rattle.layout.specs.declared.Header.{Header}
 
@@ -37,7 +36,3 @@ recordOf n k i = baseOf n k + recordWords k * i
 
 abbrev pub placeOf : Header → Addr → ℕ
 placeOf n a = recordOf n (a .kind) (a .slot) + a .word
-
--- what a table holds there
-abbrev pub heldIn : Header → List ℕ → Addr → ℕ
-heldIn n t a = getD t (placeOf n a) 0

@@ -25,7 +25,7 @@ use Rattle.laws.proofs.Tests.{split, cond-false}
 use Rattle.laws.proofs.Claims.{holds}
 use Rattle.laws.proofs.Written.{AllOf}
 use Rattle.kept.proofs.Kept.{Well}
-use Rattle.secrecy.proofs.CellFlow.{flows-trans}
+use Rattle.secrecy.proofs.CellFlow.{observer-closed}
 use Rattle.secrecy.proofs.View.{Stretches}
 use Rattle.secrecy.proofs.Regrades.{NoRegrade}
 use Rattle.secrecy.proofs.Demand3 as rules
@@ -60,7 +60,7 @@ pub one-observer : (o : ℕ) {s t u v : State} {ks js : List Call} {ys zs : List
     → let h : List ℕ = configuration (s .table) in let C : ℕ → Bool = observer h o in Agree C s t → eventsBy h C m ≡ eventsBy h C n
     → (guardWithin h C ≡ true → NamesNone h C ks) → (gotBy h C ks ys ≡ gotBy h C js zs) × Agree C u v
 one-observer o {s} m n ws wt =
-    as-asked (observer (configuration (s .table)) o) m n ws wt (λ c d f g. flows-trans (configuration (s .table)) c d o f g)
+    as-asked (observer (configuration (s .table)) o) m n ws wt (observer-closed (configuration (s .table)) o)
 
 -- demand 3 as it was, where no call of either run is a regrade, or where there is no guard cell: equal remaining calls are enough
 module _ (C : ℕ → Bool) {s t u v : State} {ks js : List Call} {ys zs : List Reply} (m : Made s ks ys u) (n : Made t js zs v) (ws : Well s) (wt : Well t)

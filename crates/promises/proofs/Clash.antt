@@ -184,9 +184,6 @@ module _ (r : Addr → ℕ) (me i s b : ℕ) (il : i < entries) where
   }
 
   module _ (f : ℕ) {B : List Word} (a : AllOf (InRecord file f) B) where
-    apart : process ≡ file → me ≡ f → ⊥
-    apart e x = no-process file tt (sym e)
-
     entry-first : (p j : ℕ) → over r (entered file me i s b ++ B) (at process p j) ≡ over r (entered file me i s b) (at process p j)
     entry-first p j = rw (over-append r (entered file me i s b) B) (elsewhere file f a (over r (entered file me i s b)) process p j (λ e x. no-process file tt (sym e)))
 

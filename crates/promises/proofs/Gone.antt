@@ -16,12 +16,12 @@ use Rattle.rules.specs.Call15.{post}
 use Rattle.rules.specs.Step.{State, Call, step, next, run, ruleOf}
 use Rattle.laws.proofs.Tests.{passed, both-ways, split, refuted}
 use Rattle.laws.proofs.Seids.{class-some, class-pos, class-inj, is-formed, is-present, present-is}
-use Rattle.laws.proofs.Shape.{good-of}
+use Rattle.laws.proofs.Shape.{good-of, words-some}
 use Rattle.laws.proofs.Written.{AllOf, all-map, over-either}
 use Rattle.laws.proofs.Object.{Object}
 use Rattle.laws.proofs.Refusals.{Clear}
 use Rattle.kept.proofs.Fine.{fine-of}
-use Rattle.kept.proofs.Records.{by-record, words-some}
+use Rattle.kept.proofs.Records.{by-record}
 use Rattle.kept.proofs.Keeps.{Caller}
 use Rattle.kept.proofs.Kept.{Well, kept, conf-kept, serials-kept, run-kept, run-conf-kept, run-serials-kept}
 use Rattle.promises.proofs.Refusals.{Untouched, own, own-clear, refused}

@@ -22,12 +22,12 @@ use Rattle.rules.specs.SetUp.{canSetUp, setUpTable}
 use Rattle.rules.specs.Step.{State, Call, step, next, run, regradeCode, ruleOf, wholeRule}
 use Rattle.laws.proofs.Tests.{or-left, or-rest, split}
 use Rattle.laws.proofs.Seids.{class-seid, index-seid, serial-seid, class-inj}
-use Rattle.laws.proofs.Shape.{in-run, good-of}
+use Rattle.laws.proofs.Shape.{in-run, good-of, words-some}
 use Rattle.laws.proofs.Slots.{free-slot}
 use Rattle.laws.proofs.Written.{nil, also, over-append, over-miss}
 use Rattle.laws.proofs.Object.{Object, no-process}
 use Rattle.laws.proofs.Refusals.{Clear}
-use Rattle.kept.proofs.Records.{elsewhere, in-first, words-some}
+use Rattle.kept.proofs.Records.{elsewhere, in-first}
 use Rattle.kept.proofs.Made.{placed}
 use Rattle.kept.proofs.Keeps.{Caller}
 use Rattle.kept.proofs.Found.{free-entry}

@@ -19,9 +19,8 @@ use Rattle.rules.specs.SetUp.{canSetUp, firstProcesses, setUpTable}
 use Rattle.rules.specs.Step.{State, Call, step, next, run}
 use Rattle.laws.proofs.Written.{AllOf, nil, also, all-map, all-append, over-either}
 use Rattle.laws.proofs.Least.{least-room}
-use Rattle.laws.proofs.Shape.{Shape, in-run, good-of}
+use Rattle.laws.proofs.Shape.{Shape, in-run, good-of, words-some}
 use Rattle.laws.proofs.Slots.{InRun, Untaken, FreeSlot, free-slot, slot-smallest}
-use Rattle.kept.proofs.Records.{words-some}
 use Rattle.kept.proofs.Made.{object-words}
 use Rattle.kept.proofs.Kept.{Well, kept, conf-kept, serials-kept}
 use Rattle.promises.proofs.Refusals.{own-clear, refused}

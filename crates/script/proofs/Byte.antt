@@ -1,5 +1,5 @@
 -- A byte does to a reader what the rules do with it.
-use mathlib.Core.Bool.{Bool, true, false, cond, _&&_, true≢false}
+use mathlib.Core.Bool.{true, false, cond, _&&_, true≢false, and-false}
 use mathlib.Core.List.{List, [], _∷_, _++_, append-nil}
 use mathlib.Core.Path.{_≡_, refl, sym, ap, _∙_, subst}
 use Prim.Native.Nat.{ℕ, suc, _+_, _-_, _*_, _<_, _≤_}
@@ -33,10 +33,6 @@ use Rattle.script.proofs.Kept.{take-more, take-more-past, roomy-header,
 pub at-stage : (g : Stage) (r : Reader) (t l s : List ℕ) → r .stage ≡ g → meaning r t l s ≡ meaningAt g r t l s
 unfolding meaning
 at-stage g r t l s e = ap (λ (x : Stage). meaningAt x r t l s) e
-
-and-false : (a : Bool) → a && false ≡ false
-and-false true = refl
-and-false false = refl
 
 onward-begun : (r : Reader) (nums : List ℕ) (g : Stage) → betweenAt g (onward r nums) ≡ false
 onward-begun r nums Header = refl

@@ -1,4 +1,4 @@
--- Flow between cells is reflexive and transitive.
+-- Flow between cells is reflexive and transitive, so the cells that flow to one are a closed set.
 use mathlib.Core.Path.{_≡_}
 use mathlib.Core.Bool.{true, _&&_}
 use mathlib.Core.List.{List}
@@ -7,6 +7,7 @@ use lib.Dec.{ltb}
 use borrow.Author.Tests.{lt-ltb}
 use Rattle.rules.specs.Level.{flowsTo}
 use Rattle.rules.specs.Layout.{cells, levelOf, flows}
+use Rattle.rules.specs.Observer.{observer, Closed}
 use Rattle.laws.proofs.Tests.{and-left, and-right}
 use Rattle.levels.proofs.Flow.{reflexive, transitive}
 
@@ -37,3 +38,7 @@ flows-trans h c d e p q =
     let x = flows-is h c d p in
     let y = flows-is h d e q in
     is-flows h c e (record { from = x .from; to = y .to; flow = transitive (levelOf h c) (levelOf h d) (levelOf h e) (x .flow) (y .flow) })
+
+-- so the cells that flow to an observer's are closed: a cell that flows to one of them is one
+pub observer-closed : (h : List ℕ) (o : ℕ) → Closed h (observer h o)
+observer-closed h o c d = flows-trans h c d o

@@ -23,7 +23,7 @@ use Rattle.rules.specs.Regrade.{events, withoutRefused, guardWithin, NamesNone,
 use Rattle.laws.proofs.Tests.{both-ways}
 use Rattle.laws.proofs.Written.{AllOf}
 use Rattle.kept.proofs.Kept.{Well, kept}
-use Rattle.secrecy.proofs.CellFlow.{flows-trans}
+use Rattle.secrecy.proofs.CellFlow.{observer-closed}
 use Rattle.secrecy.proofs.Steps.{WellUnder}
 use Rattle.secrecy.proofs.Runs.{two-runs-from}
 use Rattle.secrecy.proofs.Regrades.{names-none, calls, only-calls, NoRegrade, quiet-other, other-asks-none, Guarded, quiet-guarded, all-calls, guarded-none, guarded-within, none-within}
@@ -45,7 +45,7 @@ as-asked C s t ws wt cl a ks js e n =
 pub one-observer : (o : ℕ) (s t : State) → Well s → Well t → let h : List ℕ = configuration (s .table) in Agree (observer h o) s t
     → (ks js : List Call) → events h (observer h o) s ks ≡ events h (observer h o) t js → (guardWithin h (observer h o) ≡ true → NamesNone h (observer h o) ks)
     → (replies h (observer h o) s ks ≡ replies h (observer h o) t js) × Agree (observer h o) (run s ks) (run t js)
-one-observer o s t ws wt = as-asked (observer (configuration (s .table)) o) s t ws wt (λ c d f g. flows-trans (configuration (s .table)) c d o f g)
+one-observer o s t ws wt = as-asked (observer (configuration (s .table)) o) s t ws wt (observer-closed (configuration (s .table)) o)
 
 -- ---- where equal remaining calls are enough
 

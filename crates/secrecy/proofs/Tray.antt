@@ -35,7 +35,7 @@ use Rattle.laws.proofs.Parts.{part-short, same-part, sets-part}
 use Rattle.kept.proofs.Kept.{Well}
 use Rattle.kept.proofs.Recorded.{outsideNumber, inside-is-step, outside-is-refused}
 use Rattle.promises.proofs.Tray.{tray-runs, buffer-fits, tray-conf-kept}
-use Rattle.secrecy.proofs.CellFlow.{flows-trans}
+use Rattle.secrecy.proofs.CellFlow.{observer-closed}
 use Rattle.secrecy.proofs.Unwind.{runs, trace, views, Along, Unwinds, two-runs}
 use Rattle.secrecy.proofs.Apply.{AgreeAt, agree-sym, agree-trans}
 use Rattle.secrecy.proofs.Steps as steps
@@ -383,7 +383,7 @@ as-asked C s t ws wt cl a rs qs x y p e n =
 pub one-observer : (o : ℕ) (s t : State) → Well s → Well t → let h : List ℕ = configuration (s .table) in let C : ℕ → Bool = observer h o in Agree C s t
     → (rs qs : List Record) (x y : List ℕ) → Premises h C rs qs x y → eventsIn h C s x rs ≡ eventsIn h C t y qs → (guardWithin h C ≡ true → NamesNone h C (callsIn rs))
     → SameTrays h C rs (afterTray s x rs) (afterTray t y qs)
-one-observer o s t ws wt = as-asked (observer (configuration (s .table)) o) s t ws wt (λ c d f g. flows-trans (configuration (s .table)) c d o f g)
+one-observer o s t ws wt = as-asked (observer (configuration (s .table)) o) s t ws wt (observer-closed (configuration (s .table)) o)
 
 -- ---- where CR 3's premises are enough
 

@@ -1,7 +1,7 @@
 -- The premise of CR 9 of trays, in other words: a record is accepted, and asks about a cell, as its call does where its part lies inside the byte slice, and else not. So what
 -- Regrades says of calls is so of records.
 use mathlib.Core.Path.{_≡_, refl, sym, ap, _∙_}
-use mathlib.Core.Bool.{Bool, true, false, _&&_, _||_}
+use mathlib.Core.Bool.{Bool, true, false, _&&_, _||_, and-false}
 use mathlib.Core.List.{List, [], _∷_}
 use Prim.Native.Nat.{ℕ}
 use lib.Dec.{eqb}
@@ -21,10 +21,6 @@ use Rattle.secrecy.proofs.Steps as steps
 use Rattle.secrecy.proofs.Regrades.{asks-here, calls, calls-if, NoRegrade}
 
 -- ---- one record
-
-never : (b : Bool) → b && false ≡ false
-never true = refl
-never false = refl
 
 -- a part that lies outside is refused, and not for want of a slot
 outside-number : (s : State) (r : Record) → (eqb (outsideNumber s r) XOK ≡ false) × (eqb (outsideNumber s r) XnoSpace ≡ false)
@@ -54,7 +50,7 @@ module _ (h : List ℕ) (s : State) (f : steps.WellUnder h s) (bytes : List ℕ)
 
   asks-outside : inside bytes r ≡ false → asksIn s bytes r ≡ false
   unfolding asksIn
-  asks-outside e = rw (error-outside e, outside-number s r .0, outside-number s r .1) (never (eqb (r .code) regradeCode))
+  asks-outside e = rw (error-outside e, outside-number s r .0, outside-number s r .1) (and-false (eqb (r .code) regradeCode))
 
   -- what is accepted, or asks, has its part inside
   pub inside-of : (b : Bool) → (inside bytes r ≡ false → b ≡ false) → b ≡ true → inside bytes r ≡ true
@@ -90,7 +86,7 @@ module _ (h : List ℕ) (C : ℕ → Bool) (P : Call → Type 0)
   unfolding stays
   quiet-in s bytes r f p o = split _ (inside bytes r)
       (λ t. rw (accepted-inside h s f bytes r t) (quiet s bytes r f p o))
-      (λ t. rw (accepted-outside h s f bytes r t) (never (into h C (callIn bytes r))))
+      (λ t. rw (accepted-outside h s f bytes r t) (and-false (into h C (callIn bytes r))))
 
   pub only-records : (rs : List Record) (s : State) (bytes : List ℕ) → steps.WellUnder h s → AllOf P (callsIn rs)
       → withoutRefused (eventsIn h C s bytes rs) ≡ calls (remainingIn h C (asked rs))

@@ -16,7 +16,7 @@ use Rattle.laws.proofs.Tests.{both-ways}
 use Rattle.kept.proofs.Kept.{Well}
 use Rattle.promises.proofs.View as promised
 use Rattle.promises.proofs.View.{reading}
-use Rattle.secrecy.proofs.CellFlow.{flows-trans}
+use Rattle.secrecy.proofs.CellFlow.{observer-closed}
 use Rattle.secrecy.proofs.View.{same-held}
 use Rattle.secrecy.proofs.Shown.{object-file}
 use Rattle.secrecy.proofs.Steps.{WellUnder, in-table, at-configuration, viewed, remains}
@@ -83,4 +83,4 @@ module _ (C : ℕ → Bool) (s t : State) (ws : Well s) (wt : Well t) (cl : Clos
 pub one-observer-views : (o : ℕ) (s t : State) → Well s → Well t → let h : List ℕ = configuration (s .table) in Agree (observer h o) s t
     → (p a b : ℕ) → stays h (observer h o) (read p a b) ≡ true → SameView s t p a b
 one-observer-views o s t ws wt =
-    view-alike (observer (configuration (s .table)) o) s t ws wt (λ c d f g. flows-trans (configuration (s .table)) c d o f g)
+    view-alike (observer (configuration (s .table)) o) s t ws wt (observer-closed (configuration (s .table)) o)

@@ -19,10 +19,6 @@ leaves-if : {A : Type 0} (b : Bool) (n : ℕ) (x y : Taken A) → Leaves n x →
 leaves-if true n x y p q = p
 leaves-if false n x y p q = q
 
-leaves-more : {A : Type 0} (m n : ℕ) (x : Taken A) → m ≤ n → Leaves m x → Leaves n x
-leaves-more m n (took x rest) h p = omega arith
-leaves-more m n bad h p = tt
-
 -- a number takes a byte
 number-leaves : (s : List ℕ) (n v m : ℕ) → length s ≤ suc m → Leaves m (numberFrom n v s)
 unfolding numberFrom

@@ -1,6 +1,6 @@
 -- A live process: its parent, its designators, its messages, its pages.
 use mathlib.Core.Path.{_≡_, refl, sym, ap, _∙_}
-use mathlib.Core.Bool.{Bool, true, false, _&&_, _||_, not, and-assoc}
+use mathlib.Core.Bool.{Bool, true, false, _&&_, _||_, not, and-assoc, and-true}
 use mathlib.Core.List.{List}
 use Prim.Native.Nat.{ℕ, zero, suc, _+_, _*_, _-_, _≤_, _<_}
 use native.Mathlib.Omega.{arith}
@@ -17,7 +17,7 @@ use Rattle.laws.proofs.Shape.{record-of}
 use Rattle.layout.specs.declared.Header.{Header}
 use Rattle.table.specs.Shape.{RecordAt, Shaped}
 use Rattle.table.specs.Entries.{recordAt, Indexed, fresh}
-use Rattle.table.proofs.Config.{and-true, base-read}
+use Rattle.table.proofs.Config.{base-read}
 use Rattle.table.proofs.Loops.{all-sum}
 use Rattle.table.proofs.Holders.{index-out, index-in}
 use Rattle.table.proofs.Record.{record-claim, dead-record}

@@ -1,6 +1,6 @@
 -- The configuration's claims, read off the table's own words.
-use mathlib.Core.Path.{_≡_, refl, sym, ap, _∙_}
-use mathlib.Core.Bool.{Bool, true, false, _&&_}
+use mathlib.Core.Path.{_≡_, sym, ap, _∙_}
+use mathlib.Core.Bool.{Bool, true, false, _&&_, and-true, and-false}
 use mathlib.Core.List.{List}
 use Prim.Native.Nat.{ℕ, _≤_, _<_}
 use native.Mathlib.Omega.{arith}
@@ -96,14 +96,6 @@ record-is n segment i place l e = record { at-is = e; whole = omega arith; withi
 record-is n file i place l e = record { at-is = e; whole = omega arith; within = omega arith }
 
 -- ---- set-up's claim, test by test
-
-pub and-false : (b : Bool) → b && false ≡ false
-and-false true = refl
-and-false false = refl
-
-pub and-true : (b : Bool) → b && true ≡ b
-and-true true = refl
-and-true false = refl
 
 module _ (t : List ℕ) (m : ℕ) where
   pub wrong-lengths : test (lengthsExact (configuration t) (length t) m) ≡ false → test (canSetUp t m) ≡ false

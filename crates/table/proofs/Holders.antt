@@ -1,6 +1,6 @@
 -- What a process holds, as the code reads it: a record's words, a slot's cell, the flow matrix, an identifier's index.
 use mathlib.Core.Path.{_≡_, refl, sym, ap, fun-ext, _∙_}
-use mathlib.Core.Bool.{Bool, true, false, cond, _&&_, _||_, not, true≢false}
+use mathlib.Core.Bool.{Bool, true, false, cond, _&&_, _||_, not, true≢false, and-true, and-false}
 use mathlib.Core.List.{List}
 use Prim.Native.Nat.{ℕ, _+_, _*_, _/_, _%_, _≤_, _<_}
 use native.Mathlib.Omega.{arith}
@@ -8,9 +8,10 @@ use borrow.Author.Tests.{lt-ltb, ltb-true, ltb-false, eq-eqb, ne-eqb, eqb-true, 
 use lib.Dec.{leb, ltb, eqb}
 use lib.ListN.{length, getD, set}
 use Rattle.rules.specs.Claim.{test}
-use Rattle.rules.specs.Layout.{maxCells, maxSlots, Kind, process, segment, file, recordWords, cells, slots, cellOf, flows, flowMatrix, configuration, Addr, at, rd, live, serial}
+use Rattle.rules.specs.Layout.{maxCells, maxSlots, Kind, recordWords, cells, slots, cellOf, flows, flowMatrix, configuration, Addr, at, rd, live, serial}
 use Rattle.rules.specs.Seid.{class, classOf, indexOf, serialOf, isSeid}
 use Rattle.rules.specs.WellFormed.{heldOk, currentOk, validUse, writeUse, entryOk}
+use Rattle.laws.proofs.Below.{one-le}
 use Rattle.laws.proofs.Tests.{and-left, and-right, and-both, refuted, split}
 use Rattle.laws.proofs.Seids.{is-formed, class-some, class-pos}
 use Rattle.laws.proofs.Tab.{getD-tab2}
@@ -19,9 +20,8 @@ use Rattle.layout.specs.declared.Header.{Header}
 use Rattle.layout.specs.Header.{slotsOf}
 use Rattle.table.specs.Shape.{RecordAt, Shaped}
 use Rattle.table.specs.Entries.{Indexed, heldWord, usedWord, unused, names, Counts}
-use Rattle.table.proofs.Config.{and-false, and-true, cells-read, slots-read, slots-small, base-read}
+use Rattle.table.proofs.Config.{cells-read, slots-read, slots-small, base-read}
 use Rattle.table.proofs.Tally.{tally-add}
-use Rattle.table.proofs.Listed.{one-le}
 
 module _ (t : List ℕ) (n : Header) (shaped : Shaped t n) (k : Kind) where
   -- a word of a record
@@ -52,11 +52,6 @@ flow-at h flow e a b d l m = rw e (getD-tab2 maxCells maxCells (flows h) a b d f
 
 -- ---- an identifier's index, by one subtraction
 
-pub class-low : (k : Kind) → class k < 256
-class-low process = omega arith
-class-low segment = omega arith
-class-low file = omega arith
-
 pub indexed : (c s x y r : ℕ) → c < 256 → s < 4294967296 → x ≡ c → (y + x * 256) % 4294967296 ≡ s / 65536 → y < 4294967296 → r ≡ y → Indexed c s r
 unfolding classOf indexOf
 indexed c s x y r hc hs ex e hy er =
@@ -81,10 +76,6 @@ module _ (c n s i : ℕ) (index : Indexed c s i) (few : n ≤ 256) where
       let is = index .right (omega arith) in
       rw (eq-eqb (classOf s) c (is .0), lt-ltb (indexOf s) n (omega (arith, is .1)))
 
-pub held-index : (h : List ℕ) (r : Addr → ℕ) (k : Kind) (c s : ℕ) → test (heldOk h r k c s) ≡ true → indexOf s < slots h k
-unfolding heldOk
-held-index h r k c s e = is-formed (class k) (slots h k) s (and-left _ _ e) .index-in
-
 pub held-out : (h : List ℕ) (r : Addr → ℕ) (k : Kind) (c s i : ℕ) → Indexed (class k) s i → slots h k ≤ 256 → slots h k ≤ i → test (heldOk h r k c s) ≡ false
 unfolding heldOk
 held-out h r k c s i index few l = rw (index-out (class k) (slots h k) s i index few l)
@@ -106,12 +97,6 @@ module _ (h : List ℕ) (r : Addr → ℕ) (k : Kind) (c s u : ℕ) where
   pub entry-refused : (s ≡ 0 → ⊥) → test (heldOk h r k c s) ≡ false → test (entryOk h r k c s u) ≡ false
   unfolding entryOk
   entry-refused e f = rw (ne-eqb s 0 e, f)
-
-  pub entry-held : (s ≡ 0 → ⊥) → test (heldOk h r k c s) ≡ true
-      → (not (eqb (cellOf h k (indexOf s)) c) || (eqb (r (at k (indexOf s) live)) 1 && eqb (r (at k (indexOf s) serial)) (serialOf s)))
-      && (validUse k u && (not (writeUse k u) || eqb (cellOf h k (indexOf s)) c)) ≡ test (entryOk h r k c s u)
-  unfolding entryOk currentOk
-  entry-held e f = rw (ne-eqb s 0 e, f)
 
 -- a used entry whose index is no slot's
 pub entry-out : (h : List ℕ) (r : Addr → ℕ) (k : Kind) (c s u i : ℕ) → (s ≡ 0 → u ≡ 0 → ⊥) → Indexed (class k) s i → slots h k ≤ 256 → slots h k ≤ i
@@ -139,10 +124,6 @@ entry-in h r k c s u i e q l =
 module _ (h : List ℕ) (r : Addr → ℕ) (k : Kind) (c s u : ℕ) (right : test (entryOk h r k c s u) ≡ true) where
   empty-names-none : (i : ℕ) (same : Bool) → s ≡ 0 → same && (eqb (classOf s) (class k) && eqb (indexOf s) i) ≡ false
   empty-names-none i same z = rw (ne-eqb (classOf s) (class k) (λ e. class-some s (class k) (class-pos k) e z)) (and-false same)
-
-  pub right-index : (s ≡ 0 → ⊥) → indexOf s < slots h k
-  unfolding entryOk
-  right-index n = held-index h r k c s (and-left _ _ (rw (ne-eqb s 0 n) at right))
 
   right-class : (s ≡ 0 → ⊥) → eqb (classOf s) (class k) ≡ true
   unfolding entryOk heldOk

@@ -1,6 +1,6 @@
 -- The used entries, listed: one number more, and what is asked of the listed is asked of all.
 use mathlib.Core.Path.{_≡_, sym, ap, ap₂, _∙_}
-use mathlib.Core.Bool.{Bool, true, false, _&&_, _||_, not, cond, true≢false}
+use mathlib.Core.Bool.{Bool, true, false, _&&_, _||_, not, cond, true≢false, and-true}
 use mathlib.Core.List.{List}
 use Prim.Native.Nat.{ℕ, _+_, _*_, _≤_, _<_}
 use native.Mathlib.Nat.{add-zero}
@@ -12,14 +12,9 @@ use lib.ListN.{length, getD, set, replicate, length-set, length-replicate}
 use lib.Seq.{getD-set-same, getD-set-other}
 use Rattle.rules.specs.Words.{allBelow, sumBelow, countBelow}
 use Rattle.laws.proofs.Tests.{and-both, same-test, split}
-use Rattle.laws.proofs.Below.{all-at, all-of, all-more, count-none, count-more, count-same}
+use Rattle.laws.proofs.Below.{one-le, all-at, all-of, all-more, count-none, count-more, count-same}
 use Rattle.rules.specs.Layout.{entries}
 use Rattle.table.specs.Entries.{heldWord, usedWord, unused, Lists, Squeezed, Apart, fresh}
-use Rattle.table.proofs.Config.{and-true}
-
-pub one-le : (b : Bool) → cond b 1 0 ≤ 1
-one-le true = omega arith
-one-le false = omega arith
 
 pub all-same : (n : ℕ) (f g : ℕ → Bool) → ((k : ℕ) → k < n → f k ≡ g k) → allBelow n f ≡ allBelow n g
 all-same n f g h =

@@ -1,6 +1,6 @@
 -- The entries of one process: as the rules read them, and counted slot by slot.
 use mathlib.Core.Path.{_≡_, refl, sym, ap, ap₂, fun-ext, _∙_}
-use mathlib.Core.Bool.{Bool, true, false, _&&_}
+use mathlib.Core.Bool.{Bool, true, false, _&&_, and-false}
 use mathlib.Core.List.{List}
 use Prim.Native.Nat.{ℕ, _+_, _*_, _≤_, _<_}
 use native.Mathlib.Nat.{add-zero}
@@ -21,7 +21,7 @@ use Rattle.layout.specs.declared.Header.{Header}
 use Rattle.layout.specs.Header.{recordOf}
 use Rattle.table.specs.Shape.{Shaped}
 use Rattle.table.specs.Entries.{heldWord, usedWord, names, fresh, Counts, Counted}
-use Rattle.table.proofs.Config.{base-read, slots-read, slots-small, and-false}
+use Rattle.table.proofs.Config.{base-read, slots-read, slots-small}
 use Rattle.table.proofs.Holders.{right-names}
 use Rattle.table.proofs.Alive.{entriesOk}
 

@@ -1,6 +1,6 @@
 -- A record's claim: of a free record, and of any other; and of the record that lies where a slot's does.
 use mathlib.Core.Path.{_≡_, sym, ap}
-use mathlib.Core.Bool.{Bool, _&&_}
+use mathlib.Core.Bool.{Bool, _&&_, and-true}
 use mathlib.Core.List.{List}
 use Prim.Native.Nat.{ℕ, _+_, _-_}
 use native.Mathlib.Omega.{arith}
@@ -14,7 +14,7 @@ use Rattle.laws.proofs.Tests.{split}
 use Rattle.layout.specs.declared.Header.{Header}
 use Rattle.table.specs.Shape.{RecordAt, Shaped}
 use Rattle.table.specs.Entries.{recordAt}
-use Rattle.table.proofs.Config.{and-true, base-read}
+use Rattle.table.proofs.Config.{base-read}
 
 module _ (r : Addr → ℕ) (k : Kind) (i : ℕ) (alive : Claim) where
   pub free-record : r (at k i live) ≡ 0

@@ -1,5 +1,5 @@
 -- `files::busy` meets its contract: the search is made only where nothing refused, and for the own cell.
-use Rattle.calls.proofs.FilesLaws.{and-none}
+use mathlib.Core.Bool.{and-false}
 use Rattle.calls.proofs.Opens.{own-cell}
 use borrow.Author.Tests.{eq-eqb, ne-eqb}
 use lib.Dec.{eqb}
@@ -17,7 +17,7 @@ returns : tie.Need-returns
 returns c = rw (eq-eqb _ 0 (c .before .before .if1 .taken), c .before .if2 .taken) (c .any-clash .ensures)
 
 returns-2 : tie.Need-returns-2
-returns-2 c = rw (c .if2 .left) (sym (and-none (eqb (c .before .before .before .args .e) 0)))
+returns-2 c = rw (c .if2 .left) (sym (and-false (eqb (c .before .before .before .args .e) 0)))
 
 returns-3 : tie.Need-returns-3
 returns-3 c = rw (ne-eqb _ 0 (c .if1 .left))

@@ -1,15 +1,15 @@
 -- `files::create` meets its contract: the rule's refusals in order, and the file made in the slot that was found.
 use mathlib.Core.Bool.{false}
-use Rattle.calls.proofs.FilesLaws.{create-number, create-room, create-seid, create-words}
+use Rattle.calls.proofs.FilesLaws.{create-number, create-room, create-left}
 use Rattle.calls.proofs.Searches.{serial-rises}
-use Rattle.calls.proofs.Leaves.{left-refused, left-done}
-use Rattle.calls.specs.Left.{said, ruleAt}
+use Rattle.calls.proofs.Leaves.{left-refused}
+use Rattle.calls.specs.Left.{ruleAt}
 use Rattle.rules.specs.Rule.{firstRefusal}
 use Rattle.rules.specs.Call07.{create}
 use Rattle.rules.specs.Layout.{file}
 use Prim.Native.Nat.{ℕ}
 use mathlib.Core.List.{List, []}
-use mathlib.Core.Path.{_≡_, ap₂, _∙_}
+use mathlib.Core.Path.{_≡_}
 use native.Mathlib.Omega.{arith}
 use borrow.Author.Needs.{needs}
 use Rattle.calls.proofs.files.create.Statement.{statement}
@@ -104,7 +104,6 @@ same-length-2 : tie.Need-same-length-2
 same-length-2 c = search needs
 
 returns-2 : tie.Need-returns-2
-unfolding create
 returns-2 c =
     let at-enter = c .before .before .before in let at-entry-at = at-enter .before in let at-make = at-entry-at .before .before .before .before in
     let at-record-at = at-make .before in let at-seid = at-record-at .before .before in let at-read3 = at-seid .before in
@@ -112,16 +111,11 @@ returns-2 c =
     let at-or-refuse4 = at-if1 .before in let at-or-refuse3 = at-or-refuse4 .before in let at-wide = at-or-refuse3 .before in
     let at-or-refuse2 = at-wide .before in let at-valid = at-or-refuse2 .before in let at-or-refuse = at-valid .before in
     let at-free-entry = at-or-refuse .before in let at-start = at-free-entry .before .before .before in
-    λ buffer. left-done _ (λ h q. create h q _ _ _ buffer) (number at-or-refuse4 buffer) (at-if1 .if1 .left)
-    (c .answered .ensures ∙ ap₂ (said 0) (create-seid (at-start .pre .0) (at-start .args .a) (at-start .args .b) buffer (at-start .pre .1)
-    (at-free-entry .free-entry .ensures) (at-or-refuse .or-refuse .ensures) (at-valid .valid .ensures) (at-or-refuse2 .or-refuse2 .ensures)
-    (at-wide .wide .ensures) (at-or-refuse3 .or-refuse3 .ensures) (at-or-refuse4 .or-refuse4 .ensures) (at-if1 .if1 .left) (at-read .read .ensures)
-    (at-read2 .read2 .ensures) (at-read3 .read3 .ensures) (at-seid .seid .ensures)) (at-free-entry .free-entry .ensures)) (create-words
-    (at-start .pre .0) (at-start .args .a) (at-start .args .b) buffer (at-start .pre .1) (at-free-entry .free-entry .ensures)
+    λ buffer. create-left (at-start .pre .0) (at-start .args .a) (at-start .args .b) buffer (at-start .pre .1) (at-free-entry .free-entry .ensures)
     (at-or-refuse .or-refuse .ensures) (at-valid .valid .ensures) (at-or-refuse2 .or-refuse2 .ensures) (at-wide .wide .ensures)
-    (at-or-refuse3 .or-refuse3 .ensures) (at-or-refuse4 .or-refuse4 .ensures) (at-if1 .if1 .left) (at-read .read .ensures)
-    (at-read2 .read2 .ensures) (at-read3 .read3 .ensures) (at-seid .seid .ensures) (at-record-at .record-at .ensures .0) (at-make .make .ensures)
-    (at-entry-at .entry-at .ensures .0) (at-enter .enter .ensures))
+    (at-or-refuse3 .or-refuse3 .ensures) (at-or-refuse4 .or-refuse4 .ensures) (at-if1 .if1 .left) (at-read .read .ensures) (at-read2 .read2 .ensures)
+    (at-read3 .read3 .ensures) (at-seid .seid .ensures) (c .answered .ensures) (at-record-at .record-at .ensures .0) (at-make .make .ensures)
+    (at-entry-at .entry-at .ensures .0) (at-enter .enter .ensures)
 
 pub create-spec : {M : Type 1} → statement M
 create-spec =

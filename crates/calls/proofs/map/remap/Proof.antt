@@ -22,7 +22,8 @@ use Rattle.calls.specs.Left.{ruleAt}
 use Rattle.calls.specs.Entries.{entryOf}
 use Rattle.calls.specs.Seen.{nameOf, namedOf, seenAs, seenOf}
 use Rattle.calls.specs.Map.{held, mapOf, leftBy, takenBy, runOf, remapTests}
-use Rattle.calls.proofs.Refusals.{refusing-first, clear-of}
+use Rattle.laws.proofs.Refusals.{clear}
+use Rattle.calls.proofs.Refusals.{refusing-first}
 use Rattle.calls.proofs.Leaves.{left-refused, left-done}
 use Rattle.calls.proofs.SegmentsLaws.{after, entry-named}
 use Rattle.calls.proofs.MapLaws.{mapped-is, still-mapped, conflict-is, taken-is}
@@ -80,13 +81,13 @@ module _ {t : List ℕ} {n : Header} {c : Caller} (sound : Sound t n c) (a b d :
   -- where there is none, the pages written are the rule's
   module _ (z : firstRefusal (remapTests a b d (x .held) (y .held) (g .present) run m rest) ≡ 0) where
     low : a ≤ entries
-    low = ltb-false entries a (or-left (ltb entries a) (ltb entries d) (clear-of (remapTests a b d (x .held) (y .held) (g .present) run m rest) refl z .0))
+    low = ltb-false entries a (or-left (ltb entries a) (ltb entries d) (clear (remapTests a b d (x .held) (y .held) (g .present) run m rest) refl z .0))
 
     done : {to t′ : List ℕ} {w : ℕ} → w ≡ a → to ≡ takenBy rest (ltb w entries) (a + 1) b run → t′ ≡ write (configuration t) t (pagesSet (c .slot) (held to))
         → t′ ≡ write (configuration t) t (ruleAt t (λ h q. remap h q (c .slot) a b d buffer) .effects .words)
     unfolding remap
     done we te e =
-        let filled = clear-of (remapTests a b d (x .held) (y .held) (g .present) run m rest) refl z .1 .0 in
+        let filled = clear (remapTests a b d (x .held) (y .held) (g .present) run m rest) refl z .1 .0 in
         e ∙ ap (λ (ws : List Word). write (configuration t) t ws)
         (taken-is (wordsOf t) (c .slot) d map-is left-is a b run (λ comes. run-named comes (some-in (rw (x-is, y-is) at filled) comes)) (rw we at te))
 

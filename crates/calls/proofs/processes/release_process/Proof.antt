@@ -16,7 +16,8 @@ use Rattle.calls.specs.World.{Sound, wordsOf, holdable}
 use Rattle.calls.specs.Left.{ruleAt}
 use Rattle.calls.specs.Seen.{namedOf, seenOf, ownTests}
 use Rattle.calls.specs.Holding.{Holding}
-use Rattle.calls.proofs.Refusals.{refusing-first, clear-of}
+use Rattle.laws.proofs.Refusals.{clear}
+use Rattle.calls.proofs.Refusals.{refusing-first}
 use Rattle.calls.proofs.Looks.{slot-is, own-is, slot-in, own-first, form-past}
 use Rattle.calls.proofs.Leaves.{left-refused, left-done}
 use Rattle.calls.proofs.SegmentsLaws.{entry-formed}
@@ -37,14 +38,14 @@ module _ {t : List ℕ} {n : Header} {c : Caller} (sound : Sound t n c) (a : ℕ
   -- where there is none, s names a process of the caller's cell
   module _ (none : firstRefusal (ownTests g process) ≡ 0) where
     form : formed (configuration t) process s ≡ true
-    form = form-past (sound .known) (c .slot) process s seen (clear-of (ownTests g process) refl none .0)
+    form = form-past (sound .known) (c .slot) process s seen (clear (ownTests g process) refl none .0)
 
     here : g .slot < slots (configuration t) process
     here = slot-in (sound .known) (c .slot) process s seen form
 
     at-home : c .cell ≡ cellOf (configuration t) process (g .slot)
     at-home =
-        let own = sym (own-is (sound .known) (c .slot) process s seen form) ∙ passed (g .own) (clear-of (ownTests g process) refl none .1 .0) in
+        let own = sym (own-is (sound .known) (c .slot) process s seen form) ∙ passed (g .own) (clear (ownTests g process) refl none .1 .0) in
         sound .home ∙ rw (slot-is (sound .known) (c .slot) process s seen form) (sym (eqb-true _ _ own))
 
     -- and its entries hold what they should

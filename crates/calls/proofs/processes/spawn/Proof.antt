@@ -23,7 +23,8 @@ use Rattle.calls.specs.Left.{said, ruleAt}
 use Rattle.calls.specs.Seen.{slotFound}
 use Rattle.calls.specs.Entries.{fourAt}
 use Rattle.calls.proofs.Worlds.{spot}
-use Rattle.calls.proofs.Refusals.{refusing-first, clear-of}
+use Rattle.laws.proofs.Refusals.{clear}
+use Rattle.calls.proofs.Refusals.{refusing-first}
 use Rattle.calls.proofs.Leaves.{left-refused, left-done}
 use Rattle.calls.proofs.Given.{begins}
 use Rattle.calls.proofs.Searches.{serial-rises, new-seid}
@@ -104,7 +105,7 @@ counted c buffer = found c ∙ number (start c .pre .0) _ _ _ buffer (mine c .re
 
 -- past them there is room
 room : (c : tie.After-or-self-arg) → start (c .before .before) .args .q .none ≡ false
-room c = clear-of (theTests (c .before .before)) refl (sym (found (c .before .before)) ∙ c .before .if1 .left) .1 .1 .0
+room c = clear (theTests (c .before .before)) refl (sym (found (c .before .before)) ∙ c .before .if1 .left) .1 .1 .0
 
 abbrev passed-by : tie.After-put-four → tie.After-or-self-arg
 passed-by c = c .before .before .before .before .before .before

@@ -17,7 +17,8 @@ use Rattle.rules.specs.Errors.{XnSgDes, XbSgDes, XbSgSd}
 use Rattle.rules.specs.Rule.{Refusal, _⇒_, firstRefusal}
 use Rattle.rules.specs.Call18.{limited, accessOf}
 use Rattle.calls.specs.Left.{said, ruleAt}
-use Rattle.calls.proofs.Refusals.{refusing-first, clear-of}
+use Rattle.laws.proofs.Refusals.{clear}
+use Rattle.calls.proofs.Refusals.{refusing-first}
 use Rattle.calls.proofs.Leaves.{left-refused, left-done}
 use Rattle.calls.proofs.SegmentsLaws.{after, entry-named}
 use borrow.Author.Needs.{needs}
@@ -42,7 +43,7 @@ module _ {t : List ℕ} {n : Header} {c : Caller} (sound : Sound t n c) (a : ℕ
   result : firstRefusal (tests a d g) ≡ 0 → limited (d .used) (g .rights) ≡ ruleAt t (λ h q. accessOf h q (c .slot) a buffer) .effects .first
   unfolding accessOf
   result z =
-      let none = clear-of (tests a d g) refl z in
+      let none = clear (tests a d g) refl z in
       rw (seen, entry) (rw (entry-named sound segment refl a (none .0) (rw entry at (none .1 .0))))
 
 abbrev looked : tie.After-or-refuse3 → tie.After-look

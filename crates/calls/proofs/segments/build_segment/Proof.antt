@@ -24,7 +24,8 @@ use Rattle.calls.specs.Seen.{slotFound}
 use Rattle.calls.specs.Entries.{madeAt}
 use Rattle.calls.specs.Calls.{ownerAccess}
 use Rattle.calls.proofs.Worlds.{spot}
-use Rattle.calls.proofs.Refusals.{refusing-first, clear-of}
+use Rattle.laws.proofs.Refusals.{clear}
+use Rattle.calls.proofs.Refusals.{refusing-first}
 use Rattle.calls.proofs.Leaves.{left-refused, left-done}
 use Rattle.calls.proofs.Given.{begins}
 use Rattle.calls.proofs.Holders.{made-is, entered-is}
@@ -113,7 +114,7 @@ passed c = sym (found (c .before)) ∙ (c .if1 .left)
 room : (c : tie.Else1) → (start (c .before) .args .g .none) ≡ false
 room c =
     let at-is-size = c .before .before .before .before .before in let at-free-entry = at-is-size .before .before in
-    clear-of (tests (start (c .before) .args .size) (start (c .before) .args .bits) (start (c .before) .args .sharable)
+    clear (tests (start (c .before) .args .size) (start (c .before) .args .bits) (start (c .before) .args .sharable)
     (at-free-entry .free-entry .result) (start (c .before) .args .g)) refl (passed c) .1 .1 .1 .0
 
 free-entry-requires : tie.Need-free-entry-requires

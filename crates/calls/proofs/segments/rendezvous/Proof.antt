@@ -21,7 +21,8 @@ use Rattle.calls.specs.Left.{said, ruleAt}
 use Rattle.calls.specs.Seen.{nameOf, namedOf, seenAs, seenOf, findTests}
 use Rattle.calls.specs.Entries.{takenUpAt}
 use Rattle.calls.specs.Refusing.{orRefuse, refusing}
-use Rattle.calls.proofs.Refusals.{refusing-first, clear-of, only-then}
+use Rattle.laws.proofs.Refusals.{clear}
+use Rattle.calls.proofs.Refusals.{refusing-first, only-then}
 use Rattle.calls.proofs.Looks.{seen-formed, slot-is, own-is, slot-in, find-first, form-past}
 use Rattle.calls.proofs.Leaves.{left-refused, left-done}
 use Rattle.calls.proofs.Holders.{one-fits, taken-told}
@@ -71,7 +72,7 @@ module _ {t : List ℕ} {n : Header} {c : Caller} (sound : Sound t n c) (a b : �
   -- where there is none, s names a segment
   module _ (none : firstRefusal (tests (wordsOf t) (c .slot) s b g) ≡ 0) where
     form : formed (configuration t) segment s ≡ true
-    form = form-past (sound .known) (c .slot) segment s seen (clear-of (tests (wordsOf t) (c .slot) s b g) refl none .1 .0)
+    form = form-past (sound .known) (c .slot) segment s seen (clear (tests (wordsOf t) (c .slot) s b g) refl none .1 .0)
 
     within : g .slot < slots (configuration t) segment
     within = slot-in (sound .known) (c .slot) segment s seen form

@@ -4,9 +4,9 @@ use mathlib.Core.Path.{sym, _∙_}
 use Prim.Native.Nat.{_<_}
 use lib.Dec.{eqb}
 use Rattle.rules.specs.Layout.{maxSlots, slots, configuration, rd}
+use Rattle.laws.proofs.Below.{one-le}
 use Rattle.layout.specs.Kinds.{kindOf}
 use Rattle.table.proofs.Config.{slots-read, slots-small}
-use Rattle.table.proofs.Listed.{one-le}
 use Rattle.table.proofs.Holders.{slots-few, entry-out, counted-one, counted-none}
 use borrow.Author.Needs.{needs}
 use Rattle.table.proofs.held.judge_entry.Statement.{statement}

@@ -7,8 +7,9 @@ use Prim.Native.Nat.{_+_, _*_, _-_, _≤_, _<_}
 use lib.ListN.{length, length-set}
 use lib.Seq.{lt-length-set}
 use Rattle.rules.specs.Layout.{entries}
+use Rattle.laws.proofs.Below.{one-le}
 use Rattle.table.specs.Entries.{unused, Squeezed}
-use Rattle.table.proofs.Listed.{squeezed-none, squeezed-zeros, squeezed-next, one-le}
+use Rattle.table.proofs.Listed.{squeezed-none, squeezed-zeros, squeezed-next}
 use borrow.Author.Needs.{needs}
 use Rattle.table.proofs.held.used.Statement.{statement}
 use Rattle.table.proofs.held.used.Tie as tie

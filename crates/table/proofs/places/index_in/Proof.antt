@@ -1,8 +1,9 @@
 -- `places::index_in` meets its contract: class and index make one number, and the class's part is taken off.
 use native.Mathlib.Omega.{arith}
 use Rattle.rules.specs.Seid.{class}
+use Rattle.laws.proofs.Seids.{class-low}
 use Rattle.layout.specs.Kinds.{kindOf}
-use Rattle.table.proofs.Holders.{class-low, indexed}
+use Rattle.table.proofs.Holders.{indexed}
 use borrow.Author.Needs.{needs}
 use Rattle.table.proofs.places.index_in.Statement.{statement}
 use Rattle.table.proofs.places.index_in.Tie as tie
