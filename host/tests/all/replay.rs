@@ -2,16 +2,13 @@
 //! in target/bin, or, where the machine is not x86-64, the one in target/native that runs it.
 
 use crate::archive::Archive;
-use std::path::PathBuf;
-use trial::Rng;
+use std::path::{Path, PathBuf};
 use trial::listings::Program;
+use trial::{Rng, findings};
 
 /// The program, with a folder of the test's own.
 fn program(test: &str) -> Program<'static> {
-    let here = PathBuf::from(env!("CARGO_MANIFEST_DIR"));
-    let made = here.join(if cfg!(target_arch = "x86_64") { "../target/bin/replay" } else { "../target/native/replay" });
-    let program = std::env::var_os("MONITOR_REPLAY").map_or(made, PathBuf::from);
-    assert!(program.exists(), "no replay program at {}: run `rt check replay` first", program.display());
+    let program = findings::program("MONITOR_REPLAY", Path::new(env!("CARGO_MANIFEST_DIR")), "replay");
     let folder = PathBuf::from(env!("CARGO_TARGET_TMPDIR")).join(test);
     std::fs::create_dir_all(&folder).expect("the folder can be made");
     Program { program, folder, names: &Archive }
@@ -20,7 +17,9 @@ fn program(test: &str) -> Program<'static> {
 #[test]
 fn listings_agree() {
     let mut rng = Rng::for_trial("listings_agree", 13);
-    program("listings_agree").listings_agree(&mut rng, trial::setting("TRIAL_SCRIPTS", 1_500));
+    let ends = program("listings_agree").listings_agree(&mut rng, trial::setting("TRIAL_SCRIPTS", 1_500));
+    println!("{ends}");
+    ends.assert_complete();
 }
 
 #[test]

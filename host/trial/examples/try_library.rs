@@ -178,7 +178,7 @@ fn main() {
                 nothing_to_try(&format!("no {}", program.display()));
             }
             let program = Program { program, folder, names: &Plain };
-            program.listings_agree(&mut rng, setting("TRIAL_SCRIPTS", 1_500));
+            drop(program.listings_agree(&mut rng, setting("TRIAL_SCRIPTS", 1_500)));
         }
         _ => nothing_to_try(&format!("no such trial: {trial}")),
     }

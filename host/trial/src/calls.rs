@@ -119,6 +119,17 @@ fn at_the_top(rng: &mut Rng, world: &World, shape: &Shape) -> Option<Call> {
     Some(Call { request: Request { caller, code, a, b, c }, buffer: vec![7; length] })
 }
 
+/// The length of buffer that a call asks for, if it asks for one.
+pub fn asked(code: u32) -> Option<usize> {
+    match code {
+        13 | 14 => Some(BLOCK_BYTES),
+        15 => Some(12),
+        16 | 17 => Some(16),
+        REGRADE => Some(4),
+        _ => None,
+    }
+}
+
 /// A call by the caller given.
 pub fn by(rng: &mut Rng, world: &World, shape: &Shape, caller: u32) -> Call {
     let code = code(rng);
@@ -429,14 +440,7 @@ impl Draw<'_> {
 
     /// The length that the call asks for, if it names one, or another; with bytes in it.
     fn buffer(&mut self, code: u32) -> Vec<u8> {
-        let asked = match code {
-            13 | 14 => Some(512),
-            15 => Some(12),
-            16 | 17 => Some(16),
-            REGRADE => Some(4),
-            _ => None,
-        };
-        let length = match asked {
+        let length = match asked(code) {
             Some(length) if self.rng.chance(15, 16) => length,
             None if self.rng.chance(3, 4) => 0,
             _ if self.rng.chance(1, 2) => self.rng.pick(&[0, 1, 3, 4, 5, 11, 12, 13, 15, 16, 17, 511, 512, 513]),

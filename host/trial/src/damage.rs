@@ -329,6 +329,15 @@ fn held(all: &mut All, kind: Kind, entries: usize) {
         world.set_entry(shape, process, entries, place, (seid - 1, rights));
         Some(())
     });
+    add(all, format!("held {kind:?}: own cell, newer than its slot"), move |rng, world, shape| {
+        let (process, place) = used(rng, world, shape, kind, entries, true)?;
+        let (seid, rights) = world.entry(shape, process, entries, place);
+        if seid & 65535 == 65535 {
+            return None;
+        }
+        world.set_entry(shape, process, entries, place, (seid + 1, rights));
+        Some(())
+    });
     let bad_rights: &[u32] = match kind {
         Kind::File => &[0, 4, 5, 6, 7, 8, 9, 10, 12, 13, 14, 16, 17, 257, u32::MAX],
         _ => &[1, 2, 64, 129, 255, 257, 383, 385, 511, 512, 640, 1 << 31],

@@ -1,7 +1,8 @@
 //! A monitor against the plain one: every answer, every word of the table, every byte of store and buffer.
 
-use crate::calls::{self, Call};
+use crate::calls::{self, Call, REGRADE};
 use crate::damage;
+use crate::largest;
 use crate::rng::Rng;
 use crate::shrink;
 use crate::tables::{self, World};
@@ -10,6 +11,9 @@ use crate::{Monitor, Plain};
 use plain::table::*;
 use plain::{Kind, Request, Shape};
 use std::collections::BTreeMap;
+
+/// Lengths that are what some call asks for, or none, but for 65,536 bytes.
+const LONG_BUFFERS: [usize; 5] = [65_536, 65_536 + 4, 65_536 + 12, 65_536 + 16, 65_536 + BLOCK_BYTES];
 
 pub struct Differ<'a> {
     pub monitor: &'a dyn Monitor,
@@ -32,6 +36,7 @@ impl<'a> Differ<'a> {
         self.every_length();
         self.single_calls(calls / 2);
         self.long_runs(calls / 4, 20_000);
+        self.largest();
     }
 
     /// Single calls, each on a random well-formed table as it was drawn; a table serves for some hundred of them.
@@ -69,22 +74,39 @@ impl<'a> Differ<'a> {
                 0 => tables::fresh(&mut self.rng, limits),
                 _ => tables::well_formed(&mut self.rng, limits),
             };
-            let shape = start.shape();
-            let (mut before, mut ours, mut theirs) = (start.clone(), start.clone(), start.clone());
-            let mut made = Vec::new();
-            for _ in 0..calls_each {
-                made.push(calls::any(&mut self.rng, &before, &shape));
-                let call = made.last().expect("there is one");
-                let answer = same_call(self.monitor, &mut ours, &mut theirs, call);
-                let error = match answer {
-                    Ok(agreed) => self.note(&before, &shape, call, agreed),
-                    Err(_) => self.report(&start, &made),
-                };
-                if error == 0 {
-                    before.table.copy_from_slice(&ours.table);
-                    if call.request.code == 2 && before.deserted(&shape) {
-                        break;
-                    }
+            let drawn = |rng: &mut Rng, world: &World, shape: &Shape| Some(calls::any(rng, world, shape));
+            self.run(&start, calls_each, drawn);
+        }
+    }
+
+    /// The largest store, to its last block.
+    pub fn largest(&mut self) {
+        let start = largest::hall(&mut self.rng);
+        let mut written = largest::calls(&mut self.rng).into_iter();
+        self.run(&start, u64::MAX, |_, _, _| written.next());
+    }
+
+    /// A run of so many calls at most, each drawn on the table as it stands, until there are no more or no process is left.
+    fn run(&mut self, start: &World, most: u64, mut next: impl FnMut(&mut Rng, &World, &Shape) -> Option<Call>) {
+        let shape = start.shape();
+        let (mut before, mut ours, mut theirs) = (start.clone(), start.clone(), start.clone());
+        let mut made = Vec::new();
+        for _ in 0..most {
+            let Some(call) = next(&mut self.rng, &before, &shape) else { return };
+            made.push(call);
+            let call = made.last().expect("there is one");
+            let answer = same_call(self.monitor, &mut ours, &mut theirs, call);
+            let error = match answer {
+                Ok(agreed) => self.note(&before, &shape, call, agreed),
+                Err(_) => self.report(start, &made),
+            };
+            if error == 0 {
+                before.table.copy_from_slice(&ours.table);
+                if matches!(call.request.code, 14 | REGRADE) {
+                    before.store.copy_from_slice(&ours.store);
+                }
+                if call.request.code == 2 && before.deserted(&shape) {
+                    return;
                 }
             }
         }
@@ -100,7 +122,7 @@ impl<'a> Differ<'a> {
 
     fn note(&mut self, before: &World, shape: &Shape, call: &Call, Agreed { answer, view }: Agreed) -> u32 {
         self.tally.note(before, shape, call, answer);
-        self.tally.viewed(view);
+        self.tally.viewed(before, shape, call, view);
         self.calls += 1;
         answer[0]
     }
@@ -155,19 +177,24 @@ impl<'a> Differ<'a> {
         self.calls += 1;
         if verdict != 0 {
             assert_eq!((answer, view), ([1, 0, 0], 1), "a table damaged thus: {name}");
-            self.tally.viewed(view);
             assert!(one == world, "a bad table was changed: {name}");
             self.tally.bad_table();
         }
         same_setup(self.monitor, world);
     }
 
-    /// Every code, and some beside, with every length of buffer up to 513.
+    /// Every code, and some beside, with every length of buffer up to 513, and with some that are much longer.
     pub fn every_length(&mut self) {
-        let start = tables::well_formed(&mut self.rng, tables::MIDDLE);
+        let start = loop {
+            let start = tables::well_formed(&mut self.rng, tables::MIDDLE);
+            if !start.deserted(&start.shape()) {
+                break start;
+            }
+        };
         let shape = start.shape();
+        let long = LONG_BUFFERS.iter().flat_map(|&length| [length; 4]); // now and then the caller is not live
         for code in 0..=CODES as u32 + 2 {
-            for length in 0..=513 {
+            for length in (0..=BLOCK_BYTES + 1).chain(long.clone()) {
                 let caller = calls::caller(&mut self.rng, &start, &shape, |_| true).expect("there is a process slot");
                 let mut call = calls::with_code(&mut self.rng, &start, &shape, caller, code);
                 call.buffer.resize(length, 0xa5);

@@ -1,6 +1,7 @@
 //! Images: what a monitor writes in the evening and takes in the morning, against the plain one; whole images, and damaged ones.
 
 use crate::damage;
+use crate::largest;
 use crate::rng::Rng;
 use crate::tables::{self, World};
 use crate::{Monitor, Plain};
@@ -18,12 +19,17 @@ pub struct Images<'a> {
     pub met: Met,
 }
 
-/// How many reloads were taken and refused, by what was done to the image.
+/// How many images were written and refused, by what they were asked for; and how many reloads were taken and refused, by what was done
+/// to the image.
 #[derive(Default)]
 pub struct Met(BTreeMap<&'static str, [u64; 2]>);
 
 /// What must have been met at the end: some taken, some refused.
-const WANTED: [(&str, [bool; 2]); 11] = [
+const WANTED: [(&str, [bool; 2]); 18] = [
+    ("written into room enough", [true, false]),
+    ("written into too little room", [false, true]),
+    ("written of a bad table into room enough", [false, true]),
+    ("written of a bad table into no room", [false, true]),
     ("whole", [true, false]),
     ("a byte changed", [true, true]),
     ("cut", [false, true]),
@@ -35,22 +41,29 @@ const WANTED: [(&str, [bool; 2]); 11] = [
     ("not well formed", [false, true]),
     ("another hall of the same lengths", [true, false]),
     ("a hall of other lengths", [false, true]),
+    ("the largest store, whole", [true, false]),
+    ("the largest store, its last byte changed", [true, false]),
+    ("the largest store, its last byte cut", [false, true]),
 ];
 
 impl Met {
+    fn note(&mut self, name: &'static str, error: u32) {
+        self.0.entry(name).or_default()[usize::from(error != 0)] += 1;
+    }
+
     pub fn assert_complete(&self) {
         assert_eq!(self.0.len(), WANTED.len(), "another damage was tried than is listed");
         for (name, wanted) in WANTED {
             let met = self.0.get(name).copied().unwrap_or_default();
-            assert_eq!(met.map(|count| count > 0), wanted, "{name}: {} taken, {} refused", met[0], met[1]);
+            assert_eq!(met.map(|count| count > 0), wanted, "{name}: {} done, {} refused", met[0], met[1]);
         }
     }
 }
 
 impl fmt::Display for Met {
     fn fmt(&self, f: &mut fmt::Formatter) -> fmt::Result {
-        for (name, [taken, refused]) in &self.0 {
-            writeln!(f, "{name}: {taken} taken, {refused} refused")?;
+        for (name, [done, refused]) in &self.0 {
+            writeln!(f, "{name}: {done} done, {refused} refused")?;
         }
         Ok(())
     }
@@ -107,6 +120,21 @@ impl<'a> Images<'a> {
             self.other_halls(&world, limits);
             self.bad_table(&world);
         }
+        self.largest();
+    }
+
+    /// The largest store, with a file in its last block.
+    fn largest(&mut self) {
+        let mut world = largest::hall(&mut self.rng);
+        for mut call in largest::calls(&mut self.rng) {
+            Plain.call(&mut world.table, &mut world.store, &call.request, &mut call.buffer);
+        }
+        let mut image = self.written(&world);
+        self.reload("the largest store, whole", &world, &image);
+        *image.last_mut().expect("there is a store") ^= 1;
+        self.reload("the largest store, its last byte changed", &world, &image);
+        image.pop();
+        self.reload("the largest store, its last byte cut", &world, &image);
     }
 
     /// The image: the words, then the store; its length; and what becomes of buffers of other lengths.
@@ -118,6 +146,7 @@ impl<'a> Images<'a> {
             let (mut ours, mut theirs) = self.written_twice(world, room);
             let fits = room >= length;
             assert_eq!((ours.0, theirs.0), if fits { (0, 0) } else { (5, 5) }, "room for {room} of {length} bytes");
+            self.met.note(if fits { "written into room enough" } else { "written into too little room" }, ours.0);
             assert!(ours.1 == theirs.1, "another image, with room for {room} of {length} bytes");
             if fits {
                 assert!(ours.1.drain(..length).eq(image.iter().copied()), "no image");
@@ -147,10 +176,17 @@ impl<'a> Images<'a> {
         damage::random(&mut self.rng, &mut bad, &world.shape());
         let length = self.monitor.image_length(&bad.table, bad.store.len());
         assert_eq!(length, Plain.image_length(&bad.table, bad.store.len()), "another length was told");
-        for room in [0, plain_bytes(&bad).len()] {
+        let rooms = [
+            ("written of a bad table into no room", 0),
+            ("written of a bad table into room enough", plain_bytes(&bad).len()),
+        ];
+        for (name, room) in rooms {
             let (ours, theirs) = self.written_twice(&bad, room);
             assert!(ours == theirs, "a bad table's image");
             assert_eq!(ours.0 == 1, length == 0);
+            if ours.0 == 1 {
+                self.met.note(name, ours.0);
+            }
         }
     }
 
@@ -174,7 +210,7 @@ impl<'a> Images<'a> {
             assert_eq!(answer, 4, "{name}");
             assert!(ours == lent, "{name}: a refusal touched something");
         }
-        self.met.0.entry(name).or_default()[usize::from(answer != 0)] += 1;
+        self.met.note(name, answer);
     }
 
     /// Every place of a small image, or some.

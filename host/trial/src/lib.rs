@@ -2,11 +2,14 @@
 //! another, the invariants, what an observer may learn. A trial takes any `Monitor`, so the plain one is tried as the proved one is;
 //! behind a pointer, so that each trial is compiled once and not for every monitor anew.
 
+pub mod absences;
 pub mod calls;
+pub mod counts;
 pub mod damage;
 pub mod differ;
 pub mod findings;
 pub mod images;
+pub mod largest;
 pub mod listings;
 pub mod rng;
 pub mod scripts;

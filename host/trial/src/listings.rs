@@ -1,5 +1,6 @@
 //! A replay program against the plain replay.
 
+use crate::counts::Counts;
 use crate::rng::Rng;
 use crate::{Monitor, scripts, tables, write_anew};
 use std::fs::{self, File};
@@ -67,9 +68,9 @@ impl Program<'_> {
         );
     }
 
-    /// Scripts good and bad.
-    pub fn listings_agree(&self, rng: &mut Rng, rounds: u64) {
-        let (mut configurations, mut faults, mut whole) = (0, 0, 0);
+    /// Scripts good and bad; how they ended.
+    pub fn listings_agree(&self, rng: &mut Rng, rounds: u64) -> Counts {
+        let mut ends = Counts::of(scripts::ENDS);
         for round in 0..rounds {
             let limits = tables::replay_limits(rng);
             let calls = match round % 50 {
@@ -87,14 +88,12 @@ impl Program<'_> {
             }
             let expected = plain::replay(&script.bytes);
             self.agrees(&script.bytes, &expected);
-            match expected {
-                text if text == b"bad configuration\n" => configurations += 1,
-                text if text.ends_with(b"bad script\n") => faults += 1,
-                _ => whole += 1,
-            }
+            let end = scripts::end(&script.bytes);
+            assert_eq!(end.starts_with("configuration"), expected == b"bad configuration\n", "{end}");
+            assert_eq!(end.starts_with("call"), expected.ends_with(b"bad script\n"), "{end}");
+            ends.met(end, true);
         }
-        println!("{whole} whole scripts, {faults} at fault, {configurations} bad configurations");
-        assert!(whole > 0 && faults > 0 && configurations > 0);
+        ends
     }
 
     /// However the input is cut on its way in, the listing is the same.

@@ -100,21 +100,41 @@ pub fn damage(rng: &mut Rng, script: &mut Script) {
 pub fn bad_configuration(rng: &mut Rng, limits: Limits) -> Script {
     let mut words = tables::configuration(rng, limits);
     let cells = words[0] as usize;
-    match rng.below(6) {
+    match rng.below(8) {
         3 => words[5] = rng.pick(&[cells as u32, cells as u32 + 1, 17, u32::MAX]), // a guard cell that is there, or none that is
         0 if cells > 1 => words.copy_within(8..11, 16),                            // two cells of one level
         2 => {
             // As many slots of a kind as replay takes, or one more, which set-up would take: the first cell has what the others lack.
-            let kind = rng.below(3);
+            let kind = rng.pick(&[0, 0, 1, 1, 2]);
             let others: u32 = (1..cells).map(|cell| words[8 + 8 * cell + 3 + kind]).sum();
             words[1 + kind] = rng.pick(&[64, 65, 65, 256]);
             words[11 + kind] = words[1 + kind].saturating_sub(others);
             words[4] = 1; // so that the store is no larger than it may be, as far as can be
         }
+        4 => {
+            let word = 8 + 8 * rng.below(cells) + 6 + rng.below(2); // an owner or a group
+            words[word] = rng.pick(&[65535, 65536, 65537, u32::MAX]);
+        }
+        5 if cells > 1 => {
+            // A cell without process slots: the next one has them, so that the sum is right.
+            let cell = 8 + 8 * rng.below(cells - 1);
+            words[cell + 8 + 3] += words[cell + 3];
+            words[cell + 3] = 0;
+        }
         1 => {
             // Files x B about 64; all files in the first cell, so that nothing else is wrong.
-            (words[3], words[4]) =
-                rng.pick(&[(65, 1), (1, 65), (33, 2), (5, 13), (64, 64), (64, 1 << 26), (0, 65), (64, 1)]);
+            (words[3], words[4]) = rng.pick(&[
+                (65, 1),
+                (1, 65),
+                (33, 2),
+                (5, 13),
+                (64, 64),
+                (64, 1 << 26),
+                (0, 65),
+                (0, 65),
+                (0, 0),
+                (64, 1),
+            ]);
             for cell in 0..cells {
                 words[8 + 8 * cell + 5] = if cell == 0 { words[3] } else { 0 };
             }
@@ -131,6 +151,138 @@ pub fn bad_configuration(rng: &mut Rng, limits: Limits) -> Script {
     script.configuration(&words);
     script.call(&Request { caller: 0, code: 1, a: 0, b: 0, c: 0 }, &[]);
     script
+}
+
+/// Where an input stops a replay, and why; or that it does not. A configuration counts by what is wrong where that is one thing alone.
+pub const ENDS: &[&str] = &[
+    "configuration: cut",
+    "configuration: a number that is not in its shortest form",
+    "configuration: a number too large",
+    "configuration: cells",
+    "configuration: process slots",
+    "configuration: segment slots",
+    "configuration: blocks",
+    "configuration: files x blocks",
+    "configuration: guard",
+    "configuration: security or integrity",
+    "configuration: a cell without process slots",
+    "configuration: owner or group",
+    "configuration: slot sums",
+    "configuration: two cells of one level",
+    "configuration: more than one thing",
+    "call: cut in its numbers",
+    "call: cut in its buffer",
+    "call: a number that is not in its shortest form",
+    "call: a number too large",
+    "call: a buffer too long",
+    "whole, without calls",
+    "whole, with calls",
+];
+
+/// The end of an input, one of ENDS.
+pub fn end(mut input: &[u8]) -> &'static str {
+    let words = match configured(&mut input) {
+        Ok(words) => words,
+        Err(Fault::Cut) => return "configuration: cut",
+        Err(Fault::Longer) => return "configuration: a number that is not in its shortest form",
+        Err(Fault::Large) => return "configuration: a number too large",
+    };
+    match wrong(&words)[..] {
+        [] => {}
+        [alone] => return alone,
+        _ => return "configuration: more than one thing",
+    }
+    if input.is_empty() {
+        return "whole, without calls";
+    }
+    while !input.is_empty() {
+        if let Err(fault) = called(&mut input) {
+            return fault;
+        }
+    }
+    "whole, with calls"
+}
+
+/// What is wrong with a number.
+enum Fault {
+    Cut,
+    Longer,
+    Large,
+}
+
+/// A number, by the documents' words alone: at most five groups, the fifth at most 15, and no last group 0 after others.
+fn judged(input: &mut &[u8]) -> Result<u32, Fault> {
+    let mut value = 0;
+    for at in 0..5 {
+        let (&group, rest) = input.split_first().ok_or(Fault::Cut)?;
+        *input = rest;
+        value |= u64::from(group & 127) << (7 * at);
+        match group {
+            0 if at > 0 => return Err(Fault::Longer),
+            0..128 => return u32::try_from(value).map_err(|_| Fault::Large),
+            _ => {}
+        }
+    }
+    Err(Fault::Large)
+}
+
+/// The numbers of a configuration: the header's, and the cells' if their number is one that can be.
+fn configured(input: &mut &[u8]) -> Result<Vec<u32>, Fault> {
+    let mut words = Vec::new();
+    for _ in 0..HEADER_NUMBERS {
+        words.push(judged(input)?);
+    }
+    if (1..=MAX_CELLS as u32).contains(&words[0]) {
+        for _ in 0..CELL_WORDS * words[0] as usize {
+            words.push(judged(input)?);
+        }
+    }
+    Ok(words)
+}
+
+/// All that is wrong with the numbers of a configuration. More files than 64 are too many blocks, and need no name.
+fn wrong(words: &[u32]) -> Vec<&'static str> {
+    let (header, cells) = words.split_at(HEADER_NUMBERS);
+    let &[count, processes, segments, files, blocks, guard] = header else {
+        panic!("the header has six numbers");
+    };
+    if cells.is_empty() {
+        return vec!["configuration: cells"];
+    }
+    let (cells, _) = cells.as_chunks::<CELL_WORDS>();
+    let sum = |word: usize| cells.iter().map(|cell| u64::from(cell[word])).sum::<u64>();
+    let sums = [(3, processes), (4, segments), (5, files)];
+    let twice = |at: usize| cells[..at].iter().any(|earlier| earlier[..3] == cells[at][..3]);
+    let clauses = [
+        ("configuration: process slots", !(1..=64).contains(&processes)),
+        ("configuration: segment slots", segments > 64),
+        ("configuration: blocks", !(1..=64).contains(&blocks)),
+        ("configuration: files x blocks", u64::from(files) * u64::from(blocks) > 64),
+        ("configuration: guard", guard > count),
+        ("configuration: security or integrity", cells.iter().any(|cell| cell[0] > 15 || cell[1] > 15)),
+        ("configuration: a cell without process slots", cells.iter().any(|cell| cell[3] == 0)),
+        ("configuration: owner or group", cells.iter().any(|cell| cell[6] > 65535 || cell[7] > 65535)),
+        ("configuration: slot sums", sums.iter().any(|&(word, due)| sum(word) != u64::from(due))),
+        ("configuration: two cells of one level", (0..cells.len()).any(twice)),
+    ];
+    clauses.into_iter().filter(|(_, wrong)| *wrong).map(|(name, _)| name).collect()
+}
+
+/// A call, or what is wrong with it.
+fn called(input: &mut &[u8]) -> Result<(), &'static str> {
+    let mut length = 0;
+    for _ in 0..6 {
+        length = judged(input).map_err(|fault| match fault {
+            Fault::Cut => "call: cut in its numbers",
+            Fault::Longer => "call: a number that is not in its shortest form",
+            Fault::Large => "call: a number too large",
+        })?;
+    }
+    if length > 512 {
+        return Err("call: a buffer too long");
+    }
+    *input = input.get(length as usize..).ok_or("call: cut in its buffer")?;
+    Ok(())
 }
 
 /// A part of an input.

@@ -48,7 +48,7 @@ pub struct Met {
     pub paired_with_other_rests: u64,
     /// Those refused, in both runs alike.
     pub paired_refused: u64,
-    /// Regrades by hidden callers into visible cells that one run alone has, refused.
+    /// Regrades by hidden guards into visible cells that one run alone has, refused.
     pub refused_alone: u64,
     /// Regrades by hidden callers into hidden cells.
     pub hidden_regrades: u64,
@@ -146,7 +146,7 @@ impl Run<'_> {
                 if self.due(&call) == 0 {
                     continue;
                 }
-                met.refused_alone += 1;
+                met.refused_alone += u64::from(guards(&self.world, self.shape, call.request.caller));
             }
             let request = call.request;
             let caller = request.caller as usize;
@@ -238,6 +238,13 @@ impl Run<'_> {
 pub(crate) fn regrades(request: &Request, shape: &Shape, seen: &Seen, wanted: bool) -> bool {
     let cell = request.b as usize;
     request.code == REGRADE && cell < shape.cells && seen[cell] == wanted
+}
+
+/// Whether a caller is a live process of the guard cell: who is not is refused whatever it asks.
+pub(crate) fn guards(world: &World, shape: &Shape, caller: u32) -> bool {
+    let caller = caller as usize;
+    let there = caller < shape.count(Kind::Process) && world.live(shape, Kind::Process, caller);
+    there && shape.guard == Some(shape.cell(Kind::Process, caller))
 }
 
 /// A file that a process of the guard cell has open for reading.

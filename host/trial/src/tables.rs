@@ -114,7 +114,7 @@ pub fn configuration(rng: &mut Rng, limits: Limits) -> Vec<u32> {
             levels.push(level);
         }
     }
-    let blocks = 1 + rng.below(limits.blocks);
+    let blocks = if rng.chance(1, 8) { limits.blocks } else { 1 + rng.below(limits.blocks) };
     // Now and then as many as there can be.
     let most_often = if limits.slots == MAX_SLOTS { 3 } else { 1 }; // of six
     let mut count =

@@ -1,11 +1,13 @@
 //! What a trial has met: each code's successes, each refusal of its list, and some situations that are easily missed. A trial that
 //! never met one of them fails, so that a pass says something.
 
+use crate::absences::Absences;
 use crate::calls::{Call, REGRADE};
+use crate::counts::Counts;
+use crate::largest::{is_last, is_last_and_whole};
 use crate::tables::World;
 use plain::table::*;
 use plain::{Kind, Seid, Shape};
-use std::collections::BTreeMap;
 use std::fmt;
 
 pub const CODES: usize = 21;
@@ -54,6 +56,10 @@ pub const SITUATIONS: &[&str] = &[
     "create passes over a lower slot that is worn more",
     "create takes the lowest of slots worn equally",
     "create reaches serial 65535",
+    "spawn refused though a slot is free, worn out",
+    "build refused though a slot is free, worn out",
+    "create refused though a slot is free, worn out",
+    "regrade refused though a slot is free, worn out",
     "build with write-only access",
     "release of oneself by seid 0",
     "release of oneself by the real seid",
@@ -71,7 +77,9 @@ pub const SITUATIONS: &[&str] = &[
     "set access beyond the stored access",
     "open from a higher cell beside an exclusive open",
     "exclusive open beside a reader in a higher cell",
+    "open beside an open of the own cell that does not clash",
     "open refused by the caller's own descriptor",
+    "open refused by another process's descriptor alone",
     "close of a stale descriptor",
     "close frees the file",
     "close leaves a linked file",
@@ -80,9 +88,12 @@ pub const SITUATIONS: &[&str] = &[
     "unlink leaves an open file",
     "set bits of the caller by seid 0",
     "set bits of another process",
+    "set bits of a file",
     "set bits of a segment that is not sharable",
     "set bits refused of a sharable segment that nobody else holds",
     "set bits refused of a sharable segment though they would not change",
+    "read of a file of the own cell",
+    "read of a lower cell's file",
     "read refused to the owner though all may read",
     "write fills a hole",
     "write extends by one block",
@@ -98,6 +109,16 @@ pub const SITUATIONS: &[&str] = &[
     "post refused to the owner though all may write",
     "post refused by bits where the queue is full too",
     "post refused to owner 0 by another's bits",
+    "receive of the only message",
+    "receive of the first of two to seven",
+    "receive of the first of eight",
+    "receive from a process of the own cell",
+    "receive from a lower cell",
+    "status of the caller by seid 0",
+    "status of a process",
+    "status of a segment",
+    "status of a file",
+    "status of something in a lower cell",
     "access limited by today's bits",
     "remap: neither",
     "remap: one comes in",
@@ -139,6 +160,12 @@ pub const SITUATIONS: &[&str] = &[
     "open of file 255",
     "a post to process 255",
     "a creating call in a cell with all 256 slots of the kind",
+    "block 63 of file 255: read",
+    "block 63 of file 255: viewed",
+    "block 63 of file 255: written over",
+    "block 63 of file 255: written after a hole of 63 blocks",
+    "block 63 of file 255: copied out by a regrade",
+    "block 63 of file 255: copied in by a regrade",
 ];
 
 pub struct Tally {
@@ -149,7 +176,8 @@ pub struct Tally {
     bad_table: u64,
     bad_caller: u64,
     bad_code: u64,
-    situations: BTreeMap<&'static str, u64>,
+    absences: Absences,
+    situations: Counts,
 }
 
 impl Default for Tally {
@@ -160,15 +188,17 @@ impl Default for Tally {
             bad_table: 0,
             bad_caller: 0,
             bad_code: 0,
-            situations: SITUATIONS.iter().map(|&name| (name, 0)).collect(),
+            absences: Absences::default(),
+            situations: Counts::of(SITUATIONS),
         }
     }
 }
 
 impl Tally {
-    /// Notes a call on a table that was not well formed.
+    /// Notes a call and a view on a table that was not well formed.
     pub fn bad_table(&mut self) {
         self.bad_table += 1;
+        self.views[1] += 1;
     }
 
     /// Notes a call on a well-formed table. Panics on an error that the call's list does not have.
@@ -187,6 +217,7 @@ impl Tally {
                 "{error} is not in the list of call {code}: {call:?}"
             );
             self.own[code][error as usize] += 1;
+            self.absences.note(before, shape, request, error);
             let mut scene = Scene { tally: self, before, shape, call, caller };
             match error {
                 0 => scene.success(first, second),
@@ -196,15 +227,20 @@ impl Tally {
         assert!(error == 0 || (first, second) == (0, 0), "a refusal with results: {call:?}");
     }
 
-    /// Notes a view, by its number.
-    pub fn viewed(&mut self, error: u32) {
+    /// Notes a view on a well-formed table, by a call's process and first two arguments.
+    pub fn viewed(&mut self, before: &World, shape: &Shape, call: &Call, error: u32) {
         assert!(error == 0 || VIEW_REFUSALS.contains(&error), "{error} is not in the list of views");
         self.views[error as usize] += 1;
+        if error == 0 {
+            let caller = call.request.caller as usize;
+            let scene = Scene { tally: self, before, shape, call, caller };
+            let last = is_last(scene.opened(), call.request.b);
+            self.met("block 63 of file 255: viewed", last);
+        }
     }
 
     fn met(&mut self, situation: &'static str, true_here: bool) {
-        let count = self.situations.get_mut(situation).expect("the situation is listed");
-        *count += u64::from(true_here);
+        self.situations.met(situation, true_here);
     }
 
     /// What has not been met.
@@ -224,7 +260,8 @@ impl Tally {
                 missing.push(format!("a bad {name}"));
             }
         }
-        missing.extend(self.situations.iter().filter(|(_, count)| **count == 0).map(|(name, _)| name.to_string()));
+        missing.extend(self.absences.missing());
+        missing.extend(self.situations.missing().map(str::to_string));
         missing
     }
 
@@ -249,10 +286,7 @@ impl fmt::Display for Tally {
             write!(f, "  {error}: {}", self.views[error as usize])?;
         }
         writeln!(f)?;
-        for (name, count) in &self.situations {
-            writeln!(f, "{count:8}  {name}")?;
-        }
-        Ok(())
+        write!(f, "{}{}", self.absences, self.situations)
     }
 }
 
@@ -272,6 +306,30 @@ impl Scene<'_> {
 
     fn own_word(&self, word: usize) -> u32 {
         self.word(Kind::Process, self.caller, word)
+    }
+
+    /// Whether a slot belongs to the caller's cell.
+    fn own_cell(&self, kind: Kind, index: usize) -> bool {
+        self.shape.cell(kind, index) == self.shape.cell(Kind::Process, self.caller)
+    }
+
+    /// Whether a process has a file open in modes of a kind.
+    fn has_open(&self, process: usize, file: u32, by: impl Fn(u32) -> bool) -> bool {
+        (0..ENTRIES).any(|place| {
+            let (seid, modes) = self.before.entry(self.shape, process, DESCRIPTORS, place);
+            seid == file && by(modes)
+        })
+    }
+
+    /// Whether a cell has a slot of a kind that is not live; where a call finds none to take, it is worn out.
+    fn unused_slot(&self, kind: Kind, cell: usize) -> bool {
+        self.shape.run(kind, cell).any(|slot| !self.before.live(self.shape, kind, slot))
+    }
+
+    /// The file that the caller has open at the descriptor that the call names.
+    fn opened(&self) -> usize {
+        let place = self.call.request.a as usize;
+        Seid::of(self.before.entry(self.shape, self.caller, DESCRIPTORS, place).0).index
     }
 
     /// A new object: which slots of its cell it passed over.
@@ -366,16 +424,29 @@ impl Scene<'_> {
                 let other = class == Kind::Process.class() && request.a != own;
                 self.tally.met("set bits of the caller by seid 0", request.a == 0);
                 self.tally.met("set bits of another process", other);
+                self.tally.met("set bits of a file", class == Kind::File.class());
                 self.tally.met("set bits of a segment that is not sharable", class == Kind::Segment.class());
             }
+            13 => {
+                let file = self.opened();
+                let own = self.own_cell(Kind::File, file);
+                self.tally.met("read of a file of the own cell", own);
+                self.tally.met("read of a lower cell's file", !own);
+                self.tally.met("block 63 of file 255: read", is_last(file, request.b));
+            }
             14 => {
-                let (seid, _) = self.before.entry(self.shape, self.caller, DESCRIPTORS, request.a as usize);
-                let size = self.word(Kind::File, Seid::of(seid).index, SIZE);
+                let file = self.opened();
+                let size = self.word(Kind::File, file, SIZE);
+                let last = is_last(file, request.b);
+                self.tally.met("block 63 of file 255: written over", last && request.b < size);
+                self.tally.met("block 63 of file 255: written after a hole of 63 blocks", last && size == 0);
                 self.tally.met("write fills a hole", request.b > size);
                 self.tally.met("write extends by one block", request.b == size);
                 self.tally.met("write over a block", request.b < size);
             }
             15 => self.post(request.a),
+            16 => self.receive(),
+            17 => self.status(request.a),
             18 => {
                 let (_, stored) = self.before.entry(self.shape, self.caller, DESIGNATORS, request.a as usize);
                 self.tally.met("access limited by today's bits", first != stored);
@@ -388,7 +459,7 @@ impl Scene<'_> {
             }
             REGRADE => {
                 self.created(Kind::File, first);
-                self.regrade(request.a as usize, request.b as usize, Seid::of(first).index);
+                self.regrade(request.b as usize, Seid::of(first).index);
             }
             _ => {}
         }
@@ -433,9 +504,9 @@ impl Scene<'_> {
         }
     }
 
-    fn regrade(&mut self, place: usize, to: usize, taken: usize) {
+    fn regrade(&mut self, to: usize, taken: usize) {
         let guard = self.shape.cell(Kind::Process, self.caller);
-        let source = Seid::of(self.before.entry(self.shape, self.caller, DESCRIPTORS, place).0).index;
+        let source = self.opened();
         let from = self.shape.cell(Kind::File, source);
         let (up, down) = (self.shape.flow[guard][to], self.shape.flow[to][guard]);
         let size = self.word(Kind::File, source, SIZE) as usize;
@@ -453,6 +524,8 @@ impl Scene<'_> {
         self.tally.met("regrade over what an older file left, of more blocks", size > 0 && older);
         self.tally.met("regrade without an empty descriptor", full);
         self.tally.met("regrade where the guard's own cell is full", !room);
+        self.tally.met("block 63 of file 255: copied out by a regrade", is_last_and_whole(source, size));
+        self.tally.met("block 63 of file 255: copied in by a regrade", is_last_and_whole(taken, size));
     }
 
     fn release_process(&mut self, named: u32) {
@@ -520,15 +593,12 @@ impl Scene<'_> {
         self.tally.met("open of file 255", Seid::of(file).index == MAX_SLOTS - 1);
         let cell = self.shape.cell(Kind::File, Seid::of(file).index);
         let higher = cell != self.shape.cell(Kind::Process, self.caller);
-        let held = |process: usize, by: fn(u32) -> bool| {
-            (0..ENTRIES).any(|place| {
-                let (seid, modes) = self.before.entry(self.shape, process, DESCRIPTORS, place);
-                seid == file && by(modes)
-            })
-        };
         let processes = 0..self.shape.count(Kind::Process);
-        let exclusive = higher && self.shape.run(Kind::Process, cell).any(|process| held(process, |modes| modes == 15));
-        let reader = modes == 15 && processes.into_iter().any(|process| held(process, |_| true));
+        let mut own = self.shape.run(Kind::Process, cell);
+        let exclusive = higher && own.clone().any(|process| self.has_open(process, file, |modes| modes == 15));
+        let reader = modes == 15 && processes.into_iter().any(|process| self.has_open(process, file, |_| true));
+        let beside = !higher && own.any(|process| self.has_open(process, file, |_| true));
+        self.tally.met("open beside an open of the own cell that does not clash", beside);
         self.tally.met("open from a higher cell beside an exclusive open", exclusive);
         self.tally.met("exclusive open beside a reader in a higher cell", reader);
     }
@@ -542,26 +612,52 @@ impl Scene<'_> {
 
     fn post(&mut self, named: u32) {
         self.tally.met("post to oneself by seid 0", named == 0);
-        let receiver = Seid::of(named).index;
-        self.tally.met("a post to process 255", named != 0 && receiver == MAX_SLOTS - 1);
-        let cell = self.shape.cell(Kind::Process, self.caller);
         if named == 0 {
             return;
         }
+        let receiver = Seid::of(named).index;
+        let last = receiver == MAX_SLOTS - 1;
+        let cell = self.shape.cell(Kind::Process, self.caller);
         if self.shape.cell(Kind::Process, receiver) == cell {
             let other = self.word(Kind::Process, receiver, OWNER) != self.own_word(OWNER);
             self.tally.met("post to another owner's process of the cell", other);
+            self.tally.met("a post to process 255", last);
             return;
         }
         let live = self.before.live(self.shape, Kind::Process, receiver);
         let there = live && self.before.seid(self.shape, Kind::Process, receiver) == named;
         let full = self.word(Kind::Process, receiver, QUEUED) as usize == QUEUE;
         let forbids = self.forbids(receiver);
-        self.tally.met("post up: delivered", there && !forbids && !full);
+        let delivered = there && !forbids && !full;
+        self.tally.met("post up: delivered", delivered);
+        self.tally.met("a post to process 255", last && delivered);
         self.tally.met("post up: dropped, bits forbid", there && forbids && !full);
         self.tally.met("post up: dropped, queue full", there && !forbids && full);
         self.tally.met("post up: dropped, not live", !live);
         self.tally.met("post up: dropped, other serial", live && !there);
+    }
+
+    fn receive(&mut self) {
+        let queued = self.own_word(QUEUED) as usize;
+        let own = self.own_cell(Kind::Process, Seid::of(self.own_word(MESSAGES)).index);
+        self.tally.met("receive of the only message", queued == 1);
+        self.tally.met("receive of the first of two to seven", (2..QUEUE).contains(&queued));
+        self.tally.met("receive of the first of eight", queued == QUEUE);
+        self.tally.met("receive from a process of the own cell", own);
+        self.tally.met("receive from a lower cell", !own);
+    }
+
+    fn status(&mut self, named: u32) {
+        self.tally.met("status of the caller by seid 0", named == 0);
+        if named == 0 {
+            return;
+        }
+        let seid = Seid::of(named);
+        let kind = Kind::of_class(seid.class).expect("it has a status");
+        self.tally.met("status of a process", kind == Kind::Process);
+        self.tally.met("status of a segment", kind == Kind::Segment);
+        self.tally.met("status of a file", kind == Kind::File);
+        self.tally.met("status of something in a lower cell", !self.own_cell(kind, seid.index));
     }
 
     fn post_forbidden(&mut self, named: u32) {
@@ -578,13 +674,24 @@ impl Scene<'_> {
 
     fn refusal(&mut self, error: u32) {
         let request = self.call.request;
+        let cell = self.shape.cell(Kind::Process, self.caller);
         match (request.code, error) {
             (8, 19) => {
-                let held = (0..ENTRIES).any(|place| {
-                    let (seid, modes) = self.before.entry(self.shape, self.caller, DESCRIPTORS, place);
-                    seid == request.a && plain::clash(modes, request.b)
-                });
+                let held = self.has_open(self.caller, request.a, |modes| plain::clash(modes, request.b));
                 self.tally.met("open refused by the caller's own descriptor", held);
+                self.tally.met("open refused by another process's descriptor alone", !held);
+            }
+            (1, 27) => {
+                let worn = self.unused_slot(Kind::Process, cell);
+                self.tally.met("spawn refused though a slot is free, worn out", worn);
+            }
+            (3, 26) => {
+                let worn = self.unused_slot(Kind::Segment, cell);
+                self.tally.met("build refused though a slot is free, worn out", worn);
+            }
+            (7, 26) => {
+                let worn = self.unused_slot(Kind::File, cell);
+                self.tally.met("create refused though a slot is free, worn out", worn);
             }
             (19, 32) => {
                 let pages = self.held_segment(request.a).0;
@@ -605,7 +712,9 @@ impl Scene<'_> {
                 self.tally.met("regrade refused to another cell, its buffer wrong too", wrong);
             }
             (REGRADE, 26) => {
-                let room = self.before.room(self.shape, self.shape.cell(Kind::Process, self.caller));
+                let room = self.before.room(self.shape, cell);
+                let worn = self.unused_slot(Kind::File, request.b as usize);
+                self.tally.met("regrade refused though a slot is free, worn out", worn);
                 self.tally.met("regrade refused of a full cell where the guard's own is not", room);
             }
             (12, 33) => {

@@ -3,13 +3,18 @@
 
 use crate::Monitor;
 use crate::calls::{self, Call, REGRADE};
+use crate::damage;
 use crate::differ::difference;
+use crate::largest;
 use crate::rng::Rng;
 use crate::secrecy::{
-    Seen, choose, contents, regrade, regrades, same_of, seen_by, share_blocks, some_cell, sources, view,
+    Seen, choose, contents, guards, regrade, regrades, same_of, seen_by, share_blocks, some_cell, sources, view,
 };
 use crate::tables::{self, Limits, World};
+use crate::tally::CODES;
+use plain::table::BLOCK_BYTES;
 use plain::{Kind, MOST_RECORDS, Record, Request, Shape};
+use std::collections::{BTreeMap, BTreeSet};
 
 /// What the trials have met. All of it must be met, or they say little.
 #[derive(Debug, Default)]
@@ -27,6 +32,18 @@ pub struct Met {
     pub outside_and_bad: u64,
     /// Records that read what an earlier one of the tray wrote into the bytes.
     pub overlapping: u64,
+    /// Parts inside that are longer than any call asks for: of calls that ignore them, and of calls that do not.
+    pub long_done: u64,
+    pub long_refused: u64,
+    /// Those of them whose length is what the call asks for but for 65,536 bytes, by the call.
+    pub long_by_65536: BTreeMap<u32, u64>,
+    /// Parts of calls that were done and read or wrote them, past byte 4,096 and past byte 65,536.
+    pub past_4096: u64,
+    pub past_65536: u64,
+    /// Full trays in which each record has read or written a block of its own.
+    pub full_night: u64,
+    /// Reads and writes of files' last blocks in the largest store.
+    pub end_of_the_store: u64,
     pub none: u64,
     pub full: u64,
     pub too_long: u64,
@@ -37,8 +54,8 @@ pub struct Met {
     pub visible_refused: u64,
     pub visible_outside: u64,
     pub hidden_done: u64,
-    /// Regrades in pairs of trays: into cells that are seen, by hidden callers, in both; the same, refused, in one tray alone; by visible
-    /// callers.
+    /// Regrades in pairs of trays: into cells that are seen, by hidden guards, in both; the same, refused, in one tray alone; by visible
+    /// guards.
     pub paired_regrades: u64,
     pub refused_alone: u64,
     pub visible_regrades: u64,
@@ -57,6 +74,12 @@ impl Met {
             self.wrapping,
             self.outside_and_bad,
             self.overlapping,
+            self.long_done,
+            self.long_refused,
+            self.past_4096,
+            self.past_65536,
+            self.full_night,
+            self.end_of_the_store,
             self.none,
             self.full,
             self.too_long,
@@ -70,15 +93,24 @@ impl Met {
             self.refused_alone,
             self.visible_regrades,
         ];
-        assert!(all.iter().all(|&count| count > 0), "never met: {self:#?}");
+        let asking = (1..=CODES as u32).filter(|&code| calls::asked(code).is_some());
+        let each = self.long_by_65536.keys().copied().eq(asking);
+        assert!(each && all.iter().all(|&count| count > 0), "never met: {self:#?}");
     }
 }
 
 /// All trials, with so many trays and so many pairs of them.
 pub fn everything(monitor: &dyn Monitor, rng: &mut Rng, trays: u64, met: &mut Met) {
+    let mut damages = (0..damage::named().len()).collect();
     for count in [0, 1, MOST_RECORDS - 1, MOST_RECORDS, MOST_RECORDS + 1, 2 * MOST_RECORDS] {
-        of_length(monitor, rng, count, met);
+        of_length(monitor, rng, count, &mut damages, met);
     }
+    while !damages.is_empty() {
+        let count = rng.below(4);
+        of_length(monitor, rng, count, &mut damages, met);
+    }
+    full_night(monitor, rng, met);
+    at_the_end_of_the_store(monitor, rng, met);
     for _ in 0..trays {
         let limits = tables::limits(rng);
         as_singly(monitor, rng, limits, met);
@@ -154,6 +186,14 @@ fn place(rng: &mut Rng, length: u32, bytes: u32) -> (u32, u32) {
     }
 }
 
+/// The length of a part that is longer than any call asks for; or than this one asks for, by 65,536.
+fn long_part(rng: &mut Rng, code: u32) -> usize {
+    match rng.chance(1, 2) {
+        true => rng.pick(&[513, 600, 2_048, 4_097]),
+        false => 65_536 + calls::asked(code).unwrap_or(0),
+    }
+}
+
 /// A tray whose records are drawn on the table as it stands when they are run, against the calls made singly.
 fn as_singly(monitor: &dyn Monitor, rng: &mut Rng, limits: Limits, met: &mut Met) {
     let world = match rng.chance(1, 4) {
@@ -161,7 +201,10 @@ fn as_singly(monitor: &dyn Monitor, rng: &mut Rng, limits: Limits, met: &mut Met
         false => tables::well_formed(rng, limits),
     };
     let shape = world.shape();
-    let length = rng.pick(&[0usize, 1, 12, 16, 40, 512, 600, 2_048]);
+    let length = match rng.chance(1, 16) {
+        true => 70_000,
+        false => rng.pick(&[0usize, 1, 12, 16, 40, 512, 600, 2_048, 8_192]),
+    };
     let mut bytes = vec![0; length];
     rng.bytes(&mut bytes);
     let mut start = Hall { world, bytes, records: Vec::new() };
@@ -169,7 +212,9 @@ fn as_singly(monitor: &dyn Monitor, rng: &mut Rng, limits: Limits, met: &mut Met
     let mut written: Vec<bool> = vec![false; length];
     for _ in 0..rng.below(40) {
         let call = calls::any(rng, &singly.world, &shape);
-        let (offset, size) = place(rng, call.buffer.len() as u32, length as u32);
+        let long = rng.chance(1, if length > 65_536 { 2 } else { 8 });
+        let part = if long { long_part(rng, call.request.code) } else { call.buffer.len() };
+        let (offset, size) = place(rng, part as u32, length as u32);
         let mut record = record(rng, &call, offset, size);
         start.records.push(record);
         let before = singly.bytes.clone();
@@ -196,6 +241,7 @@ fn note(met: &mut Met, record: &Record, bytes: usize, written: &[bool]) {
         let part = record.offset as usize..end as usize;
         met.overlapping +=
             u64::from(record.error == 0 && matches!(record.code, 14 | 15) && written[part].contains(&true));
+        note_long(met, record, end);
         met.at_the_end += u64::from(end == bytes as u64 && record.length > 0);
         met.empty_at_the_end += u64::from(end == bytes as u64 && record.length == 0);
     } else {
@@ -204,6 +250,19 @@ fn note(met: &mut Met, record: &Record, bytes: usize, written: &[bool]) {
         met.wrapping += u64::from(end > u64::from(u32::MAX) && end as u32 as usize <= bytes);
         met.outside_and_bad += u64::from(matches!(record.error, 2 | 3));
     }
+}
+
+/// A part that lies inside and ends there.
+fn note_long(met: &mut Met, record: &Record, end: u64) {
+    let asked = calls::asked(record.code).map(|length| length as u32);
+    let long = record.length as usize > BLOCK_BYTES + 1;
+    met.long_done += u64::from(long && record.error == 0);
+    met.long_refused += u64::from(long && record.error == 5);
+    if record.error == 5 && asked.is_some_and(|asked| record.length == asked + 65_536) {
+        *met.long_by_65536.entry(record.code).or_default() += 1;
+    }
+    met.past_4096 += u64::from(asked.is_some() && record.error == 0 && end > 4_096);
+    met.past_65536 += u64::from(asked.is_some() && record.error == 0 && end > 65_536);
 }
 
 fn same(shape: &Shape, start: &Hall, ours: &Hall, theirs: &Hall) {
@@ -216,9 +275,9 @@ fn same(shape: &Shape, start: &Hall, ours: &Hall, theirs: &Hall) {
     }
 }
 
-/// A tray of so many records, on a good table and on a bad one. Too long it is refused with 4, then a bad table with 1, and then nothing
-/// is changed.
-fn of_length(monitor: &dyn Monitor, rng: &mut Rng, count: usize, met: &mut Met) {
+/// A tray of so many records, on a good table and on every bad one that can be made of it. Too long it is refused with 4, then a bad table
+/// with 1, and then nothing is changed. The damages that a tray has been refused for are struck off.
+fn of_length(monitor: &dyn Monitor, rng: &mut Rng, count: usize, damages: &mut BTreeSet<usize>, met: &mut Met) {
     let world = tables::well_formed(rng, tables::MIDDLE);
     let shape = world.shape();
     let mut start = Hall { world, bytes: vec![0; 1_024], records: Vec::new() };
@@ -230,29 +289,95 @@ fn of_length(monitor: &dyn Monitor, rng: &mut Rng, count: usize, met: &mut Met) 
         start.records.push(record);
     }
     let long = count > MOST_RECORDS;
-    let mut ours = start.clone();
-    assert_eq!(ours.run(monitor), if long { 4 } else { 0 }, "the answer of a tray of {count} records");
-    let mut theirs = start.clone();
-    if !long {
-        let mut records = std::mem::take(&mut theirs.records);
-        for record in &mut records {
-            theirs.single(&shape, record);
-        }
-        theirs.records = records;
+    match long {
+        true => refused(monitor, &shape, &start, 4, "a good table"),
+        false => drop(run_as_singly(monitor, &shape, &start)),
     }
-    same(&shape, &start, &ours, &theirs);
-
-    let mut bad = start.clone();
-    bad.world.table[7] = 1; // a header word that is zero
-    let before = bad.clone();
-    assert_eq!(bad.run(monitor), if long { 4 } else { 1 }, "the answer of a tray of {count} records on a bad table");
-    same(&shape, &start, &bad, &before);
-
-    met.trays += 2;
+    met.trays += 1;
     met.none += u64::from(count == 0);
     met.full += u64::from(count == MOST_RECORDS);
     met.too_long += u64::from(long);
-    met.bad_table += u64::from(!long);
+    for (which, damage) in damage::named().iter().enumerate() {
+        let mut bad = start.clone();
+        if (damage.apply)(rng, &mut bad.world, &shape).is_none() {
+            continue;
+        }
+        refused(monitor, &shape, &bad, if long { 4 } else { 1 }, &damage.name);
+        met.trays += 1;
+        if !long {
+            met.bad_table += 1;
+            damages.remove(&which);
+        }
+    }
+}
+
+/// A tray that is refused as a whole, and so changes nothing.
+fn refused(monitor: &dyn Monitor, shape: &Shape, start: &Hall, due: u32, table: &str) {
+    let mut ours = start.clone();
+    let count = start.records.len();
+    assert_eq!(ours.run(monitor), due, "the answer of a tray of {count} records on a table: {table}");
+    same(shape, start, &ours, start);
+}
+
+/// A tray whose records stand, against the calls made singly.
+fn run_as_singly(monitor: &dyn Monitor, shape: &Shape, start: &Hall) -> Hall {
+    let mut ours = start.clone();
+    assert_eq!(ours.run(monitor), 0, "the answer of a tray of {} records", start.records.len());
+    let mut theirs = start.clone();
+    let mut records = std::mem::take(&mut theirs.records);
+    for record in &mut records {
+        theirs.single(shape, record);
+    }
+    theirs.records = records;
+    same(shape, start, &ours, &theirs);
+    ours
+}
+
+/// As many records as a tray takes, each with a block of its own, written or read: 524,288 bytes in all.
+fn full_night(monitor: &dyn Monitor, rng: &mut Rng, met: &mut Met) {
+    const BLOCKS: usize = 64;
+    let one_file = [1, 1, 0, 1, BLOCKS as u32, 0, 0, 0, 0, 0, 0, 1, 0, 1, 0, 0];
+    let mut world = World::configured(&one_file);
+    plain::setup(&mut world.table, world.store.len());
+    let create = Request { caller: 0, code: 7, a: 0o600, b: 3, c: 0 };
+    let created = plain::call(&mut world.table, &mut world.store, &create, &mut []);
+    assert_eq!(created.error, plain::Error::XOK, "the file of a full night");
+    let shape = world.shape();
+    let mut calls = Vec::new();
+    for at in 0..MOST_RECORDS {
+        let (code, block) = match at % 2 {
+            0 => (14, at / 2 % BLOCKS),
+            _ => (13, rng.below(at.div_ceil(2).min(BLOCKS))), // one that has been written
+        };
+        let request = Request { caller: 0, code, a: created.second, b: block as u32, c: 0 };
+        let mut buffer = vec![0; BLOCK_BYTES];
+        rng.bytes(&mut buffer);
+        calls.push(Call { request, buffer });
+    }
+    let night = run_as_singly(monitor, &shape, &laid_out(rng, world, &calls));
+    met.trays += 1;
+    met.full_night += u64::from(night.records.iter().all(|record| record.error == 0));
+}
+
+/// The calls that come to the end of the largest store, by the tray.
+fn at_the_end_of_the_store(monitor: &dyn Monitor, rng: &mut Rng, met: &mut Met) {
+    let world = largest::hall(rng);
+    let shape = world.shape();
+    let calls = largest::calls(rng);
+    let ours = run_as_singly(monitor, &shape, &laid_out(rng, world, &calls));
+    let last = |record: &&Record| matches!(record.code, 13 | 14) && record.b + 1 == shape.blocks as u32;
+    met.trays += 1;
+    met.end_of_the_store += ours.records.iter().filter(last).filter(|record| record.error == 0).count() as u64;
+}
+
+/// A tray of calls, each with a part of its own: their buffers, one behind the other.
+fn laid_out(rng: &mut Rng, world: World, calls: &[Call]) -> Hall {
+    let mut hall = Hall { world, bytes: Vec::new(), records: Vec::new() };
+    for call in calls {
+        hall.records.push(record(rng, call, hall.bytes.len() as u32, call.buffer.len() as u32));
+        hall.bytes.extend(&call.buffer);
+    }
+    hall
 }
 
 /// The bytes are cut into stretches: the parts of records that remain lie in the even ones, those of records that are struck out in the
@@ -295,15 +420,22 @@ impl Run {
     /// Some records of processes of cells that are not seen. A regrade that would be seen is left out: it needs a partner.
     fn hidden(&mut self, rng: &mut Rng, shape: &Shape, seen: &Seen, stretches: u32, met: &mut Met) {
         for _ in 0..rng.below(4) {
-            let caller = calls::caller(rng, &self.along.world, shape, |cell| !seen[cell]).expect("a cell is hidden");
-            let call = calls::by(rng, &self.along.world, shape, caller);
+            let world = &self.along.world;
+            let desk = shape.guard.is_some_and(|guard| !seen[guard]) && rng.chance(1, 8);
+            let call = match calls::at_the_desk(rng, world, shape).filter(|_| desk) {
+                Some(caller) => calls::with_code(rng, world, shape, caller, REGRADE),
+                None => {
+                    let caller = calls::caller(rng, world, shape, |cell| !seen[cell]).expect("a cell is hidden");
+                    calls::by(rng, world, shape, caller)
+                }
+            };
             let (offset, length) = apart(rng, (call.buffer.len() as u32).min(STRETCH), stretches, true);
             let record = record(rng, &call, offset, length);
             if regrades(&call.request, shape, seen, true) {
                 if self.due(shape, record) == 0 {
                     continue;
                 }
-                met.refused_alone += 1;
+                met.refused_alone += u64::from(guards(&self.along.world, shape, record.caller));
             }
             met.hidden_done += u64::from(self.push(shape, record) == 0);
         }
@@ -371,7 +503,11 @@ fn pair_of_trays(monitor: &dyn Monitor, rng: &mut Rng, limits: Limits, met: &mut
             false => calls::caller(rng, world, &shape, |cell| seen[cell]),
         };
         let caller = caller.unwrap_or_else(|| calls::no_caller(rng, &shape));
-        let mut call = calls::by(rng, world, &shape, caller);
+        let desk = desk_seen == Some(true) && rng.chance(1, 16);
+        let mut call = match calls::at_the_desk(rng, world, &shape).filter(|_| desk) {
+            Some(caller) => calls::with_code(rng, world, &shape, caller, REGRADE),
+            None => calls::by(rng, world, &shape, caller),
+        };
         let (offset, length) = apart(rng, (call.buffer.len() as u32).min(STRETCH), stretches, false);
         if desk_seen == Some(true) && regrades(&call.request, &shape, &seen, false) {
             // It asks about a cell that is seen.

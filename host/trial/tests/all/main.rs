@@ -1,4 +1,5 @@
 //! The trials' own tests as one program.
 
+mod findings;
 mod plain;
 mod shrink;

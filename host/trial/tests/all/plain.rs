@@ -1,10 +1,10 @@
 //! The plain monitor by itself, on random tables: what every monitor of document 01 must keep, and what it must not tell.
 
-use plain::Kind;
 use plain::table::{BITS, BLOCK_BYTES, LIVE, MAP, PAGES, SERIAL, SHARABLE};
+use plain::{Kind, Shape};
 use trial::images::Images;
 use trial::tally::Tally;
-use trial::{Call, Monitor, Plain, Rng, World, calls, damage, secrecy, tables, trays};
+use trial::{Call, Monitor, Plain, Rng, World, calls, damage, largest, secrecy, tables, trays};
 
 /// Every call on a well-formed table leaves it well formed, and a refused one changes nothing.
 #[test]
@@ -12,54 +12,80 @@ fn calls_keep_tables_well_formed() {
     let mut rng = Rng::for_trial("calls_keep_tables_well_formed", 1);
     let mut tally = Tally::default();
     tally.bad_table(); // is tried below
-    tally.viewed(1);
     let mut made = 0;
     while made < trial::setting("TRIAL_CALLS", 500_000) {
         let limits = tables::limits(&mut rng);
-        let mut world = match rng.chance(1, 4) {
+        let start = match rng.chance(1, 4) {
             true => tables::fresh(&mut rng, limits),
             false => tables::well_formed(&mut rng, limits),
         };
-        let shape = world.shape();
-        assert_eq!(Plain.check(&world.table, world.store.len()), 0, "the table drawn is well formed");
-        let mut before = world.clone();
+        let mut run = Run::of(start);
         for _ in 0..200 {
-            let call = calls::any(&mut rng, &world, &shape);
-            tally.viewed(view_is_a_read(&before, &mut world, &call));
-            let mut buffer = call.buffer.clone();
-            let answer = Plain.call(&mut world.table, &mut world.store, &call.request, &mut buffer);
-            tally.note(&before, &shape, &call, answer);
-            if answer[0] != 0 {
-                assert!(world == before && buffer == call.buffer, "a refusal changed something: {call:?}");
-            }
-            if !matches!(call.request.code, 13 | 16 | 17) {
-                assert_eq!(buffer, call.buffer, "only 13, 16 and 17 change the buffer: {call:?}");
-            }
-            if !matches!(call.request.code, 14 | 21) {
-                assert!(world.store == before.store, "only 14 and 21 write the store: {call:?}");
-            }
-            for process in (0..shape.count(Kind::Process)).filter(|&process| process != call.request.caller as usize) {
-                let map = shape.at(Kind::Process, process) + MAP;
-                let kept = world.table[map..map + PAGES] == before.table[map..map + PAGES];
-                let released = !world.live(&shape, Kind::Process, process);
-                assert!(kept || released, "the map of process {process} was changed: {call:?}");
-            }
-            for segment in 0..shape.count(Kind::Segment) {
-                let word = |world: &World, word: usize| world.table[shape.at(Kind::Segment, segment) + word];
-                let lives_on = [LIVE, SERIAL].iter().all(|&at| word(&world, at) == word(&before, at));
-                let fixed = word(&before, SHARABLE) == 1 && lives_on;
-                assert!(!fixed || word(&world, BITS) == word(&before, BITS), "a sharable segment's bits: {call:?}");
-            }
-            assert_eq!(Plain.check(&world.table, world.store.len()), 0, "left a bad table: {call:?}");
-            if answer[0] == 0 {
-                before.table.copy_from_slice(&world.table);
-                before.store.copy_from_slice(&world.store);
-            }
+            let call = calls::any(&mut rng, &run.world, &run.shape);
+            run.make(&call, &mut tally);
             made += 1;
         }
     }
+    let mut run = Run::of(largest::hall(&mut rng));
+    for call in largest::calls(&mut rng) {
+        run.make(&call, &mut tally);
+    }
     println!("{tally}");
     tally.assert_complete();
+}
+
+/// A table, and the same before the last call on it.
+struct Run {
+    shape: Shape,
+    before: World,
+    world: World,
+}
+
+impl Run {
+    fn of(world: World) -> Run {
+        assert_eq!(Plain.check(&world.table, world.store.len()), 0, "the table drawn is well formed");
+        Run { shape: world.shape(), before: world.clone(), world }
+    }
+
+    fn make(&mut self, call: &Call, tally: &mut Tally) {
+        let view = view_is_a_read(&self.before, &mut self.world, call);
+        tally.viewed(&self.before, &self.shape, call, view);
+        let mut buffer = call.buffer.clone();
+        let answer = Plain.call(&mut self.world.table, &mut self.world.store, &call.request, &mut buffer);
+        tally.note(&self.before, &self.shape, call, answer);
+        self.keeps(call, answer[0], &buffer);
+        if answer[0] == 0 {
+            self.before.table.copy_from_slice(&self.world.table);
+            self.before.store.copy_from_slice(&self.world.store);
+        }
+    }
+
+    /// What every call must keep.
+    fn keeps(&self, call: &Call, error: u32, buffer: &[u8]) {
+        let Run { shape, before, world } = self;
+        if error != 0 {
+            assert!(world == before && buffer == call.buffer, "a refusal changed something: {call:?}");
+        }
+        if !matches!(call.request.code, 13 | 16 | 17) {
+            assert_eq!(buffer, call.buffer, "only 13, 16 and 17 change the buffer: {call:?}");
+        }
+        if !matches!(call.request.code, 14 | 21) {
+            assert!(world.store == before.store, "only 14 and 21 write the store: {call:?}");
+        }
+        for process in (0..shape.count(Kind::Process)).filter(|&process| process != call.request.caller as usize) {
+            let map = shape.at(Kind::Process, process) + MAP;
+            let kept = world.table[map..map + PAGES] == before.table[map..map + PAGES];
+            let released = !world.live(shape, Kind::Process, process);
+            assert!(kept || released, "the map of process {process} was changed: {call:?}");
+        }
+        for segment in 0..shape.count(Kind::Segment) {
+            let word = |world: &World, word: usize| world.table[shape.at(Kind::Segment, segment) + word];
+            let lives_on = [LIVE, SERIAL].iter().all(|&at| word(world, at) == word(before, at));
+            let fixed = word(before, SHARABLE) == 1 && lives_on;
+            assert!(!fixed || word(world, BITS) == word(before, BITS), "a sharable segment's bits: {call:?}");
+        }
+        assert_eq!(Plain.check(&world.table, world.store.len()), 0, "left a bad table: {call:?}");
+    }
 }
 
 /// A view by the call's process, of its first two arguments, shows what a read copies: the block's place in its file's stretch, and its
