@@ -21,7 +21,7 @@ fn main() {
         println!("cargo::error=there is no libmonitor.a in {}", folder.display());
         let make = if x86_64 { "rt staticlib monitor" } else { "tools/native target/native" };
         println!(
-            "cargo::error=run `rt check monitor replay && {make}` in the repository's root, or say in MONITOR_LIB_DIR where it is"
+            "cargo::error=run `rt check monitor replay logcheck && {make}` in the repository's root, or say in MONITOR_LIB_DIR where it is"
         );
         return;
     };

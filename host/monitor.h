@@ -1,11 +1,22 @@
 /*
  * The proved monitor, for C (C99 and later) and C++ (C++11 and later). Link with libmonitor.a; host/README.md has the lines to build with.
  *
- * Lent memory. A table is one array of 32-bit words, a store one array of bytes; document 01 gives their layout, and
- * MONITOR_TABLE_WORDS and MONITOR_STORE_BYTES their lengths. The host owns them and lends them for the length of a call: the library
- * keeps nothing, takes no memory and prints nothing. Any lengths and any contents may be given: what is not a well-formed table is
- * refused. A pointer must be good for the length beside it; with length 0 it must still not be NULL. Table, store, and buffer or image
- * must not overlap.
+ * Lent memory. A table is one array of 32-bit words, a store one array of bytes. MONITOR_TABLE_WORDS and MONITOR_STORE_BYTES are their
+ * lengths; header and cells, which the host writes before set-up, are described below, and host/src/layout.rs has every place. The host
+ * owns them and lends them for the length of a call: the library keeps nothing, takes no memory and prints nothing. Any lengths and any
+ * contents may be given: what is not a well-formed table is refused.
+ *
+ * What the host owes at each call; the library cannot look after it:
+ *
+ * - A pointer is not NULL, not even with length 0, is aligned for its type, and is good for as many words, bytes or records as the
+ *   length beside it says: to read and, where it is not const, to write.
+ * - Nothing that is lent overlaps: table, store, and buffer or image; of a tray, table, store, `records` and `buffers`.
+ * - Nothing else reads or writes it until the call returns: no other thread, no signal handler, no device, no other mapping of it.
+ * - `caller` is the slot of the process that really calls. No program may choose it: that is how the monitor knows who asks.
+ * - A process gets its own calls' answers and buffers and what its views show, and nothing else of table and store. An image has every
+ *   cell's secrets in it: it is kept as the table and the store are.
+ * - Between calls table and store stay as the last call left them. A well-formed table that somebody forged is believed.
+ * - The stack has room: monitor_reload takes some 132 KiB of it, whatever the table's length; the other functions less than 6 KiB.
  *
  * Threads. The library has no state of its own, so calls on different tables may be made at once. Two calls at once on one table are
  * the host's fault: it must keep them apart, by a lock or by having one thread make them.
@@ -45,13 +56,13 @@ enum monitor_code {
     MONITOR_REGRADE = 21, /* Descriptor, cell, bits; a buffer of 4 bytes: owner and group. Gives a file seid. */
 };
 
-/* The refusals, by the names and numbers of documents 01 and 02; 0 is success. A refusal has changed nothing. */
+/* The refusals; 0 is success. A refusal has changed nothing. */
 enum monitor_error {
     MONITOR_XOK = 0, /* done */
     MONITOR_XbTab = 1, /* the table is not well formed, or a length is wrong */
     MONITOR_XbPrSd = 2, /* no such process */
     MONITOR_XbdKcl = 3, /* no such call */
-    MONITOR_XbParam = 4, /* an argument is out of range */
+    MONITOR_XbParam = 4, /* an argument is out of range, or a configuration, an image or a tray is bad */
     MONITOR_XbSz = 5, /* the buffer has the wrong length */
     MONITOR_XbSgSz = 6, /* no size for a segment */
     MONITOR_XbadModes = 7, /* no valid open modes */
@@ -96,11 +107,27 @@ enum monitor_error {
 #define MONITOR_SEGMENT_WORDS 8
 #define MONITOR_FILE_WORDS 8
 
-/* The header's words: cells; processes, segments and files in all; blocks of a file; the guard cell and 1, or 0; two zeros. */
+/*
+ * The header's words: cells, 1 to 16; process slots, 1 to 256, segment slots and file slots, 0 to 256, in all; blocks of a file, 1 to
+ * 64; 0, or the guard cell and 1; two zeros.
+ */
 #define MONITOR_HEADER_GUARD 5
 
-/* Bytes of a block, of a message's text, of a message with its sender before it, of a status, and of an owner and a group (high
- * bytes first). */
+/*
+ * A cell's words: security, 0 to 15; integrity, 0 to 15; compartments, one in each bit; its process slots, at least 1; its segment
+ * slots; its file slots; the owner and the group of its first process, 0 to 65535 each. No two cells have one level (the first three
+ * words), and the slots of all cells make the header's numbers. Slots follow each other in the order of the cells, so the first
+ * process of a cell is in the slot after the last of the cell before; after set-up it is live, with serial 1 and MONITOR_BITS_FIRST.
+ */
+
+/*
+ * Bytes of the buffers: of a block; of a message's text, as it is posted; of a message, as it is received; of a status; and of an owner
+ * and a group, as a regrade takes them. Numbers stand in them with their high byte first.
+ *
+ *   received   0-3 the sender's seid; 4-15 the text as it was posted
+ *   status     0 class; 1 cell; 2-3 owner; 4-5 group; 6-7 bits; the cell's level: 8 security, 9 integrity, 10-13 compartments; 14-15 zeros
+ *   regrade    0-1 the copy's owner; 2-3 its group
+ */
 #define MONITOR_BLOCK_BYTES 512
 #define MONITOR_TEXT_BYTES 12
 #define MONITOR_MESSAGE_BYTES 16
@@ -111,6 +138,48 @@ enum monitor_error {
 #define MONITOR_PAGES 8
 #define MONITOR_PAGE_BYTES 8192
 
+/*
+ * Open modes. Only five numbers are valid: MODE_READ, MODE_WRITE and the three MODES. Two opens of a file in its own cell clash when
+ * either excludes readers, or one excludes writers and the other writes: a sole writer lets others read, and who is alone lets nobody.
+ * To write, a file must be of the caller's cell.
+ */
+#define MONITOR_MODE_READ 1
+#define MONITOR_MODE_WRITE 2
+#define MONITOR_MODE_EXCLUSIVE_READ 4
+#define MONITOR_MODE_EXCLUSIVE_WRITE 8
+#define MONITOR_MODES_READ_WRITE (MONITOR_MODE_READ | MONITOR_MODE_WRITE)
+#define MONITOR_MODES_SOLE_WRITER (MONITOR_MODES_READ_WRITE | MONITOR_MODE_EXCLUSIVE_WRITE)
+#define MONITOR_MODES_ALONE (MONITOR_MODES_SOLE_WRITER | MONITOR_MODE_EXCLUSIVE_READ)
+
+/*
+ * Access: what a process may do with a segment that it holds. Rendezvous refuses MONITOR_ACCESS_NONE with 4. To write, a segment must be
+ * of the caller's cell.
+ */
+#define MONITOR_ACCESS_NONE 0
+#define MONITOR_ACCESS_WRITE 128
+#define MONITOR_ACCESS_READ 256
+#define MONITOR_ACCESS_READ_WRITE (MONITOR_ACCESS_READ | MONITOR_ACCESS_WRITE)
+
+/*
+ * Owner bits, any sum of these, as in 0644. The owner's three speak for the owner, the group's for others of the group, the last three
+ * for all others; execute grants nothing. They are judged anew at each use. Who may write to a process may post to it.
+ */
+#define MONITOR_BITS_OWNER_READ 256
+#define MONITOR_BITS_OWNER_WRITE 128
+#define MONITOR_BITS_OWNER_EXECUTE 64
+#define MONITOR_BITS_GROUP_READ 32
+#define MONITOR_BITS_GROUP_WRITE 16
+#define MONITOR_BITS_GROUP_EXECUTE 8
+#define MONITOR_BITS_ALL_READ 4
+#define MONITOR_BITS_ALL_WRITE 2
+#define MONITOR_BITS_ALL_EXECUTE 1
+
+/* The bits of each cell's first process after set-up: 0666. */
+#define MONITOR_BITS_FIRST 438
+
+/* What remap takes for no designator. */
+#define MONITOR_NO_DESIGNATOR 16
+
 /* The lengths of table and store. */
 #define MONITOR_TABLE_WORDS(cells, processes, segments, files)                                                               \
     (MONITOR_HEADER_WORDS + MONITOR_CELL_WORDS * (size_t)(cells) + MONITOR_PROCESS_WORDS * (size_t)(processes) +            \
@@ -120,11 +189,15 @@ enum monitor_error {
 /* No image is longer: a word takes up to five bytes. monitor_image_length tells the exact length. */
 #define MONITOR_IMAGE_BYTES(words, bytes) (5 * (size_t)(words) + (size_t)(bytes))
 
-/* Identifiers: a class (process, segment or file), a slot and a serial that counts the slot's uses. 0 is the caller. */
+/*
+ * Identifiers: a class (process, segment or file), a slot and a serial that counts the slot's uses. 0 is the caller. The slot of a
+ * process seid, as spawn gives one, is the number by which that process calls: its `caller`.
+ */
 #define MONITOR_CLASS_PROCESS 4
 #define MONITOR_CLASS_SEGMENT 5
 #define MONITOR_CLASS_FILE 129
 #define MONITOR_SEID(class_, slot, serial) ((uint32_t)(class_) << 24 | (uint32_t)(slot) << 16 | (uint32_t)(serial))
+#define MONITOR_SEID_SLOT(seid) ((uint32_t)(seid) >> 16 & 255)
 
 /* A number of enum monitor_error, and two results. A refusal has two zeros. */
 typedef struct {
@@ -196,8 +269,11 @@ uint32_t monitor_image(const uint32_t *table, size_t words, const uint8_t *store
 /*
  * The morning reload: table and store as the image has them, whatever stood there; `length` is the image's own. 0; or 4 for an image
  * that is cut, has bytes over, breaks the number form, is not well formed, or is of other lengths than the table and the store lent,
- * and nothing is touched. The words are judged on the stack before the table is written: 4 bytes for each word of the largest table,
- * 4 * MONITOR_TABLE_WORDS(MONITOR_MAX_CELLS, MONITOR_MAX_SLOTS, MONITOR_MAX_SLOTS, MONITOR_MAX_SLOTS), and a little more.
+ * and nothing is touched.
+ *
+ * Stack. The words are judged on the stack before the table is written. However small the table, the function takes the room of the
+ * largest there: 4 * MONITOR_TABLE_WORDS(MONITOR_MAX_CELLS, MONITOR_MAX_SLOTS, MONITOR_MAX_SLOTS, MONITOR_MAX_SLOTS), which is 131,616
+ * bytes, and some 3 KiB more; about 134,800 bytes in all, as measured on x86-64. A thread with a smaller stack, 64 KiB say, overruns it.
  *
  * A reload is no call: it takes history back. Identifiers are single, and nothing flows down, between reloads only.
  */

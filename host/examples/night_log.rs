@@ -75,7 +75,11 @@ impl<'a> Night<'a> {
 
     fn close(self) {
         println!();
-        let well = if self.monitor.well_formed() { "well formed" } else { "DAMAGED: CALL SOMEBODY" };
+        let why = || explain::table(self.monitor.table(), self.monitor.store().len()).unwrap_or_default();
+        let well = match self.monitor.well_formed() {
+            true => "well formed".to_string(),
+            false => format!("DAMAGED, CALL SOMEBODY: {}", why()),
+        };
         println!("HOST DOWN    {} calls, {} of them refused; the table is {well}", self.made, self.refused);
     }
 }

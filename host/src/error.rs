@@ -41,7 +41,7 @@ errors! {
     XbTab = 1, "the table is not well formed, or a length is wrong";
     XbPrSd = 2, "no such process";
     XbdKcl = 3, "no such call";
-    XbParam = 4, "an argument is out of range";
+    XbParam = 4, "an argument is out of range, or a configuration, an image or a tray is bad";
     XbSz = 5, "the buffer has the wrong length";
     XbSgSz = 6, "no size for a segment";
     XbadModes = 7, "no valid open modes";

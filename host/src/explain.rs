@@ -1,4 +1,4 @@
-//! One call and its answer in plain words, for logs that are read half asleep.
+//! One call and its answer in plain words, for logs that are read half asleep; and why a table is refused ([`table`]).
 //!
 //! ```
 //! use monitor::{Answer, Code, explain};
@@ -11,7 +11,11 @@
 //! );
 //! ```
 //!
-//! Nothing here looks at a table, and any numbers will do: a call that was refused for its arguments is told as it was made.
+//! What tells of a call looks at no table, and any numbers will do: a call that was refused for its arguments is told as it was made.
+
+mod fault;
+
+pub use fault::table;
 
 use crate::code::Code;
 use crate::error::Error;

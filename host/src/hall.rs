@@ -79,7 +79,26 @@ impl Hall {
     }
 
     /// The slot of a cell's first process, which is live after set-up with serial 1.
+    ///
+    /// ```
+    /// use monitor::{Cell, Hall};
+    ///
+    /// let cell = Cell { processes: 3, ..Cell::default() };
+    /// let hall = Hall { blocks: 1, cells: vec![cell; 2], ..Hall::default() };
+    /// assert_eq!([0, 1].map(|cell| hall.first_process(cell)), [0, 3]);
+    /// ```
+    ///
+    /// # Panics
+    ///
+    /// If the hall has no such cell.
+    ///
+    /// ```should_panic
+    /// # use monitor::{Cell, Hall};
+    /// let hall = Hall { blocks: 1, cells: vec![Cell { processes: 2, ..Cell::default() }], ..Hall::default() };
+    /// hall.first_process(1);
+    /// ```
     pub fn first_process(&self, cell: usize) -> u32 {
+        assert!(cell < self.cells.len(), "no cell {cell}: the hall has {}", self.cells.len());
         self.cells[..cell].iter().map(|cell| cell.processes).fold(0, u32::saturating_add)
     }
 

@@ -1,5 +1,6 @@
 //! The table's sizes, places and limits in words, and the buffers' in bytes: document 01's numbers, said once. A test compares
-//! each of them with the library, and with monitor.h.
+//! each of them with the library, and another those that monitor.h has too: limits, sizes and the guard's place in the header. The
+//! rest stands here alone.
 
 /// Cells, at most.
 pub const MAX_CELLS: usize = 16;

@@ -1,8 +1,9 @@
 //! A safe Rust face for the proved monitor.
 //!
 //! The library behind it (`libmonitor.a`) is proved against document 01: for every table, store, caller, code, argument and buffer
-//! it says which answer comes back and which words and bytes are left. So nothing here has anything to test: this crate lends
-//! slices over the C boundary, and gives numbers their names.
+//! it says which answer comes back and which words and bytes are left. So nothing here judges a call: this crate lends slices over
+//! the C boundary, and gives numbers their names. It is not proved itself; the host's tests compare it with the library, the
+//! documents' tables and monitor.h.
 //!
 //! [`Monitor`] owns a table and a store and has a method for each call:
 //!

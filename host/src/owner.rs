@@ -10,7 +10,10 @@ use crate::seid::Seid;
 use crate::told::{Message, Status};
 use std::fmt;
 
-/// The process that makes a call, by its slot. A slot that a new process has taken is the new process.
+/// The process that makes a call, by its slot. A slot that a new process has taken is the new process. That of a cell's first process
+/// is [`Hall::first_process`], that of a process that was spawned `Caller(seid.slot())`.
+///
+/// The host says who calls, and must not let a program choose it: that is how the monitor knows who asks.
 #[derive(Clone, Copy, Debug, PartialEq, Eq, PartialOrd, Ord, Hash)]
 pub struct Caller(pub u32);
 
@@ -146,6 +149,21 @@ impl Monitor {
     /// Table and store as an image has them; an image that is not one of a hall of these lengths is refused with XbParam, and
     /// nothing is touched. A reload is no call: it takes history back, so an identifier that was handed out since the image may be
     /// handed out again.
+    ///
+    /// # Stack
+    ///
+    /// However small the hall, a reload takes the room of the largest table on the stack, about 134,800 bytes as measured on x86-64: on a thread
+    /// with 64 KiB it ends the process. [`reload`](crate::reload) says more.
+    ///
+    /// ```
+    /// # use monitor::{Cell, Error, Hall, Monitor};
+    /// # let hall = Hall { blocks: 1, cells: vec![Cell { processes: 1, files: 1, ..Cell::default() }], ..Hall::default() };
+    /// # let mut morning = Monitor::set_up(&hall)?;
+    /// # let image = morning.image()?;
+    /// let thread = std::thread::Builder::new().stack_size(192 << 10).spawn(move || morning.reload(&image));
+    /// assert_eq!(thread.expect("it starts").join().expect("it has room"), Ok(()));
+    /// # Ok::<(), Error>(())
+    /// ```
     pub fn reload(&mut self, image: &[u8]) -> Result<(), Error> {
         raw::reload(&mut self.table, &mut self.store, image)
     }
@@ -170,7 +188,18 @@ impl Monitor {
     }
 
     /// A new process of the caller's cell, whose child it is. Only owner 0 may give another owner or group than its own. The bits
-    /// say who may post to it; with none nobody can.
+    /// say who may post to it; with none nobody can. The new process calls by its slot:
+    ///
+    /// ```
+    /// # use monitor::{Bits, Caller, Cell, Error, Hall, Monitor};
+    /// # let cell = Cell { processes: 2, ..Cell::default() };
+    /// # let mut monitor = Monitor::set_up(&Hall { blocks: 1, cells: vec![cell], ..Hall::default() })?;
+    /// # let desk = Caller(0);
+    /// let seid = monitor.spawn(desk, 17, 18, Bits(0o620))?;
+    /// let clerk = Caller(seid.slot());
+    /// assert_eq!(monitor.status(clerk, seid)?.owner, 17);
+    /// # Ok::<(), Error>(())
+    /// ```
     pub fn spawn(&mut self, caller: Caller, owner: u16, group: u16, bits: Bits) -> Result<Seid, Error> {
         let (seid, _) = self.ask(caller, Code::Spawn, owner.into(), group.into(), bits.0.into())?;
         Ok(seid.into())

@@ -2,7 +2,8 @@
 
 use crate::error::Error;
 
-/// The C boundary, as in monitor.h. Nothing compares these declarations with the library: the tests do.
+/// The C boundary, as in monitor.h. Neither compiler nor linker compares these declarations with the library; the tests call each of
+/// them.
 mod c {
     use super::{Answer, Part, Record};
 
@@ -215,6 +216,13 @@ pub fn image(table: &[u32], store: &[u8], out: &mut [u8]) -> Result<(), Error> {
 /// other lengths than the slices, is refused with XbParam, and nothing is touched.
 ///
 /// A reload is no call: it takes history back. What is promised of identifiers and of levels holds between reloads.
+///
+/// # Stack
+///
+/// The words are judged on the stack before the table is written. However small the table, the room of the largest is taken there:
+/// four bytes for each of its words, 131,616, and some 3 KiB more; about 134,800 bytes in all, as measured on x86-64. A thread whose stack is
+/// smaller overruns it, and the process is ended: no refusal tells of it. Rust's threads have 2 MiB unless they are given less; of the
+/// library's other functions none takes 6 KiB.
 pub fn reload(table: &mut [u32], store: &mut [u8], image: &[u8]) -> Result<(), Error> {
     // SAFETY: the pointers and lengths are those of three slices, of which the library only reads the last; the others are lent to
     // this call alone, so none overlaps another. Any lengths and contents are allowed.

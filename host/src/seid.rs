@@ -76,7 +76,7 @@ impl Seid {
         (self.0 >> 24) as u8
     }
 
-    /// The slot's index among those of its kind.
+    /// The slot's index among those of its kind; a process calls by it ([`Caller`](crate::Caller)).
     pub const fn slot(self) -> u32 {
         self.0 >> 16 & 255
     }
@@ -99,13 +99,13 @@ impl From<Seid> for u32 {
     }
 }
 
-/// As in `file 0 (use 1)`; seid 0 is `itself`.
+/// As in `file 0 (use 1)`; seid 0 is `itself`, and one of no kind as in `an object of class 1 (word 16777217)`.
 impl fmt::Display for Seid {
     fn fmt(&self, f: &mut fmt::Formatter) -> fmt::Result {
         match self.kind() {
             _ if *self == Seid::CALLER => f.write_str("itself"),
             Some(kind) => write!(f, "{kind} {} (use {})", self.slot(), self.serial()),
-            None => write!(f, "an object of class {}", self.class()),
+            None => write!(f, "an object of class {} (word {})", self.class(), self.0),
         }
     }
 }

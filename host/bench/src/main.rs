@@ -95,7 +95,7 @@ fn main() {
             line(&format!("image, {name} table"), image(world));
             line(&format!("reload, {name} table"), reload(world));
         }
-        heading("Image and reload of the largest hall, against a copy of the store");
+        heading("Image and reload of the largest table with its store, against a copy of the store");
         line("image", ratio_of(image_of(&tables[0].1, monitor_image), copied(&tables[0].1)));
         line("reload", ratio_of(reload_of(&tables[0].1, monitor_reload), copied(&tables[0].1)));
     }

@@ -1,7 +1,7 @@
-//! The C side: the header as C99 and as C++, its names and numbers, and the first program, linked with the archive and run.
+//! The C side: the header as C99 and as C++, its names and numbers, and the programs of c/, linked with the archive and run.
 
 use monitor::layout::*;
-use monitor::{Code, Error, Kind};
+use monitor::{Access, Bits, Code, Error, Kind, Modes};
 use std::collections::BTreeMap;
 use std::path::{Path, PathBuf};
 use std::process::Command;
@@ -77,6 +77,25 @@ fn a_tray_in_c99_and_cpp() {
     assert_eq!(run("g++", &["-std=c++11", "-x", "c++"], &here().join("c/tray.c"), "tray_cpp"), TRAY);
 }
 
+const DESK: &str = "set-up: XOK
+the clerk posts: XOK
+the desk receives: XOK, \"which files?\" from slot 0
+status: XOK, class 4 of cell 0, owner 10, group 20, bits 0666; security 1, integrity 0, compartments 00000000
+status: XOK, class 4 of cell 1, owner 30, group 40, bits 0666; security 3, integrity 0, compartments 80000001
+status: XnoAcc
+the desk posts: XnoAcc
+the clerk regrades: XnoSPriv
+the desk regrades: XOK, seid 2164260865
+status: XOK, class 129 of cell 0, owner 10, group 20, bits 0640; security 1, integrity 0, compartments 00000000
+the clerk reads: XOK, \"all clear\"
+";
+
+#[test]
+fn the_desk_in_c99_and_cpp() {
+    assert_eq!(run("gcc", &["-std=c99"], &here().join("c/desk.c"), "desk"), DESK);
+    assert_eq!(run("g++", &["-std=c++11", "-x", "c++"], &here().join("c/desk.c"), "desk_cpp"), DESK);
+}
+
 /// A name in capitals with words parted: `CreateFile` is CREATE_FILE.
 fn capitals(name: &str) -> String {
     let mut out = String::new();
@@ -139,11 +158,29 @@ fn the_header_says_what_the_crate_says() {
         ("CLASS_SEGMENT", class(Kind::Segment)),
         ("CLASS_FILE", class(Kind::File)),
         ("TRAY_RECORDS", monitor::TRAY_RECORDS),
+        ("MODE_READ", Modes::Read as usize),
+        ("MODE_WRITE", Modes::Write as usize),
+        ("MODE_EXCLUSIVE_READ", 4),
+        ("MODE_EXCLUSIVE_WRITE", 8),
+        ("ACCESS_NONE", Access::None as usize),
+        ("ACCESS_WRITE", Access::Write as usize),
+        ("ACCESS_READ", Access::Read as usize),
+        ("BITS_OWNER_READ", 0o400),
+        ("BITS_OWNER_WRITE", 0o200),
+        ("BITS_OWNER_EXECUTE", 0o100),
+        ("BITS_GROUP_READ", 0o40),
+        ("BITS_GROUP_WRITE", 0o20),
+        ("BITS_GROUP_EXECUTE", 0o10),
+        ("BITS_ALL_READ", 0o4),
+        ("BITS_ALL_WRITE", 0o2),
+        ("BITS_ALL_EXECUTE", 0o1),
+        ("BITS_FIRST", usize::from(Bits::FIRST.0)),
+        ("NO_DESIGNATOR", ENTRIES),
     ]);
     assert_eq!(sizes, expected);
 }
 
-/// What the header computes: the names of errors, the lengths, a seid.
+/// What the header computes: the names of errors, the lengths, a seid and its slot, modes and an access.
 #[test]
 fn the_header_computes_what_the_crate_computes() {
     let source = PathBuf::from(env!("CARGO_TARGET_TMPDIR")).join("computes.c");
@@ -157,6 +194,9 @@ int main(void)
     printf(\"%zu %zu\\n\", MONITOR_TABLE_WORDS(3, 5, 7, 11), MONITOR_STORE_BYTES(11, 13));
     printf(\"%lu\\n\", (unsigned long)MONITOR_SEID(MONITOR_CLASS_FILE, 2, 65535));
     printf(\"%zu\\n\", MONITOR_IMAGE_BYTES(7, 11));
+    printf(\"%lu\\n\", (unsigned long)MONITOR_SEID_SLOT(MONITOR_SEID(MONITOR_CLASS_FILE, 255, 65535)));
+    printf(\"%d %d %d\\n\", MONITOR_MODES_READ_WRITE, MONITOR_MODES_SOLE_WRITER, MONITOR_MODES_ALONE);
+    printf(\"%d\\n\", MONITOR_ACCESS_READ_WRITE);
     return 0;
 }
 ";
@@ -170,5 +210,8 @@ int main(void)
     expected += &format!("{} {}\n", table_words(3, 5, 7, 11), store_bytes(11, 13));
     expected += &format!("{}\n", u32::from(monitor::Seid::new(Kind::File, 2, 65535)));
     expected += &format!("{}\n", image_bytes(7, 11));
+    expected += "255\n";
+    let modes = [Modes::ReadWrite, Modes::SoleWriter, Modes::Alone].map(Modes::number);
+    expected += &format!("{} {} {}\n{}\n", modes[0], modes[1], modes[2], Access::ReadWrite.number());
     assert_eq!(told, expected);
 }

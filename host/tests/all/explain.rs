@@ -90,7 +90,7 @@ fn each_call() {
 fn odd_numbers() {
     for (code, arguments, asked) in [
         (99, [1, 2, 3], "call 99 (1, 2, 3)"),
-        (Code::Open.number(), [16777217, 9, 0], "open an object of class 1 to modes 9"),
+        (Code::Open.number(), [16777217, 9, 0], "open an object of class 1 (word 16777217) to modes 9"),
         (Code::Rendezvous.number(), [SEGMENT, 5, 0], "take up segment 2 (use 9) to access 5"),
         (Code::BuildSegment.number(), [0, 512, 2], "build a segment of 0 bytes, bits 512, sharable 2"),
         (Code::SetBits.number(), [FILE, 65536, 0], "set bits 65536 on file 0 (use 1)"),

@@ -54,8 +54,8 @@ fn numbers_and_words() {
         (0x05ff_ffff, "segment 255 (use 65535)"),
         (2164260865, "file 0 (use 1)"),
         (0, "itself"),
-        (1, "an object of class 0"),
-        (u32::MAX, "an object of class 255"),
+        (1, "an object of class 0 (word 1)"),
+        (u32::MAX, "an object of class 255 (word 4294967295)"),
     ] {
         let seid = Seid::from(word);
         assert_eq!((seid.to_string().as_str(), u32::from(seid)), (text, word));
