@@ -41,6 +41,10 @@ const MOST_BITS: u32 = 0o777;
 const MOST_LINKS: u32 = 255;
 const MOST_CATEGORY: u32 = 15;
 
+/// A segment's size is a multiple of the one, up to the other.
+const SEGMENT_UNIT: u32 = 512;
+const MOST_SEGMENT: u32 = 65024;
+
 /// The last word of a process's head: always 0.
 const ZERO: usize = process::BITS + 1;
 
@@ -207,8 +211,8 @@ impl<'a> Pass<'a> {
                 range(segment::BITS, "bits", 0, MOST_BITS)?;
                 range(segment::SHARABLE, "sharable", 0, 1)?;
                 let size = words[at + segment::SIZE];
-                must(size.is_multiple_of(512) && (512..=65024).contains(&size), || {
-                    let what = "not a multiple of 512 from 512 to 65024";
+                must(size.is_multiple_of(SEGMENT_UNIT) && (SEGMENT_UNIT..=MOST_SEGMENT).contains(&size), || {
+                    let what = format!("not a multiple of {SEGMENT_UNIT} up to {MOST_SEGMENT}");
                     fault(format!("segment {slot}, size"), at + segment::SIZE, size, what)
                 })?;
                 range(segment::REFERENCES, "references", 1, u32::MAX)?;
