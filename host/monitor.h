@@ -2,9 +2,9 @@
  * The proved monitor, for C (C99 and later) and C++ (C++11 and later). Link with libmonitor.a; host/README.md has the lines to build with.
  *
  * Lent memory. A table is one array of 32-bit words, a store one array of bytes. MONITOR_TABLE_WORDS and MONITOR_STORE_BYTES are their
- * lengths; header and cells, which the host writes before set-up, are described below, and host/src/layout.rs has every place. The host
- * owns them and lends them for the length of a call: the library keeps nothing, takes no memory and prints nothing. Any lengths and any
- * contents may be given: what is not a well-formed table is refused.
+ * lengths; header, cells and subtypes, which the host writes before set-up, are described below, and host/src/layout.rs has every place.
+ * The host owns them and lends them for the length of a call: the library keeps nothing, takes no memory and prints nothing. Any lengths
+ * and any contents may be given: what is not a well-formed table is refused.
  *
  * What the host owes at each call; the library cannot look after it:
  *
@@ -16,7 +16,7 @@
  * - A process gets its own calls' answers and buffers and what its views show, and nothing else of table and store. An image has every
  *   cell's secrets in it: it is kept as the table and the store are.
  * - Between calls table and store stay as the last call left them. A well-formed table that somebody forged is believed.
- * - The stack has room: monitor_reload takes some 132 KiB of it, whatever the table's length; the other functions less than 6 KiB.
+ * - The stack has room: monitor_reload takes some 133 KiB of it, whatever the table's length; the other functions less than 6 KiB.
  *
  * Threads. The library has no state of its own, so calls on different tables may be made at once. Two calls at once on one table are
  * the host's fault: it must keep them apart, by a lock or by having one thread make them.
@@ -39,8 +39,8 @@ enum monitor_code {
     MONITOR_RENDEZVOUS = 4, /* Segment seid, access. Gives a designator. */
     MONITOR_RELEASE_SEGMENT = 5, /* Designator. */
     MONITOR_SET_ACCESS = 6, /* Designator, access. */
-    MONITOR_CREATE_FILE = 7, /* Bits, modes. Gives a file seid and a descriptor. */
-    MONITOR_OPEN = 8, /* File seid, modes. Gives a descriptor. */
+    MONITOR_CREATE_FILE = 7, /* Bits, modes, 0 or a subtype's descriptor + 1. Gives a file seid and a descriptor. */
+    MONITOR_OPEN = 8, /* Seid of a file or subtype, modes, 0 or its subtype's descriptor + 1. Gives a descriptor. */
     MONITOR_CLOSE = 9, /* Descriptor. */
     MONITOR_LINK = 10, /* File seid. */
     MONITOR_UNLINK = 11, /* File seid. */
@@ -93,31 +93,39 @@ enum monitor_error {
     MONITOR_XvrtMmCfl = 32, /* its pages are used or pass the last one */
     MONITOR_XshSg = 33, /* a sharable segment's bits are fixed */
     MONITOR_XnoSPriv = 34, /* only the guard cell may regrade */
+    MONITOR_XbadStCap = 35, /* no open subtype is named */
+    MONITOR_XbadSubtypeMatch = 36, /* the wrong subtype, or it is not open for all that is asked */
 };
 
-/* Limits: cells, slots of each kind, blocks of a file. */
+/* Limits: cells, slots of each kind, blocks of a file, subtypes. */
 #define MONITOR_MAX_CELLS 16
 #define MONITOR_MAX_SLOTS 256
 #define MONITOR_MAX_BLOCKS 64
+#define MONITOR_MAX_SUBTYPES 16
 
-/* Words of the parts of a table: header, cells, then the records of processes, segments and files. */
+/* Words of the parts of a table: header, cells, subtypes, then the records of processes, segments and files. */
 #define MONITOR_HEADER_WORDS 8
 #define MONITOR_CELL_WORDS 8
+#define MONITOR_SUBTYPE_WORDS 4
 #define MONITOR_PROCESS_WORDS 112
 #define MONITOR_SEGMENT_WORDS 8
-#define MONITOR_FILE_WORDS 8
+#define MONITOR_FILE_WORDS 9
 
 /*
  * The header's words: cells, 1 to 16; process slots, 1 to 256, segment slots and file slots, 0 to 256, in all; blocks of a file, 1 to
- * 64; 0, or the guard cell and 1; two zeros.
+ * 64; 0, or the guard cell and 1; subtypes, 0 to 16; a zero.
  */
 #define MONITOR_HEADER_GUARD 5
+#define MONITOR_HEADER_SUBTYPES 6
 
 /*
  * A cell's words: security, 0 to 15; integrity, 0 to 15; compartments, one in each bit; its process slots, at least 1; its segment
  * slots; its file slots; the owner and the group of its first process, 0 to 65535 each. No two cells have one level (the first three
  * words), and the slots of all cells make the header's numbers. Slots follow each other in the order of the cells, so the first
  * process of a cell is in the slot after the last of the cell before; after set-up it is live, with serial 1 and MONITOR_BITS_FIRST.
+ *
+ * A subtype's words, behind the cells': its cell, no lower than that of the subtype before; owner, 0 to 65535; group, 0 to 65535; bits,
+ * 0 to 511. Subtypes are configuration: set-up leaves them as they are, and no call changes them.
  */
 
 /*
@@ -139,9 +147,9 @@ enum monitor_error {
 #define MONITOR_PAGE_BYTES 8192
 
 /*
- * Open modes. Only five numbers are valid: MODE_READ, MODE_WRITE and the three MODES. Two opens of a file in its own cell clash when
- * either excludes readers, or one excludes writers and the other writes: a sole writer lets others read, and who is alone lets nobody.
- * To write, a file must be of the caller's cell.
+ * Open modes. Only five numbers are valid: MODE_READ, MODE_WRITE and the three MODES. Two opens of a file or subtype in its own cell
+ * clash when either excludes readers, or one excludes writers and the other writes: a sole writer lets others read, and who is alone lets
+ * nobody. To write, a file or subtype must be of the caller's cell.
  */
 #define MONITOR_MODE_READ 1
 #define MONITOR_MODE_WRITE 2
@@ -177,26 +185,42 @@ enum monitor_error {
 /* The bits of each cell's first process after set-up: 0666. */
 #define MONITOR_BITS_FIRST 438
 
+/*
+ * Subtypes. One is opened and closed as a file is, by the seid of its place among them, MONITOR_SEID_SUBTYPE; it has no blocks. What
+ * create and open take as c is MONITOR_SUBTYPE_AT a descriptor, or MONITOR_NO_SUBTYPE.
+ *
+ * - Create with a subtype of the caller's cell, which is open at that descriptor to read and write, makes a file of that subtype.
+ * - Open of such a file takes the descriptor at which the caller has the file's subtype open: to read if the file is to be read, and to
+ *   write if it is to be written. Nothing else asks for it: a file stays open when its subtype is closed.
+ * - Open of a file without a subtype, and of a subtype itself, takes any c.
+ */
+#define MONITOR_NO_SUBTYPE 0
+#define MONITOR_SUBTYPE_AT(descriptor) ((uint32_t)(descriptor) + 1)
+
 /* What remap takes for no designator. */
 #define MONITOR_NO_DESIGNATOR 16
 
-/* The lengths of table and store. */
-#define MONITOR_TABLE_WORDS(cells, processes, segments, files)                                                               \
-    (MONITOR_HEADER_WORDS + MONITOR_CELL_WORDS * (size_t)(cells) + MONITOR_PROCESS_WORDS * (size_t)(processes) +            \
-     MONITOR_SEGMENT_WORDS * (size_t)(segments) + MONITOR_FILE_WORDS * (size_t)(files))
+/* The lengths of table and store, by the header's numbers. */
+#define MONITOR_TABLE_WORDS(cells, processes, segments, files, subtypes)                                                     \
+    (MONITOR_HEADER_WORDS + MONITOR_CELL_WORDS * (size_t)(cells) + MONITOR_SUBTYPE_WORDS * (size_t)(subtypes) +             \
+     MONITOR_PROCESS_WORDS * (size_t)(processes) + MONITOR_SEGMENT_WORDS * (size_t)(segments) +                             \
+     MONITOR_FILE_WORDS * (size_t)(files))
 #define MONITOR_STORE_BYTES(files, blocks) ((size_t)(files) * (size_t)(blocks) * MONITOR_BLOCK_BYTES)
 
 /* No image is longer: a word takes up to five bytes. monitor_image_length tells the exact length. */
 #define MONITOR_IMAGE_BYTES(words, bytes) (5 * (size_t)(words) + (size_t)(bytes))
 
 /*
- * Identifiers: a class (process, segment or file), a slot and a serial that counts the slot's uses. 0 is the caller. The slot of a
- * process seid, as spawn gives one, is the number by which that process calls: its `caller`.
+ * Identifiers: a class (process, segment or file), a slot and a serial that counts the slot's uses; or the class of subtypes, a place
+ * among them, and serial 1. 0 is the caller. The slot of a process seid, as spawn gives one, is the number by which that process calls:
+ * its `caller`.
  */
 #define MONITOR_CLASS_PROCESS 4
 #define MONITOR_CLASS_SEGMENT 5
 #define MONITOR_CLASS_FILE 129
+#define MONITOR_CLASS_SUBTYPE 6
 #define MONITOR_SEID(class_, slot, serial) ((uint32_t)(class_) << 24 | (uint32_t)(slot) << 16 | (uint32_t)(serial))
+#define MONITOR_SEID_SUBTYPE(index) MONITOR_SEID(MONITOR_CLASS_SUBTYPE, index, 1)
 #define MONITOR_SEID_SLOT(seid) ((uint32_t)(seid) >> 16 & 255)
 
 /* A number of enum monitor_error, and two results. A refusal has two zeros. */
@@ -212,7 +236,7 @@ typedef struct {
     size_t from, count;
 } monitor_part;
 
-/* Set-up: reads the header and the cell words that stand in the table, and writes every record. 0, or 4 and nothing is changed. */
+/* Set-up: reads the header, cell and subtype words that stand in the table, and writes every record. 0, or 4 and nothing is changed. */
 uint32_t monitor_setup(uint32_t *table, size_t words, size_t store_bytes);
 
 /* 0 if the table is well formed, 1 if it is not. */
@@ -272,8 +296,8 @@ uint32_t monitor_image(const uint32_t *table, size_t words, const uint8_t *store
  * and nothing is touched.
  *
  * Stack. The words are judged on the stack before the table is written. However small the table, the function takes the room of the
- * largest there: 4 * MONITOR_TABLE_WORDS(MONITOR_MAX_CELLS, MONITOR_MAX_SLOTS, MONITOR_MAX_SLOTS, MONITOR_MAX_SLOTS), which is 131,616
- * bytes, and some 3 KiB more; about 134,800 bytes in all, as measured on x86-64. A thread with a smaller stack, 64 KiB say, overruns it.
+ * largest there: 4 * MONITOR_TABLE_WORDS(MONITOR_MAX_CELLS, MONITOR_MAX_SLOTS, MONITOR_MAX_SLOTS, MONITOR_MAX_SLOTS,
+ * MONITOR_MAX_SUBTYPES), which is 132,896 bytes, and on x86-64 some 3 KiB more. A thread with a smaller stack, 64 KiB say, overruns it.
  *
  * A reload is no call: it takes history back. Identifiers are single, and nothing flows down, between reloads only.
  */
@@ -287,7 +311,7 @@ static inline const char *monitor_error_name(uint32_t error)
         "XbSgSd", "XnoObj", "XnoAcc", "XnoOwner", "XnoPriv", "XdapViol", "XsgNoAcc", "XdupSg", "Xbusy", "XnotReadable",
         "XnotWritable", "XbadBlockNo", "XendOfFile", "XbadLink", "XodSpace", "XnoSpace", "XnoProc", "XpostEh",
         "XbNoMes",
-        "XoutSgAldUmp", "XinSgAldMap", "XvrtMmCfl", "XshSg", "XnoSPriv",
+        "XoutSgAldUmp", "XinSgAldMap", "XvrtMmCfl", "XshSg", "XnoSPriv", "XbadStCap", "XbadSubtypeMatch",
     };
     return error < sizeof names / sizeof *names ? names[error] : "?";
 }

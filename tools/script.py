@@ -6,13 +6,14 @@
 
 A line of the text is one of these; what follows a # is not read.
 
-  header CELLS PROCESSES SEGMENTS FILES B GUARD     the guard cell and 1, or 0
+  header CELLS PROCESSES SEGMENTS FILES B GUARD SUBTYPES     the guard cell and 1, or 0
   cell SECURITY INTEGRITY COMPARTMENTS PROCESSES SEGMENTS FILES OWNER GROUP
+  subtype CELL OWNER GROUP BITS     after the cells
   CALLER CALL A B C : BUFFER        a call by its name or its code; arguments left out are 0, and so is a buffer
   repeat N CALLER CALL ..           the same call N times
   bytes N N ..                      bytes as they stand, for a script at fault
 
-An argument is a number, or a seid: p2.1, s0.1, f0.1 are process 2, segment 0 and file 0 of serial 1.
+An argument is a number, or a seid: p2.1, s0.1, f0.1, t0.1 are process 2, segment 0, file 0 and subtype 0 of serial 1.
 A buffer is a length, of zeros; `fill`, a length and hex digits, which are repeated; `hex` and hex digits; or `text` and words.
 """
 import glob
@@ -31,12 +32,12 @@ def calls():
 
 
 CALLS = calls()
-CLASSES = {"p": 4, "s": 5, "f": 129}
-NUMBERS = {"header": 6, "cell": 8}
+CLASSES = {"p": 4, "s": 5, "f": 129, "t": 6}
+NUMBERS = {"header": 7, "cell": 8, "subtype": 4}
 
 
 def number(word):
-    seid = re.fullmatch(r"([psf])(\d+)\.(\d+)", word)
+    seid = re.fullmatch(r"([psft])(\d+)\.(\d+)", word)
     if seid:
         return (CLASSES[seid[1]] << 24) + (int(seid[2]) << 16) + int(seid[3])
     return int(word)
@@ -80,7 +81,7 @@ def call(words):
 
 def line(words):
     match words[0]:
-        case "header" | "cell" as name:
+        case "header" | "cell" | "subtype" as name:
             if len(words) != 1 + NUMBERS[name]:
                 sys.exit(f"{name}: {NUMBERS[name]} numbers are asked for: {' '.join(words)}")
             return numbers(words[1:])

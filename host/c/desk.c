@@ -10,7 +10,7 @@
 
 /* The clerk's cell and the desk's, each with one process slot and one file of one block. */
 enum { CLERK = 0, DESK = 1 }; /* cells; with one process slot each, the slots of their processes too */
-#define WORDS MONITOR_TABLE_WORDS(2, 2, 0, 2)
+#define WORDS MONITOR_TABLE_WORDS(2, 2, 0, 2, 0)
 #define BYTES MONITOR_STORE_BYTES(2, 1)
 
 static uint32_t table[WORDS] = {

@@ -9,7 +9,7 @@
 #define PROCESSES 2
 #define FILES 1
 #define BLOCKS 1
-#define WORDS MONITOR_TABLE_WORDS(1, PROCESSES, 0, FILES)
+#define WORDS MONITOR_TABLE_WORDS(1, PROCESSES, 0, FILES, 0)
 #define BYTES MONITOR_STORE_BYTES(FILES, BLOCKS)
 
 /* The host owns both, and lends them to each call. */

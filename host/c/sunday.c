@@ -5,7 +5,7 @@
 #include <inttypes.h>
 #include <stdio.h>
 
-#define WORDS MONITOR_TABLE_WORDS(1, 1, 0, 1)
+#define WORDS MONITOR_TABLE_WORDS(1, 1, 0, 1, 0)
 #define BYTES MONITOR_STORE_BYTES(1, 1)
 
 static uint32_t table[WORDS] = {

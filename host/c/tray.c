@@ -2,7 +2,7 @@
 #include "monitor.h"
 #include <stdio.h>
 
-static uint32_t table[MONITOR_TABLE_WORDS(1, 1, 0, 1)] = {
+static uint32_t table[MONITOR_TABLE_WORDS(1, 1, 0, 1, 0)] = {
     1, 1, 0, 1, 1, 0, 0, 0, /* one cell; one process slot, no segments, one file of one block */
     1, 0, 0, 1, 0, 1, 0, 0, /* the cell: security 1, integrity 0, no compartments; its slots; owner and group 0 */
 };

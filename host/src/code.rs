@@ -44,8 +44,8 @@ codes! {
     Rendezvous = 4, "rendezvous", "Segment seid, access. Gives a designator.";
     ReleaseSegment = 5, "release-segment", "Designator.";
     SetAccess = 6, "set-access", "Designator, access.";
-    CreateFile = 7, "create", "Bits, modes. Gives a file seid and a descriptor.";
-    Open = 8, "open", "File seid, modes. Gives a descriptor.";
+    CreateFile = 7, "create", "Bits, modes, 0 or a subtype's descriptor + 1. Gives a file seid and a descriptor.";
+    Open = 8, "open", "Seid of a file or subtype, modes, 0 or its subtype's descriptor + 1. Gives a descriptor.";
     Close = 9, "close", "Descriptor.";
     Link = 10, "link", "File seid.";
     Unlink = 11, "unlink", "File seid.";

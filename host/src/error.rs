@@ -72,6 +72,8 @@ errors! {
     XvrtMmCfl = 32, "its pages are used or pass the last one";
     XshSg = 33, "a sharable segment's bits are fixed";
     XnoSPriv = 34, "only the guard cell may regrade";
+    XbadStCap = 35, "no open subtype is named";
+    XbadSubtypeMatch = 36, "the wrong subtype, or it is not open for all that is asked";
 }
 
 impl Error {

@@ -22,7 +22,7 @@ use crate::error::Error;
 use crate::layout::ENTRIES;
 use crate::raw::Answer;
 use crate::rights::{Access, Bits, Modes};
-use crate::seid::Seid;
+use crate::seid::{Kind, Seid};
 use crate::told::{Message, Status};
 use std::fmt::{self, Display, Formatter};
 
@@ -94,8 +94,9 @@ impl Display for Asked {
             Code::Rendezvous => write!(f, "take up {object} to {}", Use(b)),
             Code::ReleaseSegment => write!(f, "give up designator {a}"),
             Code::SetAccess => write!(f, "hold designator {a} to {}", Use(b)),
-            Code::CreateFile => write!(f, "create a file, {}, to {}", Rights(a), Opened(b)),
-            Code::Open => write!(f, "open {object} to {}", Opened(b)),
+            Code::CreateFile => write!(f, "create a file, {}, to {}{}", Rights(a), Opened(b), With(c)),
+            Code::Open if object.kind() == Some(Kind::Subtype) => write!(f, "open {object} to {}", Opened(b)),
+            Code::Open => write!(f, "open {object} to {}{}", Opened(b), With(c)),
             Code::Close => write!(f, "close descriptor {a}"),
             Code::Link => write!(f, "link {object}"),
             Code::Unlink => write!(f, "unlink {object}"),
@@ -193,6 +194,18 @@ impl Display for Use {
             Some(Access::None) => write!(f, "do nothing"),
             Some(access) => write!(f, "{access}"),
             None => write!(f, "access {}", self.0),
+        }
+    }
+}
+
+/// The descriptor of a subtype, and 1, or 0 for none.
+struct With(u32);
+
+impl Display for With {
+    fn fmt(&self, f: &mut Formatter) -> fmt::Result {
+        match self.0.checked_sub(1) {
+            Some(descriptor) => write!(f, ", with the subtype of descriptor {descriptor}"),
+            None => Ok(()),
         }
     }
 }

@@ -1,7 +1,10 @@
 //! What a table is set up from.
 
-use crate::layout::header::GUARD;
-use crate::layout::{CELL_WORDS, HEADER_WORDS, MAX_BLOCKS, MAX_CELLS, MAX_SLOTS, store_bytes, table_words};
+use crate::layout::header::SUBTYPES;
+use crate::layout::{
+    HEADER_WORDS, MAX_BLOCKS, MAX_CELLS, MAX_SLOTS, MAX_SUBTYPES, configuration_words, store_bytes, table_words,
+};
+use crate::rights::Bits;
 use std::fmt;
 
 /// A level: what is secret, what is trusted, and which compartments it is about.
@@ -61,6 +64,20 @@ pub struct Cell {
     pub group: u16,
 }
 
+/// A subtype of a hall: a file that is created with one opens only to a process that has the subtype open. Its seid is
+/// [`Seid::subtype`](crate::Seid::subtype) of its place among the subtypes.
+#[derive(Clone, Copy, Debug, Default, PartialEq, Eq)]
+pub struct Subtype {
+    /// Its cell, whose files it is for; no lower than that of the subtype before.
+    pub cell: u32,
+    /// Its owner.
+    pub owner: u16,
+    /// Its group.
+    pub group: u16,
+    /// Its owner bits: who may open it, to read and to write.
+    pub bits: Bits,
+}
+
 /// What a table is set up from. Whether it is a good configuration is for set-up to say.
 #[derive(Clone, Debug, Default, PartialEq, Eq)]
 pub struct Hall {
@@ -71,6 +88,8 @@ pub struct Hall {
     pub blocks: u32,
     /// The guard cell, whose processes may regrade; without one nobody may.
     pub guard: Option<u32>,
+    /// The subtypes, at most 16, in the order of their cells.
+    pub subtypes: Vec<Subtype>,
 }
 
 impl Hall {
@@ -102,22 +121,28 @@ impl Hall {
         self.cells[..cell].iter().map(|cell| cell.processes).fold(0, u32::saturating_add)
     }
 
-    /// A table as long as the counts ask for, with the header and the cells in it, to be handed to set-up. Counts that are too
-    /// large get no more room than the largest good ones: set-up refuses them.
+    /// A table as long as the counts ask for, with the header, the cells and the subtypes in it, to be handed to set-up. Counts that
+    /// are too large get no more room than the largest good ones: set-up refuses them.
     pub fn table(&self) -> Vec<u32> {
         let (processes, segments, files) = (self.sum(|c| c.processes), self.sum(|c| c.segments), self.sum(|c| c.files));
         let guard = self.guard.map_or(0, |cell| cell.saturating_add(1));
+        let [cells, subtypes] = [self.cells.len(), self.subtypes.len()];
         let mut table = vec![0; HEADER_WORDS];
-        table[..=GUARD].copy_from_slice(&[self.cells.len() as u32, processes, segments, files, self.blocks, guard]);
+        let counts = [cells as u32, processes, segments, files, self.blocks, guard, subtypes as u32];
+        table[..=SUBTYPES].copy_from_slice(&counts);
         for cell in &self.cells {
             let Level { security, integrity, compartments } = cell.level;
             table.extend([security.into(), integrity.into(), compartments]);
             table.extend([cell.processes, cell.segments, cell.files, cell.owner.into(), cell.group.into()]);
         }
-        debug_assert_eq!(table.len(), HEADER_WORDS + CELL_WORDS * self.cells.len());
+        for subtype in &self.subtypes {
+            let &Subtype { cell, owner, group, bits } = subtype;
+            table.extend([cell, owner.into(), group.into(), bits.0.into()]);
+        }
+        debug_assert_eq!(table.len(), configuration_words(cells, subtypes));
         let room = |count: u32| (count as usize).min(MAX_SLOTS);
-        let cells = self.cells.len().min(MAX_CELLS);
-        table.resize(table_words(cells, room(processes), room(segments), room(files)), 0);
+        let (cells, subtypes) = (cells.min(MAX_CELLS), subtypes.min(MAX_SUBTYPES));
+        table.resize(table_words(cells, room(processes), room(segments), room(files), subtypes), 0);
         table
     }
 

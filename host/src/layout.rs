@@ -1,6 +1,6 @@
 //! The table's sizes, places and limits in words, and the buffers' in bytes: document 01's numbers, said once. A test compares
-//! each of them with the library, and another those that monitor.h has too: limits, sizes and the guard's place in the header. The
-//! rest stands here alone.
+//! each of them with the library, and another those that monitor.h has too: limits, sizes and two places in the header. The rest
+//! stands here alone.
 
 /// Cells, at most.
 pub const MAX_CELLS: usize = 16;
@@ -8,17 +8,21 @@ pub const MAX_CELLS: usize = 16;
 pub const MAX_SLOTS: usize = 256;
 /// Blocks of a file, at most.
 pub const MAX_BLOCKS: usize = 64;
+/// Subtypes, at most.
+pub const MAX_SUBTYPES: usize = 16;
 
 /// The words of the header.
 pub const HEADER_WORDS: usize = 8;
 /// The words of a cell.
 pub const CELL_WORDS: usize = 8;
+/// The words of a subtype.
+pub const SUBTYPE_WORDS: usize = 4;
 /// The words of a process record.
 pub const PROCESS_WORDS: usize = 112;
 /// The words of a segment record.
 pub const SEGMENT_WORDS: usize = 8;
 /// The words of a file record.
-pub const FILE_WORDS: usize = 8;
+pub const FILE_WORDS: usize = 9;
 
 /// The bytes of a block.
 pub const BLOCK_BYTES: usize = 512;
@@ -44,9 +48,14 @@ pub const PAGES: usize = 8;
 /// The bytes of a page.
 pub const PAGE_BYTES: usize = 8192;
 
-/// The words of a table.
-pub const fn table_words(cells: usize, processes: usize, segments: usize, files: usize) -> usize {
-    HEADER_WORDS + CELL_WORDS * cells + PROCESS_WORDS * processes + SEGMENT_WORDS * segments + FILE_WORDS * files
+/// The words of header, cells and subtypes, behind which the records stand.
+pub const fn configuration_words(cells: usize, subtypes: usize) -> usize {
+    HEADER_WORDS + CELL_WORDS * cells + SUBTYPE_WORDS * subtypes
+}
+
+/// The words of a table, by the header's numbers in their order.
+pub const fn table_words(cells: usize, processes: usize, segments: usize, files: usize, subtypes: usize) -> usize {
+    configuration_words(cells, subtypes) + PROCESS_WORDS * processes + SEGMENT_WORDS * segments + FILE_WORDS * files
 }
 
 /// The bytes of a store.
@@ -73,6 +82,8 @@ pub mod header {
     pub const BLOCKS: usize = 4;
     /// 0, or the guard cell, and 1.
     pub const GUARD: usize = 5;
+    /// The number of subtypes.
+    pub const SUBTYPES: usize = 6;
 }
 
 /// Words of a cell, from its first.
@@ -93,6 +104,18 @@ pub mod cell {
     pub const OWNER: usize = 6;
     /// The group of its first process.
     pub const GROUP: usize = 7;
+}
+
+/// Words of a subtype, from its first.
+pub mod subtype {
+    /// Its cell, no lower than that of the subtype before.
+    pub const CELL: usize = 0;
+    /// The owner.
+    pub const OWNER: usize = 1;
+    /// The group.
+    pub const GROUP: usize = 2;
+    /// The owner bits.
+    pub const BITS: usize = 3;
 }
 
 /// Words that stand at one place in the records of all kinds.
@@ -117,7 +140,7 @@ pub mod process {
     pub const QUEUED: usize = 5;
     /// The owner bits; who may write may post.
     pub const BITS: usize = 6;
-    /// The first descriptor: a file seid and modes.
+    /// The first descriptor: the seid of a file or a subtype, and modes.
     pub const DESCRIPTORS: usize = 8;
     /// The first designator: a segment seid and an access.
     pub const DESIGNATORS: usize = DESCRIPTORS + ENTRIES * ENTRY_WORDS;
@@ -149,4 +172,6 @@ pub mod file {
     pub const SIZE: usize = 6;
     /// The descriptors of its own cell that hold it.
     pub const OPENS: usize = 7;
+    /// 0, or the seid of its subtype.
+    pub const SUBTYPE: usize = 8;
 }

@@ -75,7 +75,7 @@ mod told;
 
 pub use code::Code;
 pub use error::Error;
-pub use hall::{Cell, Hall, Level};
+pub use hall::{Cell, Hall, Level, Subtype};
 pub use owner::{Caller, Descriptor, Designator, Monitor, Page};
 pub use raw::{
     Answer, Part, Record, TRAY_RECORDS, call, image, image_length, reload, setup, tray, view, view_part, well_formed,

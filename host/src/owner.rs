@@ -17,7 +17,7 @@ use std::fmt;
 #[derive(Clone, Copy, Debug, PartialEq, Eq, PartialOrd, Ord, Hash)]
 pub struct Caller(pub u32);
 
-/// A place among the files that a process has open.
+/// A place among the files and subtypes that a process has open.
 #[derive(Clone, Copy, Debug, PartialEq, Eq, PartialOrd, Ord, Hash)]
 pub struct Descriptor(pub u32);
 
@@ -152,7 +152,7 @@ impl Monitor {
     ///
     /// # Stack
     ///
-    /// However small the hall, a reload takes the room of the largest table on the stack, about 134,800 bytes as measured on x86-64: on a thread
+    /// However small the hall, a reload takes the room of the largest table on the stack, 132,896 bytes, and some 3 KiB more: on a thread
     /// with 64 KiB it ends the process. [`reload`](crate::reload) says more.
     ///
     /// ```
@@ -241,19 +241,64 @@ impl Monitor {
         Ok(())
     }
 
-    /// A new file of the caller's cell, open for the caller. Its bits are not judged here.
+    /// A new file of the caller's cell, open for the caller. Its bits are not judged here. It has no subtype.
     pub fn create_file(&mut self, caller: Caller, bits: Bits, modes: Modes) -> Result<(Seid, Descriptor), Error> {
         let (seid, place) = self.ask(caller, Code::CreateFile, bits.0.into(), modes.number(), 0)?;
         Ok((seid.into(), Descriptor(place)))
     }
 
-    /// Opens a file; to write, one of the caller's cell.
-    pub fn open(&mut self, caller: Caller, file: Seid, modes: Modes) -> Result<Descriptor, Error> {
-        let (place, _) = self.ask(caller, Code::Open, file.into(), modes.number(), 0)?;
+    /// A new file of a subtype of the caller's cell, which the caller has open to read and write at a descriptor. From then on the file
+    /// opens only to who has its subtype open: by [`open_subtyped`](Monitor::open_subtyped).
+    ///
+    /// ```
+    /// use monitor::{Bits, Caller, Cell, Error, Hall, Modes, Monitor, Seid, Subtype};
+    ///
+    /// // Subtype 0 is for directories: who has owner 10 may open it, and nobody else.
+    /// let directories = Subtype { cell: 0, owner: 10, group: 10, bits: Bits(0o600) };
+    /// let cell = Cell { processes: 2, files: 1, owner: 10, group: 10, ..Cell::default() };
+    /// let hall = Hall { blocks: 1, cells: vec![cell], subtypes: vec![directories], ..Hall::default() };
+    /// let mut monitor = Monitor::set_up(&hall)?;
+    /// let manager = Caller(0);
+    ///
+    /// let held = monitor.open(manager, Seid::subtype(0), Modes::ReadWrite)?;
+    /// let (directory, _) = monitor.create_subtyped(manager, Bits(0o666), Modes::ReadWrite, held)?;
+    /// assert_eq!(monitor.open(manager, directory, Modes::Read), Err(Error::XbadStCap));
+    /// monitor.open_subtyped(manager, directory, Modes::Read, held)?;
+    /// monitor.close(manager, held)?; // what is open stays open
+    /// # Ok::<(), Error>(())
+    /// ```
+    pub fn create_subtyped(
+        &mut self,
+        caller: Caller,
+        bits: Bits,
+        modes: Modes,
+        subtype: Descriptor,
+    ) -> Result<(Seid, Descriptor), Error> {
+        let (seid, place) = self.ask(caller, Code::CreateFile, bits.0.into(), modes.number(), named(subtype))?;
+        Ok((seid.into(), Descriptor(place)))
+    }
+
+    /// Opens a file that has no subtype, or a subtype ([`Seid::subtype`]); to write, one of the caller's cell.
+    pub fn open(&mut self, caller: Caller, object: Seid, modes: Modes) -> Result<Descriptor, Error> {
+        let (place, _) = self.ask(caller, Code::Open, object.into(), modes.number(), 0)?;
         Ok(Descriptor(place))
     }
 
-    /// Closes a file; one that has no links and that no descriptor of its own cell holds any more is gone.
+    /// Opens a file by the descriptor at which the caller has the file's subtype open: to read for reading it, and to write for writing.
+    /// A file without a subtype is opened whatever the descriptor.
+    pub fn open_subtyped(
+        &mut self,
+        caller: Caller,
+        file: Seid,
+        modes: Modes,
+        subtype: Descriptor,
+    ) -> Result<Descriptor, Error> {
+        let (place, _) = self.ask(caller, Code::Open, file.into(), modes.number(), named(subtype))?;
+        Ok(Descriptor(place))
+    }
+
+    /// Closes a file, or a subtype, whose files stay open. A file that has no links and that no descriptor of its own cell holds any more
+    /// is gone.
     pub fn close(&mut self, caller: Caller, descriptor: Descriptor) -> Result<(), Error> {
         self.ask(caller, Code::Close, descriptor.0, 0, 0)?;
         Ok(())
@@ -363,7 +408,7 @@ impl Monitor {
     }
 
     /// Copies a file that the caller has open for reading into a new file of a cell, any one, with these bits, owner and group: only
-    /// a process of the guard cell may ([`Hall::guard`]). The copy is linked once, and nobody has it open.
+    /// a process of the guard cell may ([`Hall::guard`]). The copy is linked once, has no subtype, and nobody has it open.
     pub fn regrade(
         &mut self,
         caller: Caller,
@@ -385,6 +430,11 @@ impl Monitor {
         let (access, _) = self.ask(caller, Code::PageAccess, page.0, 0, 0)?;
         Ok(Access::of(access).expect("the monitor answers an access"))
     }
+}
+
+/// A descriptor as create and open name it: 0 is none. The largest number stays what it is, for it names no descriptor anyhow.
+fn named(subtype: Descriptor) -> u32 {
+    subtype.0.saturating_add(1)
 }
 
 /// The two lengths; the contents would fill a screen.

@@ -117,7 +117,7 @@ impl Answer {
     }
 }
 
-/// Makes the table of the header and cell words that stand in it. Refused with XbParam, it has changed nothing.
+/// Makes the table of the header, cell and subtype words that stand in it. Refused with XbParam, it has changed nothing.
 pub fn setup(table: &mut [u32], store_bytes: usize) -> Result<(), Error> {
     // SAFETY: pointer and length are those of a slice that is lent to this call alone; any length and contents are allowed.
     Error::told(unsafe { c::monitor_setup(table.as_mut_ptr(), table.len(), store_bytes) })
@@ -220,9 +220,9 @@ pub fn image(table: &[u32], store: &[u8], out: &mut [u8]) -> Result<(), Error> {
 /// # Stack
 ///
 /// The words are judged on the stack before the table is written. However small the table, the room of the largest is taken there:
-/// four bytes for each of its words, 131,616, and some 3 KiB more; about 134,800 bytes in all, as measured on x86-64. A thread whose stack is
-/// smaller overruns it, and the process is ended: no refusal tells of it. Rust's threads have 2 MiB unless they are given less; of the
-/// library's other functions none takes 6 KiB.
+/// four bytes for each of its words, 132,896, and on x86-64 some 3 KiB more. A thread whose stack is smaller overruns it, and the process
+/// is ended: no refusal tells of it. Rust's threads have 2 MiB unless they are given less; of the library's other functions none takes
+/// 6 KiB.
 pub fn reload(table: &mut [u32], store: &mut [u8], image: &[u8]) -> Result<(), Error> {
     // SAFETY: the pointers and lengths are those of three slices, of which the library only reads the last; the others are lent to
     // this call alone, so none overlaps another. Any lengths and contents are allowed.

@@ -1,4 +1,4 @@
-//! What may be done with a process, segment or file: owner bits, open modes, access.
+//! What may be done with a process, segment, file or subtype: owner bits, open modes, access.
 
 use std::fmt;
 
@@ -28,7 +28,7 @@ impl fmt::Display for Bits {
     }
 }
 
-/// The modes in which a file can be opened: the five valid numbers.
+/// The modes in which a file or a subtype can be opened: the five valid numbers.
 #[derive(Clone, Copy, Debug, PartialEq, Eq, PartialOrd, Ord, Hash)]
 #[repr(u32)]
 pub enum Modes {
@@ -38,9 +38,9 @@ pub enum Modes {
     Write = 2,
     /// To read and write.
     ReadWrite = 3,
-    /// To read and write, with no other writer in the file's cell.
+    /// To read and write, with no other writer in its own cell.
     SoleWriter = 11,
-    /// To read and write, with nobody else in the file's cell.
+    /// To read and write, with nobody else in its own cell.
     Alone = 15,
 }
 

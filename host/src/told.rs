@@ -24,11 +24,11 @@ pub struct Status {
 }
 
 impl Status {
-    /// Takes a status apart; None if its class is that of no kind, which the monitor never tells.
+    /// Takes a status apart; None if its class is that of no kind that has one, which the monitor never tells.
     pub fn from_bytes(bytes: [u8; STATUS_BYTES]) -> Option<Status> {
         let [class, cell, o1, o0, g1, g0, b1, b0, security, integrity, c3, c2, c1, c0, _, _] = bytes;
         Some(Status {
-            kind: Kind::of(class)?,
+            kind: Kind::of(class).filter(|&kind| kind != Kind::Subtype)?,
             cell,
             owner: u16::from_be_bytes([o1, o0]),
             group: u16::from_be_bytes([g1, g0]),

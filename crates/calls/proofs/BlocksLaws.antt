@@ -9,7 +9,7 @@ use native.Mathlib.Nat.{mul-le-mul-right}
 use lib.Dec.{eqb, leb}
 use lib.ListN.{length, set, take, drop, replicate, length-replicate, length-take, length-drop}
 use lib.Seq.{take-set-le, take-set-lt, drop-set-lt, drop-set-add, sets}
-use borrow.Author.Tests.{eqb-true, eqb-false, ne-eqb, leb-false}
+use borrow.Author.Tests.{eqb-true, ne-eqb, leb-false}
 use borrow.Rule.Slice.PartMut.{midOf, putMid, put-same}
 use Rattle.rules.specs.Words.{part}
 use Rattle.rules.specs.Layout.{blockBytes, process, file, configuration, slots, blocks, storeBytes, Addr, at, live, entries, heldAt, usedAt, size}
@@ -22,8 +22,8 @@ use Rattle.rules.specs.Find.{stale, rightsAt}
 use Rattle.rules.specs.Call13.{block, unbuffered, readBlock}
 use Rattle.rules.specs.Call14.{blockWritten, writeBlock}
 use Rattle.rules.specs.View.{blockPlace}
-use Rattle.laws.proofs.Tests.{passed}
-use Rattle.laws.proofs.Shape.{descriptor, file-record}
+use Rattle.laws.proofs.Tests.{passed, both-ways, split}
+use Rattle.laws.proofs.Shape.{file-record}
 use Rattle.layout.specs.declared.Header.{Header}
 use Rattle.layout.specs.Header.{placeOf}
 use Rattle.calls.specs.declared.Answer.{Answer}
@@ -43,7 +43,7 @@ use Rattle.calls.specs.declared.blocks.Use.{Use}
 use Rattle.calls.proofs.Worlds.{spot, shape, blocks-is}
 use Rattle.laws.proofs.Refusals.{Clear, clear}
 use Rattle.calls.proofs.Refusals.{refusing-first, refusing-alike, none-found}
-use Rattle.calls.proofs.Looks.{seen-formed, slot-is, slot-in}
+use Rattle.calls.proofs.Looks.{seen-formed, unseen-is, slot-is, slot-in}
 use Rattle.calls.proofs.Leaves.{left-refused, left-done, store-refused, store-done, buffer-refused, buffer-done}
 
 -- ---- a part that is lent: bytes stored in it are stored in the whole
@@ -91,9 +91,9 @@ stretch-in {t} known {i} l m long xe ve =
 -- ---- the refusals: entry d is read, its file is seen as f, and held says whether the entry has the mode
 
 -- the rules' tests of the entry, with what follows them
-abbrev pub ruleTests : (Addr → ℕ) → ℕ → ℕ → ℕ → Bool → ℕ → Bool → Bool → List Refusal → List Refusal
-ruleTests r p a s held number read write rest =
-    (leb entries a ⇒ XbadOd) ∷ (eqb s 0 ⇒ XbadOd) ∷ (not held ⇒ number) ∷ (stale r file s ⇒ XnoObj)
+abbrev pub ruleTests : List ℕ → (Addr → ℕ) → ℕ → ℕ → ℕ → Bool → ℕ → Bool → Bool → List Refusal → List Refusal
+ruleTests h r p a s held number read write rest =
+    (leb entries a ⇒ XbadOd) ∷ (eqb s 0 ⇒ XbadOd) ∷ (not held ⇒ number) ∷ (stale h r file s ⇒ XnoObj)
     ∷ (lacks (rightsAt r p file (indexOf s)) read write ⇒ XdapViol) ∷ rest
 
 -- what the code has found of entry a and of its file, past all tests
@@ -110,26 +110,26 @@ module _ {t : List ℕ} {n : Header} {c : Caller} {a : ℕ} {d : Entry} {f : See
   pub used-is : d .used ≡ wordsOf t (at process (c .slot) (usedAt file a))
   used-is = ap (λ (x : Entry). x .used) (u .entry)
 
-  -- a filled entry holds a file's seid
-  pub form : leb entries a ≡ false → eqb (d .held) 0 ≡ false → formed (configuration t) file (d .held) ≡ true
-  form l some =
-      let e = descriptor (configuration t) (wordsOf t) (u .sound .records) (c .slot) a (u .sound .caller) (leb-false entries a l) in
-      rw held-is (e .held (λ q. eqb-false (d .held) 0 some (held-is ∙ q)) .form)
+  -- what is seen of the entry is present only where that has the form of a file's seid
+  pub form : not (f .present) ≡ false → formed (configuration t) file (d .held) ≡ true
+  form there = split _ (formed (configuration t) file (d .held)) (λ e. e)
+      (λ e. let gone : f .present ≡ false = ap (λ (x : Seen). x .present) (unseen-is (u .sound .known) (c .slot) file (d .held) (u .seen) e) in
+      both-ways (f .present) (passed (f .present) there) gone)
 
   -- the code's number is the rules'; what follows may be known by the form
   module _ (held : Bool) (number : ℕ) (read write : Bool) (xs ys : List Refusal)
       (rest : formed (configuration t) file (d .held) ≡ true → firstRefusal xs ≡ firstRefusal ys) where
     by-entry : (l some : Bool) → leb entries a ≡ l → eqb (d .held) 0 ≡ some → firstRefusal (useTests a (d .held) held number f read write ++ xs)
-        ≡ firstRefusal (ruleTests (wordsOf t) (c .slot) a (d .held) held number read write ys)
+        ≡ firstRefusal (ruleTests (configuration t) (wordsOf t) (c .slot) a (d .held) held number read write ys)
     unfolding present
     by-entry true some l q = rw l
     by-entry false true l q = rw (l, q)
-    by-entry false false l q =
-        let formed-so = form l q in
-        rw (l, q, rest formed-so, seen-formed (u .sound .known) (c .slot) file (d .held) (u .seen) formed-so)
+    by-entry false false l q = split _ (formed (configuration t) file (d .held))
+        (λ g. rw (l, q, g, rest g, seen-formed (u .sound .known) (c .slot) file (d .held) (u .seen) g))
+        (λ g. rw (l, q, g, unseen-is (u .sound .known) (c .slot) file (d .held) (u .seen) g))
 
     pub same-number : firstRefusal (useTests a (d .held) held number f read write ++ xs)
-        ≡ firstRefusal (ruleTests (wordsOf t) (c .slot) a (d .held) held number read write ys)
+        ≡ firstRefusal (ruleTests (configuration t) (wordsOf t) (c .slot) a (d .held) held number read write ys)
     same-number = by-entry (leb entries a) (eqb (d .held) 0) refl refl
 
   pub stretch-fits : {x : ℕ} → x ≡ n .blocks → x * blockBytes < 2 ^ 64
@@ -184,7 +184,7 @@ module _ {t : List ℕ} {n : Header} {c : Caller} {a : ℕ} {d : Entry} {f : See
       read-clear = clear (readTests a d f z (n .blocks) b) refl (none-found e₀ (readTests a d f z (n .blocks) b) refl (sym told ∙ none))
 
       read-formed : formed (configuration t) file (d .held) ≡ true
-      read-formed = form u (read-clear .0) (read-clear .1 .0)
+      read-formed = form u (read-clear .1 .1 .1 .0)
 
       pub block-within : {v x y : ℕ} → length st ≡ storeBytes (configuration t) → x ≡ n .blocks → v ≡ f .slot → y ≡ b
           → (v * (x * blockBytes) + x * blockBytes ≤ length st) × (y * blockBytes + blockBytes ≤ x * blockBytes)
@@ -257,7 +257,7 @@ module _ {t : List ℕ} {n : Header} {c : Caller} {a : ℕ} {d : Entry} {f : See
       write-clear = clear (writeTests (length buf) a d f (n .blocks) b) refl (sym told ∙ none)
 
       write-formed : formed (configuration t) file (d .held) ≡ true
-      write-formed = form u (write-clear .1 .0) (write-clear .1 .1 .0)
+      write-formed = form u (write-clear .1 .1 .1 .1 .0)
 
       block-in : b < n .blocks
       block-in = leb-false (n .blocks) b (write-clear .1 .1 .1 .1 .1 .1 .0)

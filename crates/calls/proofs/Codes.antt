@@ -7,7 +7,7 @@ use lib.Dec.{eqb}
 use lib.ListN.{length}
 use Rattle.rules.specs.Claim.{test}
 use Rattle.rules.specs.Layout.{Addr, process, segment, file, configuration, rd}
-use Rattle.rules.specs.Seid.{class, classOf, orSelf}
+use Rattle.rules.specs.Seid.{class, classOf, orSelf, isSubtype}
 use Rattle.rules.specs.WellFormed.{wellFormed}
 use Rattle.rules.specs.Errors.{XnSgDes, XbSgDes, XbadOd}
 use Rattle.rules.specs.Rule.{Refusal, Rule, rule, firstRefusal, store}
@@ -18,7 +18,7 @@ use Rattle.rules.specs.Call04.{rendezvous}
 use Rattle.rules.specs.Call05.{releaseSegment}
 use Rattle.rules.specs.Call06.{setAccess}
 use Rattle.rules.specs.Call07.{create}
-use Rattle.rules.specs.Call08.{openFile}
+use Rattle.rules.specs.Call08.{openFile, openSubtype, openSeid}
 use Rattle.rules.specs.Call09.{close}
 use Rattle.rules.specs.Call10.{link}
 use Rattle.rules.specs.Call11.{unlink}
@@ -63,6 +63,11 @@ bits-plain h q p a b buffer =
     split _ (eqb (classOf (orSelf q p a)) (class process)) (λ e. rw e (refl, refl)) (λ f. split _ (eqb (classOf (orSelf q p a)) (class segment))
     (λ e. rw (f, e) (refl, refl)) (λ e. rw (f, e) (refl, refl)))
 
+-- and call 8's one of two
+open-plain : (h : List ℕ) (q : Addr → ℕ) (p a b c : ℕ) (buffer : List ℕ) → (openSeid h q p a b c buffer .effects .bytes ≡ []) × (openSeid h q p a b c buffer .effects .buffer ≡ buffer)
+unfolding openSeid openSubtype openFile
+open-plain h q p a b c buffer = split _ (isSubtype (orSelf q p a)) (λ e. rw e (refl, refl)) (λ e. rw e (refl, refl))
+
 module _ (t : List ℕ) (p code a b c : ℕ) {r : Answer} {t′ : List ℕ} where
   pub plain-1 : code ≡ 1 → ((buffer : List ℕ) → Left t (λ h q. spawn h q p a b c buffer) r t′) → (s buffer : List ℕ) → Plain t p code a b c r t′ s buffer
   unfolding ruleOf spawn
@@ -95,15 +100,16 @@ module _ (t : List ℕ) (p code a b c : ℕ) {r : Answer} {t′ : List ℕ} wher
   plain-6 e l s buffer =
       plain-by t p code a b c s buffer (λ h q. setAccess h q p a b buffer) (coded t s p a b c buffer e) refl refl (l buffer)
 
-  pub plain-7 : code ≡ 7 → ((buffer : List ℕ) → Left t (λ h q. create h q p a b buffer) r t′) → (s buffer : List ℕ) → Plain t p code a b c r t′ s buffer
+  pub plain-7 : code ≡ 7 → ((buffer : List ℕ) → Left t (λ h q. create h q p a b c buffer) r t′) → (s buffer : List ℕ) → Plain t p code a b c r t′ s buffer
   unfolding ruleOf create
   plain-7 e l s buffer =
-      plain-by t p code a b c s buffer (λ h q. create h q p a b buffer) (coded t s p a b c buffer e) refl refl (l buffer)
+      plain-by t p code a b c s buffer (λ h q. create h q p a b c buffer) (coded t s p a b c buffer e) refl refl (l buffer)
 
-  pub plain-8 : code ≡ 8 → ((buffer : List ℕ) → Left t (λ h q. openFile h q p a b buffer) r t′) → (s buffer : List ℕ) → Plain t p code a b c r t′ s buffer
-  unfolding ruleOf openFile
+  pub plain-8 : code ≡ 8 → ((buffer : List ℕ) → Left t (λ h q. openSeid h q p a b c buffer) r t′) → (s buffer : List ℕ) → Plain t p code a b c r t′ s buffer
+  unfolding ruleOf openSeid
   plain-8 e l s buffer =
-      plain-by t p code a b c s buffer (λ h q. openFile h q p a b buffer) (coded t s p a b c buffer e) refl refl (l buffer)
+      plain-by t p code a b c s buffer (λ h q. openSeid h q p a b c buffer) (coded t s p a b c buffer e)
+      (open-plain (configuration t) (rd (configuration t) t) p a b c buffer .0) (open-plain (configuration t) (rd (configuration t) t) p a b c buffer .1) (l buffer)
 
   pub plain-9 : code ≡ 9 → ((buffer : List ℕ) → Left t (λ h q. giveUpRule h q file p a XbadOd XbadOd buffer) r t′) → (s buffer : List ℕ) → Plain t p code a b c r t′ s buffer
   unfolding ruleOf close

@@ -9,7 +9,7 @@ use lib.ListN.{getD, set, replicate}
 use lib.Seq.{sets}
 use Rattle.rules.specs.Words.{tabFrom}
 use Rattle.rules.specs.Layout.{Kind, process, segment, file, recordWords, configuration, cellOf, Addr, at, offset, heldAt, usedAt, holders}
-use Rattle.rules.specs.Seid.{indexOf}
+use Rattle.rules.specs.Seid.{indexOf, formed}
 use Rattle.rules.specs.Rule.{_≔_, write}
 use Rattle.rules.specs.Find.{inOwnCell, zeros, freed, kept, oneLess, pagesCleared, emptied, givenUp}
 use Rattle.laws.proofs.Tests.{both-ways}
@@ -84,20 +84,20 @@ given-object h u r k i false = refl
 -- an entry emptied, on the table u, once its pages are cleared
 emptied-is : (h u : List ℕ) (r : Addr → ℕ) (k : Kind) (p d s : ℕ) → holdable k ≡ true → write h u (emptied h r k p d s)
     ≡ givenUpAt u k (offset h (at process p (heldAt k d))) (offset h (at k (indexOf s) 0)) (r (at k (indexOf s) (holders k)))
-    (inOwnCell h p k s) (kept r k (indexOf s))
+    (formed h k s && inOwnCell h p k s) (kept r k (indexOf s))
 unfolding emptied givenUpAt
 emptied-is h u r k p d s th =
     rw (used-next k d th, ← beyond h process p (heldAt k d) 1)
-    (given-object h _ r k (indexOf s) (inOwnCell h p k s))
+    (given-object h _ r k (indexOf s) (formed h k s && inOwnCell h p k s))
 
 -- what the code has found of the entry and its object: the slot i, its cell, whether a link keeps it, the two places and how many hold it;
 -- u is the table once the entry's pages are cleared
 pub given-told : {t : List ℕ} {n : Header} → Known t n → (c : Caller) (k : Kind) (p d s : ℕ) → c .cell ≡ cellOf (configuration t) process p → holdable k ≡ true
-    → {i cell entry object count : ℕ} {stays : Bool} {u : List ℕ} → i ≡ indexOf s → cell ≡ cellOf (configuration t) k i → stays ≡ kept (wordsOf t) k i
+    → {i cell entry object count : ℕ} {form stays : Bool} {u : List ℕ} → i ≡ indexOf s → form ≡ formed (configuration t) k s → cell ≡ cellOf (configuration t) k i → stays ≡ kept (wordsOf t) k i
     → entry ≡ recordOf n process p + heldAt k d → object ≡ recordOf n k i → count ≡ wordsOf t (at k i (holders k))
     → u ≡ write (configuration t) t (pagesCleared (wordsOf t) k p d)
-    → givenUpAt u k entry object count (eqb cell (c .cell)) stays ≡ write (configuration t) t (givenUp (configuration t) (wordsOf t) k p d s)
+    → givenUpAt u k entry object count (form && eqb cell (c .cell)) stays ≡ write (configuration t) t (givenUp (configuration t) (wordsOf t) k p d s)
 unfolding givenUp
-given-told {t} {n} known c k p d s homed th {i} {u = u} ie ce ke ee oe he ue =
-    rw (write-append, ← ue, ee, oe, ce, ke, he, spot known (at process p (heldAt k d)), begins known k i, ie, homed)
+given-told {t} {n} known c k p d s homed th {i} {u = u} ie fe ce ke ee oe he ue =
+    rw (write-append, ← ue, ee, oe, fe, ce, ke, he, spot known (at process p (heldAt k d)), begins known k i, ie, homed)
     (sym (emptied-is (configuration t) u (wordsOf t) k p d s th))

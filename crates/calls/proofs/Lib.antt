@@ -7,6 +7,8 @@ pub mod Looks
 pub mod Leaves
 pub mod Given
 pub mod Holders
+pub mod Counted
+pub mod SubtypesLaws
 pub mod FilesLaws
 pub mod Opens
 pub mod SegmentsLaws

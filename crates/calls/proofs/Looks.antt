@@ -51,6 +51,11 @@ module _ {t : List ℕ} {n : Header} (known : Known t n) (p : ℕ) (k : Kind) (s
       let q : x ≡ unseen = rw f at seen in
       (ap (λ (y : Seen). y .formed) q, λ z. absurd (let w : _≡_ {A = ℕ} 0 1 = cc in omega arith))
 
+  -- what has no form isn't seen
+  pub unseen-is : formed (configuration t) k s ≡ false → x ≡ unseen
+  unfolding namedOf
+  unseen-is e = let f : isSeid (class k) (slotsOf n k) s ≡ false = rw (slots-is known k) e in rw f at seen
+
   pub formed-is : x .formed ≡ formed (configuration t) k s
   formed-is = by-form (formed (configuration t) k s) refl .0
 

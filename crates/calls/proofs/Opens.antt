@@ -1,5 +1,4 @@
--- A file's opens, and the search for a clash: they count the entries of its cell that hold it, so that where as many were met none that is left
--- clashes.
+-- The search for a clash: no more descriptors of the cell hold the seid than are told, so that where as many were met none that is left clashes. A file's opens tell that.
 use mathlib.Core.Path.{_≡_, refl, sym, ap, _∙_}
 use mathlib.Core.Bool.{Bool, true, false, cond}
 use mathlib.Core.List.{List}
@@ -10,29 +9,21 @@ use lib.Dec.{eqb}
 use lib.ListN.{length}
 use borrow.Author.Tests.{eqb-true, eq-eqb}
 use Rattle.rules.specs.Words.{someBelow, sumBelow, countBelow}
-use Rattle.rules.specs.Layout.{process, file, configuration, slots, cellWord, cellSlots, cellSlotsWord, firstSlot, cellOf, at, entries, heldAt, usedAt, opens}
-use Rattle.rules.specs.Seid.{class, classOf, indexOf}
-use Rattle.rules.specs.WellFormed.{ownEntry, ownEntries}
+use Rattle.rules.specs.Layout.{process, file, configuration, slots, cellWord, cellSlotsWord, at, entries, heldAt, usedAt, opens}
 use Rattle.rules.specs.Call08.{clashesAt}
-use Rattle.laws.proofs.Tests.{and-left, and-both, both-ways, refuted}
+use Rattle.laws.proofs.Tests.{and-left, both-ways, refuted}
 use Rattle.laws.proofs.Below.{some-none, sum-more, sum-grows, count-more, count-some}
-use Rattle.laws.proofs.Seids.{is-formed}
-use Rattle.laws.proofs.Cells.{cell-run}
-use Rattle.laws.proofs.Shape.{opens-counted}
 use Rattle.modes.specs.Clash.{clashOf}
 use Rattle.layout.specs.declared.Header.{Header}
 use Rattle.layout.specs.Header.{recordOf}
 use Rattle.calls.specs.declared.Caller.{Caller}
-use Rattle.calls.specs.declared.objects.Seen.{Seen}
 use Rattle.calls.specs.declared.entries.Entry.{Entry}
-use Rattle.calls.specs.World.{Sound, wordsOf, Clashable, firstBy}
-use Rattle.calls.specs.Seen.{namedOf, seenOf}
+use Rattle.calls.specs.World.{Sound, wordsOf, holdsAt, holdersAmong, Clashable, firstBy}
 use Rattle.calls.specs.Entries.{entryOf, entryFrom}
-use Rattle.calls.proofs.Worlds.{cells-is, first-by-kind}
+use Rattle.calls.proofs.Worlds.{first-by-kind}
 use Rattle.calls.proofs.Names.{record-there}
 use Rattle.calls.proofs.Given.{entry-read}
-use Rattle.calls.proofs.Searches.{home-in, run-slots}
-use Rattle.calls.proofs.Looks.{own-is}
+use Rattle.calls.proofs.Searches.{run-slots}
 use Rattle.calls.proofs.FilesLaws.{clash-none, clash-held}
 
 -- ---- rows of w entries, of which some are counted
@@ -79,46 +70,39 @@ module _ (g : ℕ → ℕ → Bool) (w : ℕ) where
         )
   ])
 
--- ---- the entries that the opens of the file s count, process by process
+-- ---- the descriptors of m processes that hold s, from the process `from` on: from entry d of the p-th on there are at most so many
 
-abbrev countedAt : List ℕ → ℕ → ℕ → ℕ → Bool
-countedAt t s = ownEntry (configuration t) (wordsOf t) file (indexOf s)
+unfoldable pub Unmet : List ℕ → ℕ → ℕ → ℕ → ℕ → ℕ → ℕ → Type 0
+Unmet t s from m left p d = holdersAmong t from m s ≤ left + before (λ i. holdsAt t s (from + i)) entries p d
 
--- from entry d of process q on there are at most so many
-unfoldable pub Unmet : List ℕ → ℕ → ℕ → ℕ → ℕ → Type 0
-Unmet t s left q d = wordsOf t (at file (indexOf s) opens) ≤ left + before (countedAt t s) entries q d
-
-module _ (t : List ℕ) (s left : ℕ) where
-  pub unmet-first : (q : ℕ) → left ≡ wordsOf t (at file (indexOf s) opens) → Unmet t s left q 0
+module _ (t : List ℕ) (s from m left : ℕ) where
+  pub unmet-first : (p : ℕ) → holdersAmong t from m s ≤ left → Unmet t s from m left p 0
   unfolding Unmet
-  unmet-first q e = omega arith
+  unmet-first p l = omega arith
 
-  -- the next entry, which holds another file or this one
-  unmet-other : (q d : ℕ) → Unmet t s left q d → Unmet t s left q (d + 1)
+  -- the next entry, which holds another or this one
+  unmet-other : (p d : ℕ) → Unmet t s from m left p d → Unmet t s from m left p (d + 1)
   unfolding Unmet
-  unmet-other q d l = omega (arith, l, count-grows (countedAt t s q) d (d + 1) (omega arith))
+  unmet-other p d l = omega (arith, l, count-grows (holdsAt t s (from + p)) d (d + 1) (omega arith))
 
-  unmet-less : (q d : ℕ) → countedAt t s q d ≡ true → Unmet t s left q d → Unmet t s (left - 1) q (d + 1)
+  unmet-less : (p d : ℕ) → holdsAt t s (from + p) d ≡ true → Unmet t s from m left p d → Unmet t s from m (left - 1) p (d + 1)
   unfolding Unmet
-  unmet-less q d h l = omega (arith, l, one-more d (countedAt t s q) h)
+  unmet-less p d h l = omega (arith, l, one-more d (holdsAt t s (from + p)) h)
 
   -- the next process
-  pub unmet-next : (from p d : ℕ) → d ≤ entries → Unmet t s left (from + p) d → Unmet t s left (from + (p + 1)) 0
+  pub unmet-next : (p d : ℕ) → d ≤ entries → Unmet t s from m left p d → Unmet t s from m left (p + 1) 0
   unfolding Unmet
-  unmet-next from p d h l =
-      let q : from + (p + 1) ≡ from + p + 1 = omega arith in
-      rw q (omega (arith, l, count-grows (countedAt t s (from + p)) d entries h, sum-more (from + p) (inRow (countedAt t s) entries)))
+  unmet-next p d h l =
+      omega (arith, l, count-grows (holdsAt t s (from + p)) d entries h, sum-more p (inRow (λ i. holdsAt t s (from + i)) entries))
 
--- ---- the search in the processes of the caller's cell, whose file it is: from is the first, m how many there are
+-- ---- the search in the processes of the caller's cell: from is the first, m how many there are
 
-module _ {t : List ℕ} {n : Header} {c : Caller} (sound : Sound t n c) {s b : ℕ} (good : Clashable t n s b)
-    (own : cellOf (configuration t) file (indexOf s) ≡ c .cell) {from m : ℕ} (fe : from ≡ firstBy (configuration t) (cellSlotsWord process) (c .cell))
+module _ {t : List ℕ} {n : Header} {c : Caller} (sound : Sound t n c) {s b most : ℕ} (good : Clashable t n (c .cell) s b most) {from m : ℕ} (fe : from ≡ firstBy (configuration t) (cellSlotsWord process) (c .cell))
     (me : m ≡ cellWord (configuration t) (c .cell) (cellSlotsWord process)) where
-  home : (k : ℕ) → k < m → cellOf (configuration t) process (from + k) ≡ c .cell
-  home k l =
-      let f : from ≡ firstSlot (configuration t) process (c .cell) = fe ∙ first-by-kind (configuration t) process (c .cell) in
-      let g : m ≡ cellSlots (configuration t) process (c .cell) = me in
-      cell-run (configuration t) process (from + k) (c .cell) (omega (arith, home-in sound, cells-is (sound .known))) (omega arith) (omega arith)
+  pub begun : {left : ℕ} → left ≡ most → (p : ℕ) → Unmet t s from m left p 0
+  begun {left} e p =
+      let few : holdersAmong t from m s ≤ most = rw (fe ∙ first-by-kind (configuration t) process (c .cell), me) (good .few) in
+      unmet-first t s from m left p (omega (arith, few))
 
   in-table : (k : ℕ) → k < m → from + k < slots (configuration t) process
   in-table k l = omega (arith, run-slots sound process refl fe me)
@@ -131,44 +115,36 @@ module _ {t : List ℕ} {n : Header} {c : Caller} (sound : Sound t n c) {s b : �
     pub entry-there : (d : ℕ) {x : Entry} → x ≡ entryFrom t first d → x ≡ entryOf (wordsOf t) file (from + p) d
     entry-there d e = e ∙ entry-read (sound .known) file (from + p) d refl (omega (arith, there)) refl refl
 
-  -- an entry that holds the file is one that its opens count
-  counted : (k d : ℕ) → k < m → wordsOf t (at process (from + k) (heldAt file d)) ≡ s → countedAt t s (from + k) d ≡ true
-  unfolding ownEntry
-  counted k d l e =
-      and-both (eqb (cellOf (configuration t) file (indexOf s)) (cellOf (configuration t) process (from + k))) _ (eq-eqb _ _ (own ∙ sym (home k l)))
-      (and-both (eqb (classOf (wordsOf t (at process (from + k) (heldAt file d)))) (class file)) _
-      (eq-eqb _ _ (ap classOf e ∙ is-formed (class file) (slots (configuration t) file) s (good .form) .class-is)) (eq-eqb _ _ (ap indexOf e)))
+  holds : (k d : ℕ) → wordsOf t (at process (from + k) (heldAt file d)) ≡ s → holdsAt t s (from + k) d ≡ true
+  unfolding holdsAt
+  holds k d e = eq-eqb _ s e
 
   -- x is entry d of process p, which does not clash: whether it holds the file or not, the search goes on
   module _ (p d : ℕ) (lp : p < m) (ld : d < entries) {x : Entry} (read : x ≡ entryOf (wordsOf t) file (from + p) d) (left : ℕ)
-      (unmet : Unmet t s left (from + p) d) {next : ℕ} where
-    pub past-other : (x .held ≡ s → ⊥) → next ≡ left → (clashesAt (wordsOf t) s b (from + p) d ≡ false) × Unmet t s next (from + p) (d + 1)
-    past-other other e = (sym (clash-none good (from + p) d (in-table p lp) ld read other), rw e (unmet-other t s left (from + p) d unmet))
+      (unmet : Unmet t s from m left p d) {next : ℕ} where
+    pub past-other : (x .held ≡ s → ⊥) → next ≡ left → (clashesAt (wordsOf t) s b (from + p) d ≡ false) × Unmet t s from m next p (d + 1)
+    past-other other e = (sym (clash-none good (from + p) d (in-table p lp) ld read other), rw e (unmet-other t s from m left p d unmet))
 
     pub past-held : x .held ≡ s → {y : Bool} → y ≡ clashOf (x .used) b → y ≡ false → next ≡ left - 1
-        → (clashesAt (wordsOf t) s b (from + p) d ≡ false) × Unmet t s next (from + p) (d + 1)
+        → (clashesAt (wordsOf t) s b (from + p) d ≡ false) × Unmet t s from m next p (d + 1)
     past-held held ye clear e = (
       sym (clash-held good (from + p) d (in-table p lp) ld read held ye) ∙ clear,
-      rw e (unmet-less t s left (from + p) d (counted p d lp (sym (ap (λ (y : Entry). y .held) read) ∙ held)) unmet),
+      rw e (unmet-less t s from m left p d (holds p d (sym (ap (λ (y : Entry). y .held) read) ∙ held)) unmet),
     )
 
-  uncounted : (k e : ℕ) → k < m → countedAt t s (from + k) e ≡ false → clashesAt (wordsOf t) s b (from + k) e ≡ false
+  unheld : (k e : ℕ) → holdsAt t s (from + k) e ≡ false → clashesAt (wordsOf t) s b (from + k) e ≡ false
   unfolding clashesAt
-  uncounted k e l f =
+  unheld k e f =
       refuted (clashesAt (wordsOf t) s b (from + k) e)
-      (λ x. both-ways (countedAt t s (from + k) e)
-      (counted k e l (eqb-true _ s (and-left (eqb (wordsOf t (at process (from + k) (heldAt file e))) s) _ x))) f)
+      (λ x. both-ways (holdsAt t s (from + k) e)
+      (holds k e (eqb-true _ s (and-left (eqb (wordsOf t (at process (from + k) (heldAt file e))) s) _ x))) f)
 
-  -- before entry d of process p nothing clashed, and as many were met as the opens say
-  module _ (p d : ℕ) (h : d ≤ entries) (left : ℕ) (unmet : Unmet t s left (from + p) d) (none : left ≡ 0) where
+  -- before entry d of process p nothing clashed, and as many were met as are told
+  module _ (p d : ℕ) (h : d ≤ entries) (left : ℕ) (unmet : Unmet t s from m left p d) (none : left ≡ 0) where
     none-more : (k e : ℕ) → p ≤ k → k < m → (k ≡ p → d ≤ e) → e < entries → clashesAt (wordsOf t) s b (from + k) e ≡ false
-    unfolding Unmet ownEntries
+    unfolding Unmet holdersAmong
     none-more k e a l x y =
-        let in-file : indexOf s < slots (configuration t) file = is-formed (class file) (slots (configuration t) file) s (good .form) .index-in in
-        uncounted k e l
-        (none-left (countedAt t s) entries (slots (configuration t) process) (from + p) d
-        (omega (arith, unmet, none, opens-counted (configuration t) (wordsOf t) (good .records) (indexOf s) in-file))
-        h (from + k) e (omega arith) (in-table k l) (λ q. x (omega arith)) y)
+        unheld k e (none-left (λ i. holdsAt t s (from + i)) entries m p d (omega (arith, unmet, none)) h k e a l x y)
 
     pub all-met : ((k : ℕ) → k < p → someBelow entries (clashesAt (wordsOf t) s b (from + k)) ≡ false)
         → ((e : ℕ) → e < d → clashesAt (wordsOf t) s b (from + p) e ≡ false)
@@ -183,9 +159,3 @@ module _ {t : List ℕ} {n : Header} {c : Caller} (sound : Sound t n c) {s b : �
         | no z ↦ none-more k e (omega arith) l (λ _. omega arith) y
       ])
     ]
-
--- what the caller sees as its own is of its cell
-pub own-cell : {t : List ℕ} {n : Header} {c : Caller} → Sound t n c → {s b : ℕ} → Clashable t n s b → {f : Seen}
-    → f ≡ seenOf (configuration t) (wordsOf t) (c .slot) file (namedOf n file s)
-    → f .own ≡ true → cellOf (configuration t) file (indexOf s) ≡ c .cell
-own-cell {c = c} sound {s} good seen o = eqb-true _ _ (sym (own-is (sound .known) (c .slot) file s seen (good .form)) ∙ o) ∙ sym (sound .home)

@@ -6,14 +6,14 @@ use Prim.Native.Nat.{ℕ, zero, suc, _+_, _-_, _≤_, _<_}
 use native.Mathlib.Omega.{arith}
 use native.Mathlib.Numerals.{add-one}
 use lib.Dec.{eqb}
-use borrow.Author.Tests.{eqb-false, eq-eqb, ne-eqb}
+use borrow.Author.Tests.{eq-eqb, ne-eqb}
 use Rattle.rules.specs.Words.{tabFrom}
 use Rattle.rules.specs.Layout.{Kind, process, segment, file, recordWords, configuration, slots, Addr, at, Valid, rd, live, entries, heldAt, usedAt, pages, pagesAt, pageAt, links, holders}
-use Rattle.rules.specs.Seid.{class, isSeid, indexOf}
+use Rattle.rules.specs.Seid.{class, indexOf, formed}
 use Rattle.rules.specs.Rule.{Word, _≔_, write, over}
 use Rattle.rules.specs.Find.{inOwnCell, zeros, freed, kept, oneLess, pageLeft, pagesSet, pagesCleared, emptied, givenUp}
 use Rattle.rules.specs.Call02.{dropped, droppedTo, released}
-use Rattle.laws.proofs.Tests.{both-ways}
+use Rattle.laws.proofs.Tests.{and-left, both-ways, split}
 use Rattle.laws.proofs.Seids.{is-formed}
 use Rattle.laws.proofs.Written.{AllOf, nil, also, all-append, all-if, all-map, all-tab, Valids, over-append, write-append, over-same, over-miss, length-write, rd-write, conf-write}
 use Rattle.layout.specs.declared.Header.{Header}
@@ -30,10 +30,6 @@ use Rattle.calls.proofs.MapLaws.{pages-same}
 -- two readings that agree at each word of a record
 abbrev Agree : List ℕ → (Addr → ℕ) → (Addr → ℕ) → Type 0
 Agree h r q = (a : Addr) → Valid h a → r a ≡ q a
-
--- what entry d of process q holds has the form of its kind
-abbrev EntryFormed : List ℕ → (Addr → ℕ) → Kind → ℕ → ℕ → Type 0
-EntryFormed h r k q d = (r (at process q (heldAt k d)) ≡ 0 → ⊥) → isSeid (class k) (slots h k) (r (at process q (heldAt k d))) ≡ true
 
 -- ---- where an entry lies, and where its object's words lie
 
@@ -94,20 +90,20 @@ module _ (h : List ℕ) (k : Kind) (th : holdable k ≡ true) (q d : ℕ) where
       record { valid = (ql, omega arith); misses = λ j l a b e. absurd (let w : j ≡ pageAt g = ap (λ (x : Addr). x .word) e in omega arith) })
   pages-fit r file ql = nil
 
-  given-fits : (r : Addr → ℕ) (s : ℕ) → q < slots h process → d < entries → isSeid (class k) (slots h k) s ≡ true → AllOf (Fits h k q d) (givenUp h r k q d s)
+  given-fits : (r : Addr → ℕ) (s : ℕ) → q < slots h process → d < entries → AllOf (Fits h k q d) (givenUp h r k q d s)
   unfolding givenUp emptied
-  given-fits r s ql dl f =
+  given-fits r s ql dl =
       all-append _ (pages-fit r k ql)
       (also (record { valid = (ql, omega (arith, held-in k th d dl)); misses = λ j l a b e. a (ap (λ (x : Addr). x .word) e) })
       (also (record { valid = (ql, omega (arith, used-in k th d dl)); misses = λ j l a b e. b (ap (λ (x : Addr). x .word) e) })
-      (all-if _ (inOwnCell h q k s) (oneLess r k (indexOf s)) [] (λ _. less-fits r (indexOf s) (is-formed (class k) (slots h k) s f .index-in)) (λ _. nil))))
+      (all-if _ (formed h k s && inOwnCell h q k s) (oneLess r k (indexOf s)) []
+      (λ e. less-fits r (indexOf s) (is-formed (class k) (slots h k) s (and-left (formed h k s) _ e) .index-in)) (λ _. nil))))
 
-  dropped-fits : (r : Addr → ℕ) → q < slots h process → d < entries
-      → EntryFormed h r k q d → AllOf (Fits h k q d) (dropped h r k q d)
+  dropped-fits : (r : Addr → ℕ) → q < slots h process → d < entries → AllOf (Fits h k q d) (dropped h r k q d)
   unfolding dropped
-  dropped-fits r ql dl f =
+  dropped-fits r ql dl =
       all-if _ (eqb (r (at process q (heldAt k d))) 0) [] (givenUp h r k q d (r (at process q (heldAt k d)))) (λ _. nil)
-      (λ e. given-fits r (r (at process q (heldAt k d))) ql dl (f (eqb-false _ 0 e)))
+      (λ e. given-fits r (r (at process q (heldAt k d))) ql dl)
 
 -- what it writes hangs on the words that the table has
 kept-same : (h : List ℕ) (k : Kind) (r r′ : Addr → ℕ) → Agree h r r′ → (i : ℕ) → i < slots h k → kept r k i ≡ kept r′ k i
@@ -123,34 +119,30 @@ module _ (h : List ℕ) (k : Kind) (th : holdable k ≡ true) (q d : ℕ) (ql : 
       pages-same q (pageLeft r q d) (pageLeft r′ q d) (λ g l. ap (λ (x : ℕ). cond (eqb x (d + 1)) 0 x) (agree (at process q (pageAt g)) (ql, omega arith)))
   cleared-same file = refl
 
-  given-same : (s : ℕ) → isSeid (class k) (slots h k) s ≡ true → givenUp h r k q d s ≡ givenUp h r′ k q d s
+  -- where it has the form of its kind, it names a slot of the table
+  given-same : (s : ℕ) → givenUp h r k q d s ≡ givenUp h r′ k q d s
   unfolding givenUp emptied oneLess
-  given-same s f =
+  given-same s = split _ (formed h k s)
+      (λ f.
       let l : indexOf s < slots h k = is-formed (class k) (slots h k) s f .index-in in
-      rw (cleared-same k, agree (at k (indexOf s) (holders k)) (l, holders-in k th), kept-same h k r r′ agree (indexOf s) l)
+      rw (cleared-same k, agree (at k (indexOf s) (holders k)) (l, holders-in k th), kept-same h k r r′ agree (indexOf s) l))
+      (λ f. rw (f, cleared-same k))
 
-  dropped-same : d < entries → EntryFormed h r k q d → dropped h r k q d ≡ dropped h r′ k q d
+  dropped-same : d < entries → dropped h r k q d ≡ dropped h r′ k q d
   unfolding dropped
-  dropped-same dl f = rw (← agree (at process q (heldAt k d)) (ql, omega (arith, held-in k th d dl))) (go (eqb (r (at process q (heldAt k d))) 0) refl)
+  dropped-same dl = rw (← agree (at process q (heldAt k d)) (ql, omega (arith, held-in k th d dl))) (go (eqb (r (at process q (heldAt k d))) 0) refl)
     where
       go : (b : Bool) → eqb (r (at process q (heldAt k d))) 0 ≡ b
           → cond b [] (givenUp h r k q d (r (at process q (heldAt k d)))) ≡ cond b [] (givenUp h r′ k q d (r (at process q (heldAt k d))))
       go true e = refl
-      go false e = given-same (r (at process q (heldAt k d))) (f (eqb-false _ 0 e))
+      go false e = given-same (r (at process q (heldAt k d)))
 
 -- ---- the first n entries
 
-module _ (h : List ℕ) (k : Kind) (th : holdable k ≡ true) (q : ℕ) (ql : q < slots h process) (r : Addr → ℕ) (holds : (d : ℕ) → d < entries → EntryFormed h r k q d) where
+module _ (h : List ℕ) (k : Kind) (th : holdable k ≡ true) (q : ℕ) (ql : q < slots h process) (r : Addr → ℕ) where
   pub record SoFar (n : ℕ) : Type 0 where
     pub valid : Valids h (droppedTo h r k q n)
     pub beside : (j : ℕ) → j < pagesAt → ((d : ℕ) → d < n → (j ≡ heldAt k d → ⊥) × (j ≡ usedAt k d → ⊥)) → over r (droppedTo h r k q n) (at process q j) ≡ r (at process q j)
-
-  -- the next entry is what it was
-  next : (n : ℕ) → n < entries → SoFar n → over r (droppedTo h r k q n) (at process q (heldAt k n)) ≡ r (at process q (heldAt k n))
-  next n m s = s .beside (heldAt k n) (held-in k th n m) (λ d l. apart k th n d l)
-
-  next-formed : (n : ℕ) → n < entries → SoFar n → EntryFormed h (over r (droppedTo h r k q n)) k q n
-  next-formed n l s = rw (next n l s) (holds n l)
 
   so-far : (n : ℕ) → n ≤ entries → SoFar n
   unfolding droppedTo over
@@ -159,7 +151,7 @@ module _ (h : List ℕ) (k : Kind) (th : holdable k ≡ true) (q : ℕ) (ql : q 
       let s = so-far n (omega arith) in
       let ws : List Word = droppedTo h r k q n in
       let vs : List Word = dropped h (over r ws) k q n in
-      let fit = dropped-fits h k th q n (over r ws) ql l (next-formed n l s) in
+      let fit = dropped-fits h k th q n (over r ws) ql l in
       record {
         valid = all-append vs (s .valid) (all-map (λ x y. y .valid) fit);
         beside = λ j m f. rw (over-append r ws vs) (over-miss (at process q j) (all-map (λ x y. y .misses j m (f n (omega arith) .0) (f n (omega arith) .1)) fit) (over r ws)
@@ -171,10 +163,9 @@ module _ (h : List ℕ) (k : Kind) (th : holdable k ≡ true) (q : ℕ) (ql : q 
   unfolding droppedTo
   all-same r′ agree zero l = refl
   all-same r′ agree (suc n) l =
-      let s = so-far n (omega arith) in
       let ws : List Word = droppedTo h r k q n in
       let e : ws ≡ droppedTo h r′ k q n = all-same r′ agree n (omega arith) in
-      rw (← e) (ap (λ (vs : List Word). ws ++ vs) (dropped-same h k th q n ql (over r ws) (over r′ ws) (over-same h ws r r′ agree) l (next-formed n l s)))
+      rw (← e) (ap (λ (vs : List Word). ws ++ vs) (dropped-same h k th q n ql (over r ws) (over r′ ws) (over-same h ws r r′ agree) l))
 
 -- ---- the table while the entries are given up: t is the table at the start, u once n of them are
 
@@ -196,8 +187,8 @@ module _ (h t : List ℕ) (k : Kind) (q d : ℕ) {x : Entry} (entry : x ≡ entr
 
 -- m of them given up
 module _ {t : List ℕ} {n : Header} {c : Caller} (k : Kind) (q : ℕ) (holding : Holding t n c k q) where
-  far : (m : ℕ) → m ≤ entries → SoFar (configuration t) k (holding .at-all .held) q (holding .here) (wordsOf t) (holding .formed) m
-  far = so-far (configuration t) k (holding .at-all .held) q (holding .here) (wordsOf t) (holding .formed)
+  far : (m : ℕ) → m ≤ entries → SoFar (configuration t) k (holding .at-all .held) q (holding .here) (wordsOf t) m
+  far = so-far (configuration t) k (holding .at-all .held) q (holding .here) (wordsOf t)
 
   reads : (m : ℕ) → m ≤ entries
       → Agree (configuration t) (over (wordsOf t) (droppedTo (configuration t) (wordsOf t) k q m))
@@ -220,8 +211,7 @@ module _ {t : List ℕ} {n : Header} {c : Caller} (k : Kind) (q : ℕ) (holding 
       let th = holding .at-all .held in
       let ws : List Word = droppedTo h r k q m in
       let same : configuration (write h t ws) ≡ h = conf-write h t ws refl in
-      let d = dropped-same h k th q m (holding .here) (over r ws) (rd h (write h t ws)) (reads m (omega arith)) l
-      (next-formed h k th q (holding .here) r (holding .formed) m l (far m (omega arith))) in
+      let d = dropped-same h k th q m (holding .here) (over r ws) (rd h (write h t ws)) (reads m (omega arith)) l in
       let g : u′ ≡ write h (write h t ws) (dropped h (over r ws) k q m) = f ∙ rw (e, same, d) in
       rw (add-one, write-append) g
 
@@ -232,21 +222,17 @@ module _ {t : List ℕ} {n : Header} {c : Caller} (k : Kind) (q : ℕ) (holding 
 -- ---- a process released
 
 -- the designators once the descriptors are given up
-module _ {t : List ℕ} {n : Header} {c : Caller} (q : ℕ) (files : Holding t n c file q) (segments : Holding t n c segment q) {t₁ : List ℕ}
+module _ {t : List ℕ} {n : Header} {c : Caller} (q : ℕ) (files : Holding t n c file q) {t₁ : List ℕ}
     (first : t₁ ≡ write (configuration t) t (droppedTo (configuration t) (wordsOf t) file q entries)) where
   pub then-segments : Holding t₁ n c segment q
   then-segments =
       let h : List ℕ = configuration t in
       let ws : List Word = droppedTo h (wordsOf t) file q entries in
       let conf : configuration (write h t ws) ≡ h = conf-write h t ws refl in
-      let same : (d : ℕ) → d < entries → rd h (write h t ws) (at process q (heldAt segment d)) ≡ wordsOf t (at process q (heldAt segment d)) =
-      λ d l. sym (reads file q files entries (omega arith) (at process q (heldAt segment d)) (files .here, omega (arith, held-in segment refl d l)))
-      ∙ far file q files entries (omega arith) .beside (heldAt segment d) (held-in segment refl d l) (λ e m. (λ x. omega arith, λ x. omega arith)) in
       rw first (record {
         at-all = record { known = known-write (files .at-all .known) ws; held = refl; homed = rw conf (files .at-all .homed) };
         words = rw (conf, length-write h t ws) (files .words);
         here = rw conf (files .here);
-        formed = rw conf (λ d l. rw (same d l) (segments .formed d l));
       })
 
   -- the record cleared, which begins at a place
@@ -261,6 +247,6 @@ module _ {t : List ℕ} {n : Header} {c : Caller} (q : ℕ) (files : Holding t n
       let then : Holding t₁ n c segment q = then-segments in
       let agree : Agree h (rd h t₁) (over r ws) = λ a v. ap (λ (u : List ℕ). rd h u a) first ∙ sym (reads file q files entries (omega arith) a v) in
       let same : droppedTo h (rd h t₁) segment q entries ≡ droppedTo h (over r ws) segment q entries =
-      all-same h segment refl q (files .here) (rd h t₁) (rw conf at (then .formed)) (over r ws) agree entries (omega arith) in
+      all-same h segment refl q (files .here) (rd h t₁) (over r ws) agree entries (omega arith) in
       let two : t₂ ≡ write h t₁ (droppedTo h (over r ws) segment q entries) = second ∙ rw (conf, same) in
       rw (write-append h t ws, write-append, ← first, ← two) (third ∙ rw (begin, begins (files .at-all .known) process q) (sym (freed-is h t₂ process q)))

@@ -2,7 +2,7 @@
 use mathlib.Core.Path.{_≡_, refl, sym, ap, _∙_}
 use mathlib.Core.Bool.{not}
 use mathlib.Core.List.{List, _++_, append-nil}
-use Prim.Native.Nat.{ℕ, zero, suc, _+_, _*_, _-_, _≤_, _<_}
+use Prim.Native.Nat.{ℕ, zero, suc, _+_, _*_, _-_, _≤_, _<_, _^_}
 use native.Mathlib.Omega.{arith}
 use native.Mathlib.Numerals.{add-one}
 use lib.Dec.{eqb}
@@ -26,7 +26,7 @@ use Rattle.calls.specs.World.{wordsOf, Known, Sound}
 use Rattle.calls.specs.Left.{said, ruleAt, bufferOf, Left}
 use Rattle.calls.specs.Refusing.{orRefuse}
 use Rattle.calls.specs.Mail.{shownAt, movedAt}
-use Rattle.calls.proofs.Worlds.{spot}
+use Rattle.calls.proofs.Worlds.{shape, spot}
 use Rattle.calls.proofs.Given.{zeros-is}
 use Rattle.laws.proofs.Refusals.{clear}
 use Rattle.calls.proofs.Refusals.{refusing-first}
@@ -88,6 +88,12 @@ pub messages-within : {t u : List ℕ} {n : Header} {c : Caller} → Sound t n c
 messages-within {t} {c = c} s i v xe ue =
     let e = spot (s .known) (at process (c .slot) messagesAt) in
     rw (ue, length-set t i v, s .words) (omega (arith, xe, e, s .caller))
+
+-- and begin at a small place
+pub messages-near : {t : List ℕ} {n : Header} {c : Caller} → Sound t n c → {x : ℕ} → x ≡ recordOf n process (c .slot) → x + messagesAt < 2 ^ 44
+messages-near {t} {c = c} s xe =
+    let h = shape (s .known) in
+    omega (arith, xe, spot (s .known) (at process (c .slot) messagesAt), h .few-cells, h .few-subtypes, h .few process, s .caller)
 
 -- t is the table that is read, u the one that is written: they agree at the words to be moved
 moved-is : (h t u : List ℕ) (p n : ℕ)

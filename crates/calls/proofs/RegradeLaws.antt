@@ -137,7 +137,7 @@ module _ {t : List ℕ} {n : Header} {c : Caller} {a : ℕ} {d : Entry} {f : See
         told
         ∙ ap (λ (x : ℕ). cond (not (eqb (n .guard) (c .cell + 1))) XnoSPriv (cond (not (eqb (length buf) 4)) XbSz x))
         (past (leb (n .cells) b || ltb maxBits bits) XbParam (useTests a (d .held) (reads (d .used)) XnotReadable f true false ++ (g .none ⇒ XnoSpace) ∷ [])
-        (ruleTests (wordsOf t) (c .slot) a (d .held) (reads (d .used)) XnotReadable true false ((noSlot (configuration t) (wordsOf t) file b ⇒ XnoSpace) ∷ []))
+        (ruleTests (configuration t) (wordsOf t) (c .slot) a (d .held) (reads (d .used)) XnotReadable true false ((noSlot (configuration t) (wordsOf t) file b ⇒ XnoSpace) ∷ []))
         (λ q. same-number u (reads (d .used)) XnotReadable true false ((g .none ⇒ XnoSpace) ∷ []) ((noSlot (configuration t) (wordsOf t) file b ⇒ XnoSpace) ∷ [])
         (λ _. rw (slot (in-cells (u .sound .known) b bits q)))))
         ∙ rw (guard-is (u .sound .known), u .sound .home, cells-is (u .sound .known), held-is u, used-is u)
@@ -147,7 +147,7 @@ module _ {t : List ℕ} {n : Header} {c : Caller} {a : ℕ} {d : Entry} {f : See
       unrefused = clear (regradeTests n c a d f g b bits (length buf)) refl (sym told ∙ none)
 
       formed-so : formed (configuration t) file (d .held) ≡ true
-      formed-so = form u (unrefused .1 .1 .1 .0) (unrefused .1 .1 .1 .1 .0)
+      formed-so = form u (unrefused .1 .1 .1 .1 .1 .1 .0)
 
       cell-in : b < cells (configuration t)
       cell-in = in-cells (u .sound .known) b bits (unrefused .1 .1 .0)

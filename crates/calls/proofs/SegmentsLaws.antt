@@ -5,14 +5,13 @@ use mathlib.Core.List.{List, _∷_}
 use Prim.Native.Nat.{ℕ, _<_}
 use lib.Dec.{eqb, leb}
 use borrow.Author.Tests.{leb-false, eqb-false}
-use Rattle.rules.specs.Layout.{Kind, process, segment, file, configuration, slots, at, offset, entries, heldAt, live, serial, owner, group}
+use Rattle.rules.specs.Layout.{Kind, process, segment, configuration, slots, at, offset, entries, heldAt, live, serial, owner, group}
 use Rattle.rules.specs.Seid.{class, isSeid}
 use Rattle.rules.specs.Rule.{Word, _≔_, write}
-use Rattle.laws.proofs.Tests.{both-ways}
-use Rattle.laws.proofs.Shape.{descriptor, designator}
+use Rattle.laws.proofs.Shape.{designator}
 use Rattle.layout.specs.declared.Header.{Header}
 use Rattle.calls.specs.declared.Caller.{Caller}
-use Rattle.calls.specs.World.{Known, Sound, wordsOf, holdable}
+use Rattle.calls.specs.World.{Known, Sound, wordsOf}
 use Rattle.calls.specs.Seen.{nameOf, namedOf}
 use Rattle.calls.specs.Entries.{fourAt}
 use Rattle.calls.proofs.Worlds.{slots-is}
@@ -27,19 +26,17 @@ pub name-is : {t : List ℕ} {n : Header} → Known t n → (k : Kind) (s : ℕ)
 unfolding namedOf
 name-is known k s form = rw (slots-is known k, form)
 
--- what an entry holds has its kind's form
-pub entry-formed : {t : List ℕ} {n : Header} {c : Caller} → Sound t n c → (k : Kind) → holdable k ≡ true → (q d : ℕ) → q < slots (configuration t) process → d < entries
-    → (wordsOf t (at process q (heldAt k d)) ≡ 0 → ⊥) → isSeid (class k) (slots (configuration t) k) (wordsOf t (at process q (heldAt k d))) ≡ true
-entry-formed sound process h q d ql dl some = both-ways false h refl
-entry-formed {t} sound segment h q d ql dl some = designator (configuration t) (wordsOf t) (sound .records) q d ql dl .held some .form
-entry-formed {t} sound file h q d ql dl some = descriptor (configuration t) (wordsOf t) (sound .records) q d ql dl .held some .form
+-- what a designator holds has a segment's form
+pub entry-formed : {t : List ℕ} {n : Header} {c : Caller} → Sound t n c → (q d : ℕ) → q < slots (configuration t) process → d < entries
+    → (wordsOf t (at process q (heldAt segment d)) ≡ 0 → ⊥) → isSeid (class segment) (slots (configuration t) segment) (wordsOf t (at process q (heldAt segment d))) ≡ true
+entry-formed {t} sound q d ql dl some = designator (configuration t) (wordsOf t) (sound .records) q d ql dl .held (some, refl) .form
 
--- entry a of the caller, past the refusals of one past the last and of an empty one
-pub entry-named : {t : List ℕ} {n : Header} {c : Caller} → Sound t n c → (k : Kind) → holdable k ≡ true → (a : ℕ) → leb entries a ≡ false
-    → eqb (wordsOf t (at process (c .slot) (heldAt k a))) 0 ≡ false
-    → namedOf n k (wordsOf t (at process (c .slot) (heldAt k a))) ≡ nameOf (wordsOf t (at process (c .slot) (heldAt k a)))
-entry-named {t} {n} {c} sound k h a l some =
-    name-is (sound .known) k _ (entry-formed sound k h (c .slot) a (sound .caller) (leb-false entries a l) (eqb-false _ 0 some))
+-- designator a of the caller, past the refusals of one past the last and of an empty one
+pub entry-named : {t : List ℕ} {n : Header} {c : Caller} → Sound t n c → (a : ℕ) → leb entries a ≡ false
+    → eqb (wordsOf t (at process (c .slot) (heldAt segment a))) 0 ≡ false
+    → namedOf n segment (wordsOf t (at process (c .slot) (heldAt segment a))) ≡ nameOf (wordsOf t (at process (c .slot) (heldAt segment a)))
+entry-named {t} {n} {c} sound a l some =
+    name-is (sound .known) segment _ (entry-formed sound (c .slot) a (sound .caller) (leb-false entries a l) (eqb-false _ 0 some))
 
 -- four words of a record
 pub four-is : (h t : List ℕ) (k : Kind) (i a b c d : ℕ) (ws : List Word)

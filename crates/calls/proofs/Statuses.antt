@@ -7,12 +7,12 @@ use native.Mathlib.Omega.{arith}
 use lib.Dec.{eqb}
 use lib.ListN.{length}
 use lib.Seq.{sets}
-use borrow.Author.Tests.{eqb-true}
+use borrow.Author.Tests.{lt-ltb, eqb-true}
 use Rattle.rules.specs.Claim.{Holds}
 use Rattle.rules.specs.Level.{Level}
 use Rattle.rules.specs.WellFormed.{configured}
 use Rattle.levels.specs.declared.Level as Code
-use Rattle.levels.specs.Rule.{ruleLevel}
+use Rattle.levels.specs.Rule.{ruleLevel, levelAt}
 use Rattle.rules.specs.Layout.{levelOf, cellWord, Kind, process, segment, file, cells, configuration, cellOf, Addr, at, owner, group, bits}
 use Rattle.rules.specs.Seid.{class, classOf, indexOf, formed, present, orSelf}
 use Rattle.rules.specs.Errors.{XbSz}
@@ -121,6 +121,10 @@ unfolding status
 of-kind t p a b {s} {k} {r} {z} own kind-is x =
     let f : Kind → Rule = λ (j : Kind). statusOf (configuration t) (wordsOf t) p s b j in
     rw (← own) (subst (λ (y : Rule). Shown y b r z) (ap f kind-is ∙ by-kind f (eqb (classOf s) (class process)) (eqb (classOf s) (class segment))) x)
+
+-- the level told is the cell's, where there is one
+pub level-here : (h : List ℕ) (cell : ℕ) {l : Code.Level} → cell < cells h → ruleLevel l ≡ levelAt h cell → ruleLevel l ≡ levelOf h cell
+level-here h cell m e = rw (lt-ltb cell (cells h) m) at e
 
 -- the level's two categories are bytes
 pub level-small : (t : List ℕ) (cell : ℕ) {l : Code.Level} → Holds (configured (configuration t)) → cell < cells (configuration t)

@@ -13,7 +13,7 @@ use Rattle.rules.specs.WellFormed.{wellFormed, lengthsExact}
 use Rattle.rules.specs.Step.{badCaller, badCode, lastCode, step}
 use Rattle.laws.proofs.Tests.{or-left, or-right, cond-true}
 use Rattle.laws.proofs.Claims.{holds}
-use Rattle.laws.proofs.Places.{conf-word, conf-cells, conf-slots, conf-blocks}
+use Rattle.laws.proofs.Places.{conf-word, conf-cells, conf-slots, conf-subtypes, conf-blocks}
 use Rattle.layout.specs.declared.Header.{Header}
 use Rattle.layout.specs.Header.{headerOf}
 use Rattle.layout.specs.Hall.{cellsAt, hallBytes, hallOf, matrixIn}
@@ -37,6 +37,7 @@ header-conf t = λ i. record {
   files = sym (conf-slots t file) i;
   blocks = sym (conf-blocks t) i;
   guard = sym (conf-word t 5 (omega arith)) i;
+  subtypes = sym (conf-subtypes t) i;
 }
 
 -- what judging leaves in a hall of zeros, and the matrix of that

@@ -4,11 +4,10 @@ use mathlib.Core.Bool.{true}
 use mathlib.Core.List.{List}
 use Prim.Native.Nat.{ℕ, _<_}
 use lib.ListN.{length}
-use Rattle.rules.specs.Layout.{Kind, process, configuration, slots, cellOf, at, tableWords, entries, heldAt}
-use Rattle.rules.specs.Seid.{class, isSeid}
+use Rattle.rules.specs.Layout.{Kind, process, configuration, slots, cellOf, tableWords, entries}
 use Rattle.layout.specs.declared.Header.{Header}
 use Rattle.calls.specs.declared.Caller.{Caller}
-use Rattle.calls.specs.World.{Known, wordsOf, holdable}
+use Rattle.calls.specs.World.{Known, holdable}
 
 -- process q is of the caller's cell, and its entries hold objects of the kind
 pub record HoldingAt (t : List ℕ) (n : Header) (c : Caller) (k : Kind) (q : ℕ) : Type 0 where
@@ -16,10 +15,8 @@ pub record HoldingAt (t : List ℕ) (n : Header) (c : Caller) (k : Kind) (q : �
   pub held : holdable k ≡ true
   pub homed : c .cell ≡ cellOf (configuration t) process q
 
--- and each of its entries of the kind holds nothing or an object of the kind
+-- and the table is whole
 pub record Holding (t : List ℕ) (n : Header) (c : Caller) (k : Kind) (q : ℕ) : Type 0 where
   pub at-all : HoldingAt t n c k q
   pub words : length t ≡ tableWords (configuration t)
   pub here : q < slots (configuration t) process
-  pub formed : (d : ℕ) → d < entries → (wordsOf t (at process q (heldAt k d)) ≡ 0 → ⊥)
-      → isSeid (class k) (slots (configuration t) k) (wordsOf t (at process q (heldAt k d))) ≡ true

@@ -4,16 +4,19 @@ use mathlib.Core.List.{List, [], _∷_, _++_}
 use Prim.Native.Nat.{ℕ, _≤_}
 use lib.Dec.{eqb}
 use lib.ListN.{length, getD}
-use Rattle.rules.specs.Layout.{maxCells, Kind, process, cellOf, flows, Addr, at, live, serial, owner, segment, file}
-use Rattle.rules.specs.Seid.{class, classOf, indexOf, serialOf, isSeid}
+use Rattle.rules.specs.Layout.{maxCells, Kind, process, cellOf, flows, subtypeCell, subtypeOwner, Addr, at, live, serial, owner, segment, file}
+use Rattle.rules.specs.Seid.{class, classOf, indexOf, serialOf, isSeid, formedSubtype}
 use Rattle.rules.specs.Errors.{XnoAcc, XnoOwner}
 use Rattle.rules.specs.Rule.{Refusal, _⇒_}
 use Rattle.rules.specs.Find.{absent, rightsAt, freeSlot, noSlot}
+use Rattle.rules.specs.Subtype.{heldBy, modesBy, noSubtype}
+use Rattle.rules.specs.Call08.{subtypeRights}
 use Rattle.layout.specs.declared.Header.{Header}
 use Rattle.layout.specs.Header.{slotsOf}
 use Rattle.calls.specs.declared.objects.Named.{Named}
 use Rattle.calls.specs.declared.objects.Seen.{Seen}
 use Rattle.calls.specs.declared.room.Slot.{Slot}
+use Rattle.calls.specs.declared.subtypes.Capability.{Capability}
 
 -- a word that has the form of an identifier of the kind names a slot and a serial; another names nothing
 abbrev pub nameOf : ℕ → Named
@@ -65,3 +68,24 @@ ownTests x k = findTests x k (not (x .own)) ++ (not (x .mine) ⇒ XnoOwner) ∷ 
 -- the slot that the search in a cell's run finds
 abbrev pub slotFound : List ℕ → (Addr → ℕ) → Kind → ℕ → Slot
 slotFound h r k c = record { index = freeSlot h r k c; none = noSlot h r k c }
+
+-- 02, CR 11: what process p sees of the subtype that s names
+abbrev pub subtypeAs : List ℕ → (Addr → ℕ) → ℕ → ℕ → Seen
+subtypeAs h r p s =
+    record {
+      formed = true;
+      slot = indexOf s;
+      cell = subtypeCell h (indexOf s);
+      own = eqb (subtypeCell h (indexOf s)) (cellOf h process p);
+      flows = flows h (subtypeCell h (indexOf s)) (cellOf h process p);
+      present = eqb (serialOf s) 1;
+      mine = eqb (subtypeOwner h (indexOf s)) (r (at process p owner));
+      rights = subtypeRights h r p (indexOf s);
+    }
+
+abbrev pub seenSubtype : List ℕ → (Addr → ℕ) → ℕ → ℕ → Seen
+seenSubtype h r p s = cond (formedSubtype h s) (subtypeAs h r p s) unseen
+
+-- what the descriptor that c names holds, and whether that is no subtype
+unfoldable pub capabilityOf : (Addr → ℕ) → ℕ → ℕ → Capability
+capabilityOf r p c = record { held = heldBy r p c; used = modesBy r p c; none = noSubtype r p c }

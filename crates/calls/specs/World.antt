@@ -5,10 +5,9 @@ use mathlib.Core.List.{List}
 use Prim.Native.Nat.{ℕ, _+_, _*_, _<_, _≤_}
 use lib.Dec.{ltb, eqb}
 use lib.ListN.{length, getD}
-use Rattle.rules.specs.Words.{sumBelow, lowest, least}
+use Rattle.rules.specs.Words.{sumBelow, countBelow, lowest, least}
 use Rattle.rules.specs.Claim.{Holds, test}
-use Rattle.rules.specs.Layout.{maxSerial, configurationWords, Kind, process, segment, file, cells, slots, cellWord, configuration, cellOf, Addr, rd, tableWords, live, serial, entries}
-use Rattle.rules.specs.Seid.{class, isSeid}
+use Rattle.rules.specs.Layout.{maxSerial, configurationWords, Kind, process, segment, file, cells, slots, cellWord, configuration, cellOf, cellSlots, firstSlot, Addr, at, rd, tableWords, live, serial, entries, heldAt}
 use Rattle.rules.specs.Modes.{validModes}
 use Rattle.rules.specs.WellFormed.{configured, recordsOk, wellFormed}
 use Rattle.layout.specs.declared.Header.{Header}
@@ -69,12 +68,22 @@ emptyTest t from d = eqb (getD t (from + 2 * d) 0) 0
 unfoldable pub emptyAt : List ℕ → ℕ → ℕ
 emptyAt t from = lowest (emptyTest t from) entries 0
 
--- ---- what the search for clashes counts on: a well-formed table, a file's seid in its form, modes that are valid
-pub record Clashable (t : List ℕ) (n : Header) (s b : ℕ) : Type 0 where
+-- ---- the search for clashes in a cell
+
+-- entry d of process q holds s; how many descriptors of m processes do, from one on
+unfoldable pub holdsAt : List ℕ → ℕ → ℕ → ℕ → Bool
+holdsAt t s q d = eqb (wordsOf t (at process q (heldAt file d))) s
+
+unfoldable pub holdersAmong : List ℕ → ℕ → ℕ → ℕ → ℕ
+holdersAmong t from m s = sumBelow m (λ i. countBelow entries (holdsAt t s (from + i)))
+
+-- what it counts on: a well-formed table, a seid, modes that are valid, and that no more descriptors of the cell hold the seid than are told
+pub record Clashable (t : List ℕ) (n : Header) (cell s b most : ℕ) : Type 0 where
   pub known : Known t n
   pub records : Holds (recordsOk (configuration t) (wordsOf t))
-  pub form : isSeid (class file) (slots (configuration t) file) s ≡ true
+  pub some : s ≡ 0 → ⊥
   pub modes : validModes b ≡ true
+  pub few : holdersAmong t (firstSlot (configuration t) process cell) (cellSlots (configuration t) process cell) s ≤ most
 
 -- ---- a judged table: it is well formed for its store, n is its header, m and hall are what the check handed on of it
 pub record Judged (t s : List ℕ) (n : Header) (m : List (List Bool)) (hall : List ℕ) : Type 0 where

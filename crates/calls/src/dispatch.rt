@@ -109,9 +109,9 @@ fn on_files(
     match code {
         CREATE_CODE => {
             let f = free_slot(t, n, Kind::File, me.cell);
-            create(t, n, me, f, a, b)
+            create(t, n, me, f, a, b, c)
         }
-        OPEN_CODE => open(t, n, *m, hall, me, a, b),
+        OPEN_CODE => open(t, n, *m, hall, me, a, b, c),
         CLOSE_CODE => give_up(t, n, me, Kind::File, a, XBAD_OD, XBAD_OD),
         LINK_CODE => link(t, n, *m, hall, me, a),
         UNLINK_CODE => unlink(t, n, *m, hall, me, a),

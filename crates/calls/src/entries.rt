@@ -18,6 +18,7 @@ use crate::room::cell_of;
 use layout::Header;
 use layout::Kind;
 use layout::index_of;
+use layout::is_seid;
 use rules::BITS;
 use rules::LINKS;
 use rules::LIVE;
@@ -110,13 +111,15 @@ fn is_kept(t: &[u32], n: Header, kind: Kind, i: u32) -> bool
     }
 }
 
-// Entry d of process p, of the caller's cell, which holds s, is given up, and with it the pages that name it. What is known of the object is read first.
+// Entry d of process p, of the caller's cell, which holds s, is given up, and with it the pages that name it. What is known of the object is read first. A descriptor that
+// holds a subtype, which has the form of no file's identifier, counts for none.
 pub(crate) fn give_up_entry(t: &mut [u32], n: Header, c: Caller, kind: Kind, p: u32, d: u32, s: u32)
     requires { ⌜ Known (now t) n × (c .cell ≡ cellOf (configuration (now t)) process p) × (holdable (kindOf kind) ≡ true) ⌝ }
     ensures { λ _. ⌜ now (t .exit) ≡ write (configuration (now (t .entry))) (now (t .entry)) (givenUp (configuration (now (t .entry))) (wordsOf (now (t .entry))) (kindOf kind) p d s) ⌝ }
 {
     let i = index_of(s);
-    let own = cell_of(t, n, kind, i) == c.cell;
+    let formed = is_seid(kind.class(), n.slots(kind), s);
+    let own = formed & (cell_of(t, n, kind, i) == c.cell);
     let kept = is_kept(t, n, kind, i);
     let entry = n.entry_at(kind, p, d);
     let object = n.record_at(kind, i);

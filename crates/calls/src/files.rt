@@ -4,11 +4,10 @@ ghost use mathlib.Core.Bool.{true, _&&_};
 ghost use mathlib.Core.List.{List};
 ghost use Prim.Native.Nat.{ℕ, _<_};
 ghost use lib.Dec.{eqb};
-ghost use Rattle.rules.specs.Layout.{file, configuration, cellOf};
-ghost use Rattle.rules.specs.Seid.{indexOf};
+ghost use Rattle.rules.specs.Layout.{file, configuration, flowMatrix};
 ghost use Rattle.rules.specs.Rule.{write};
 ghost use Rattle.rules.specs.Call07.{create};
-ghost use Rattle.rules.specs.Call08.{clashes, openFile};
+ghost use Rattle.rules.specs.Call08.{clashes, openFile, openSubtype, openSeid};
 ghost use Rattle.rules.specs.Call10.{link};
 ghost use Rattle.rules.specs.Call11.{unlinked, unlink};
 ghost use Rattle.rules.specs.Call12.{isShared, setBitsOf, setBits};
@@ -17,7 +16,7 @@ ghost use Rattle.calls.specs.World.{Known, Sound, wordsOf, holdable, Cla
 ghost use Rattle.calls.specs.Handed.{Handed};
 ghost use Rattle.calls.specs.Left.{Left};
 ghost use Rattle.calls.specs.Refusing.{refusing};
-ghost use Rattle.calls.specs.Seen.{namedOf, seenOf, slotFound};
+ghost use Rattle.calls.specs.Seen.{slotFound};
 ghost use Rattle.calls.specs.Calls.{giveUpRule, openTests};
 use crate::Answer;
 use crate::Caller;
@@ -44,11 +43,15 @@ use crate::room::Slot;
 use crate::room::first_slot;
 use crate::room::free_entry;
 use crate::room::in_cell;
+use crate::subtypes::held_by;
+use crate::subtypes::look_subtype;
+use crate::subtypes::may_create_under;
+use crate::subtypes::may_open_under;
 use ids::seid;
 use layout::HALL_BYTES;
 use layout::Header;
 use layout::Kind;
-use layout::index_of;
+use layout::class_of;
 use modes::clash;
 use modes::reads;
 use modes::valid;
@@ -63,10 +66,13 @@ use rules::LINKS;
 use rules::MAX_BITS;
 use rules::MAX_CELLS;
 use rules::MAX_LINKS;
+use rules::MAX_SLOTS;
 use rules::OPENS;
 use rules::OWNER;
 use rules::SERIAL;
 use rules::SHARABLE;
+use rules::SUBTYPE;
+use rules::SUBTYPE_CLASS;
 use rules::XB_PARAM;
 use rules::XBAD_LINK;
 use rules::XBAD_MODES;
@@ -76,6 +82,8 @@ use rules::XNO_SPACE;
 use rules::XOD_SPACE;
 use rules::XOK;
 use rules::XSH_SG;
+use words::first;
+use words::put;
 use words::wide;
 
 // 5. Release segment, and 9. Close: the caller's entry a is given up. Past the last entry, and empty, have a number each.
@@ -101,15 +109,25 @@ pub(crate) fn give_up(
     answered(0, 0)
 }
 
-// 7. Create, in the slot that was found.
-pub(crate) fn create(t: &mut [u32], n: Header, c: Caller, f: Slot, a: u32, b: u32) -> Answer
+// 7. Create, in the slot that was found; `by` names the descriptor of the new file's subtype.
+pub(crate) fn create(
+    t: &mut [u32],
+    n: Header,
+    c: Caller,
+    f: Slot,
+    a: u32,
+    b: u32,
+    by: u32,
+) -> Answer
     requires { ⌜ Sound (now t) n c × (f ≡ slotFound (configuration (now t)) (wordsOf (now t)) file (c .cell)) ⌝ }
-    ensures { λ r. ⌜ ((buffer : List ℕ) → Left (now (t .entry)) (λ h q. create h q (c .slot) a b buffer) r (now (t .exit))) ⌝ }
+    ensures { λ r. ⌜ ((buffer : List ℕ) → Left (now (t .entry)) (λ h q. create h q (c .slot) a b by buffer) r (now (t .exit))) ⌝ }
 {
     let me = c.slot;
     let d = free_entry(t, n, Kind::File, me);
+    let x = held_by(t, n, me, by);
     let e = or_refuse(XOK, MAX_BITS < a, XB_PARAM);
     let e = or_refuse(e, !valid(b), XBAD_MODES);
+    let e = may_create_under(e, t, n, c, by, x);
     let e = or_refuse(e, ENTRIES <= wide(d), XOD_SPACE);
     let e = or_refuse(e, f.none, XNO_SPACE);
     if e != XOK {
@@ -119,28 +137,20 @@ pub(crate) fn create(t: &mut [u32], n: Header, c: Caller, f: Slot, a: u32, b: u3
     let owner = read(t, n, Kind::Process, me, OWNER);
     let group = read(t, n, Kind::Process, me, GROUP);
     let s = seid(FILE_CLASS, f.index, serial);
-    make(
-        t,
-        n.record_at(Kind::File, f.index),
-        serial,
-        owner,
-        group,
-        a,
-        0,
-        0,
-        1,
-    );
+    let at = n.record_at(Kind::File, f.index);
+    make(t, at, serial, owner, group, a, 0, 0, 1);
+    put(t, at + SUBTYPE, first(by == 0, 0, x.held));
     enter(t, n.entry_at(Kind::File, me, d), s, b);
     answered(s, d)
 }
 
-// "The own cell's live descriptors are searched process by process and entry by entry up to the first clash." The file's opens say how many of them
-// hold it: where there is none nothing is searched, and when that many were met the search ends.
-fn any_clash(t: &[u32], n: Header, c: Caller, s: u32, b: u32) -> bool
-    requires { ⌜ Sound (now t) n c × Clashable (now t) n s b × (cellOf (configuration (now t)) file (indexOf s) ≡ c .cell) ⌝ }
+// "The own cell's live descriptors are searched process by process and entry by entry up to the first clash." At most so many of them hold s: where
+// that is none nothing is searched, and when that many were met the search ends.
+fn any_clash(t: &[u32], n: Header, c: Caller, s: u32, b: u32, most: u32) -> bool
+    requires { ⌜ Sound (now t) n c × Clashable (now t) n (c .cell) s b most ⌝ }
     ensures { λ r. ⌜ r ≡ clashes (configuration (now (t .entry))) (wordsOf (now (t .entry))) (c .cell) s b ⌝ }
 {
-    let mut left = read(t, n, Kind::File, index_of(s), OPENS);
+    let mut left = most;
     if left == 0 {
         return false;
     }
@@ -170,14 +180,14 @@ fn any_clash(t: &[u32], n: Header, c: Caller, s: u32, b: u32) -> bool
     found
 }
 
-// Whether an open that nothing has refused so far clashes. "Readers in higher cells neither block nor are blocked": the search is made for a file of the own cell alone.
-fn busy(t: &[u32], n: Header, c: Caller, e: u32, f: Seen, s: u32, b: u32) -> bool
-    requires { ⌜ Sound (now t) n c × (e ≡ 0 → Clashable (now t) n s b) × (f ≡ seenOf (configuration (now t)) (wordsOf (now t)) (c .slot) file (namedOf n file s)) ⌝ }
-    ensures { λ r. ⌜ r ≡ eqb e 0 && (f .own && clashes (configuration (now (t .entry))) (wordsOf (now (t .entry))) (c .cell) s b) ⌝ }
+// Whether an open that nothing has refused so far clashes. "Readers in higher cells neither block nor are blocked": the search is made in the own cell alone.
+fn busy(t: &[u32], n: Header, c: Caller, e: u32, own: bool, s: u32, b: u32, most: u32) -> bool
+    requires { ⌜ Sound (now t) n c × (e ≡ 0 → own ≡ true → Clashable (now t) n (c .cell) s b most) ⌝ }
+    ensures { λ r. ⌜ r ≡ eqb e 0 && (own && clashes (configuration (now (t .entry))) (wordsOf (now (t .entry))) (c .cell) s b) ⌝ }
 {
     if e == XOK {
-        if f.own {
-            return any_clash(t, n, c, s, b);
+        if own {
+            return any_clash(t, n, c, s, b, most);
         }
     }
     false
@@ -193,24 +203,28 @@ fn may_open(f: Seen, b: u32) -> u32
     or_refuse(e, lacks(f.rights, reads(b), writes(b)), XDAP_VIOL)
 }
 
-// 8. Open.
-pub(crate) fn open(
+// 8. Open, of a file; `by` names the descriptor of its subtype. The file's opens say how many descriptors of its cell hold it.
+fn open_file(
     t: &mut [u32],
     n: Header,
-    m: [[bool; MAX_CELLS]; MAX_CELLS],
+    m: &[[bool; MAX_CELLS]; MAX_CELLS],
     hall: &[u8; HALL_BYTES],
     c: Caller,
-    a: u32,
+    s: u32,
     b: u32,
+    by: u32,
 ) -> Answer
-    requires { ⌜ Sound (now t) n c × Handed (configuration (now t)) m (now hall) ⌝ }
-    ensures { λ r. ⌜ ((buffer : List ℕ) → Left (now (t .entry)) (λ h q. openFile h q (c .slot) a b buffer) r (now (t .exit))) ⌝ }
+    requires { ⌜ Sound (now t) n c × Handed (configuration (now t)) (now m) (now hall) ⌝ }
+    ensures { λ r. ⌜ ((buffer : List ℕ) → Left (now (t .entry)) (λ h q. openFile h q (c .slot) s b by buffer) r (now (t .exit))) ⌝ }
 {
-    let s = or_self(t, n, c, a);
-    let f = look(t, n, &m, hall, c, Kind::File, s);
+    let f = look(t, n, m, hall, c, Kind::File, s);
     let d = free_entry(t, n, Kind::File, c.slot);
+    let opens = read(t, n, Kind::File, f.slot, OPENS);
+    let under = read(t, n, Kind::File, f.slot, SUBTYPE);
+    let x = held_by(t, n, c.slot, by);
     let e = may_open(f, b);
-    let clashing = busy(t, n, c, e, f, s, b);
+    let e = may_open_under(e, under, b, x);
+    let clashing = busy(t, n, c, e, f.own, s, b, opens);
     let e = or_refuse(e, clashing, XBUSY);
     let e = or_refuse(e, ENTRIES <= wide(d), XOD_SPACE);
     if e != XOK {
@@ -220,6 +234,55 @@ pub(crate) fn open(
     let object = n.record_at(Kind::File, f.slot);
     take_up(t, Kind::File, entry, s, b, object, f.own);
     answered(d, 0)
+}
+
+// No more descriptors hold a subtype than there are: it has no count.
+const MOST_DESCRIPTORS: u32 = ENTRIES as u32 * MAX_SLOTS as u32;
+
+// 8. Open, of a subtype.
+fn open_subtype(
+    t: &mut [u32],
+    n: Header,
+    m: &[[bool; MAX_CELLS]; MAX_CELLS],
+    c: Caller,
+    s: u32,
+    b: u32,
+) -> Answer
+    requires { ⌜ Sound (now t) n c × (now m ≡ flowMatrix (configuration (now t))) ⌝ }
+    ensures { λ r. ⌜ ((buffer : List ℕ) → Left (now (t .entry)) (λ h q. openSubtype h q (c .slot) s b buffer) r (now (t .exit))) ⌝ }
+{
+    let f = look_subtype(t, n, m, c, s);
+    let d = free_entry(t, n, Kind::File, c.slot);
+    let e = may_open(f, b);
+    let clashing = busy(t, n, c, e, f.own, s, b, MOST_DESCRIPTORS);
+    let e = or_refuse(e, clashing, XBUSY);
+    let e = or_refuse(e, ENTRIES <= wide(d), XOD_SPACE);
+    if e != XOK {
+        return refused(e);
+    }
+    enter(t, n.entry_at(Kind::File, c.slot, d), s, b);
+    answered(d, 0)
+}
+
+// 8. Open, by the seid's class.
+pub(crate) fn open(
+    t: &mut [u32],
+    n: Header,
+    m: [[bool; MAX_CELLS]; MAX_CELLS],
+    hall: &[u8; HALL_BYTES],
+    c: Caller,
+    a: u32,
+    b: u32,
+    by: u32,
+) -> Answer
+    requires { ⌜ Sound (now t) n c × Handed (configuration (now t)) m (now hall) ⌝ }
+    ensures { λ r. ⌜ ((buffer : List ℕ) → Left (now (t .entry)) (λ h q. openSeid h q (c .slot) a b by buffer) r (now (t .exit))) ⌝ }
+{
+    let s = or_self(t, n, c, a);
+    if class_of(s) == SUBTYPE_CLASS {
+        return open_subtype(t, n, &m, c, s, b);
+    }
+    open_file(t, n, &m, hall, c, s, b, by)
 }
 
 // 10. Link.

@@ -48,6 +48,7 @@ mod regrade;
 mod room;
 mod segments;
 mod status;
+mod subtypes;
 mod trays;
 
 // "An answer is the number and two words." A host in C takes it as it stands.

@@ -179,7 +179,7 @@ pub(crate) struct Seen {
 }
 
 // What names nothing is not looked at.
-fn unseen() -> Seen
+pub(crate) fn unseen() -> Seen
     ensures { λ r. ⌜ r ≡ unseen ⌝ }
 {
     Seen {

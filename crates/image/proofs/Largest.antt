@@ -25,7 +25,7 @@ module _ (t : List ℕ) (m : ℕ) (e : test (wellFormed t m) ≡ true) where
 
   pub few-words : length t ≤ mostWords
   unfolding wellFormed lengthsExact
-  few-words = omega (arith, well .1 .0 .0, shape .few-cells, shape .few process, shape .few segment, shape .few file)
+  few-words = omega (arith, well .1 .0 .0, shape .few-cells, shape .few-subtypes, shape .few process, shape .few segment, shape .few file)
 
   few-stored : m ≤ maxSlots * (maxBlocks * blockBytes)
   unfolding wellFormed lengthsExact

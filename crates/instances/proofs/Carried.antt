@@ -1,5 +1,5 @@
 -- A call on a well-formed table, less the judgement of the table: that is nearly all there is to compute of a step, and crates/kept has it. The examples compute these.
-use mathlib.Core.Path.{_≡_, refl}
+use mathlib.Core.Path.{_≡_, refl, ap, _∙_}
 use mathlib.Core.Bool.{Bool, cond}
 use mathlib.Core.List.{List, [], _∷_, _++_}
 use Prim.Native.Nat.{ℕ}
@@ -10,7 +10,7 @@ use Rattle.rules.specs.WellFormed.{wellFormed}
 use Rattle.rules.specs.Errors.{XOK, XbPrSd, XbdKcl}
 use Rattle.rules.specs.Rule.{_⇒_, Rule, rule}
 use Rattle.rules.specs.Call21.{carried}
-use Rattle.rules.specs.Step.{State, Call, Reply, Outcome, ruleOf, badCaller, badCode, carriedOut, wholeRule, step, reply}
+use Rattle.rules.specs.Step.{State, Call, Reply, Outcome, ruleOf, badCaller, badCode, carriedOut, wholeRule, step, run, reply}
 use Rattle.rules.specs.Observer.{stays, replies}
 use Rattle.rules.specs.Regrade.{into, accepted, Event, remains, refused, brings, event, events}
 use Rattle.laws.proofs.Claims.{tested}
@@ -27,6 +27,16 @@ judged s k =
 pub step-judged : (s : State) (k : Call) → Well s → step s k ≡ judged s k
 unfolding step wholeRule carriedOut judged
 step-judged s k w = rw (tested (wellFormed (s .table) (length (s .store))) w) refl
+
+-- a run of them
+unfoldable pub runJudged : State → List Call → State
+runJudged s [] = s
+runJudged s (k ∷ ks) = runJudged (judged s k .state) ks
+
+pub run-judged : (s : State) (ks : List Call) → Well s → run s ks ≡ runJudged s ks
+unfolding run runJudged
+run-judged s [] w = refl
+run-judged s (k ∷ ks) w = run-judged (step s k .state) ks (kept s k w) ∙ ap (λ (o : Outcome). runJudged (o .state) ks) (step-judged s k w)
 
 module _ (h : List ℕ) (C : ℕ → Bool) where
   unfoldable pub repliesJudged : State → List Call → List Reply

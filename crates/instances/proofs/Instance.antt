@@ -8,7 +8,7 @@ use lib.Dec.{ltb, leb}
 use lib.ListN.{length, replicate}
 use borrow.Author.Tests.{ltb-true, le-leb}
 use Rattle.rules.specs.Words.{sumBelow}
-use Rattle.rules.specs.Layout.{Kind, process, file, recordWords, live, serial, owner, bits, links, size, cells, slots, guard, cellWord, configuration, firstSlot, cellOf, at, rd}
+use Rattle.rules.specs.Layout.{Kind, process, file, recordWords, live, serial, owner, bits, links, size, cells, slots, guard, subtypes, cellWord, configuration, firstSlot, cellOf, at, rd}
 use Rattle.rules.specs.Claim.{test}
 use Rattle.rules.specs.WellFormed.{wellFormed}
 use Rattle.rules.specs.SetUp.{canSetUp, firstProcesses, freshTable, setUpTable}
@@ -52,7 +52,7 @@ other g = record { table = write (guarded g) (fresh g .table) (secret .words); s
 
 -- the two states differ
 pub differ : (g : ℕ) → (rd (guarded g) (fresh g .table) (at process 3 live) ≡ 0) × (rd (guarded g) (other g .table) (at process 3 live) ≡ 1)
-unfolding guarded fresh freshTable firstProcesses other secret rd cells slots cellWord firstSlot sumBelow
+unfolding guarded fresh freshTable firstProcesses other secret rd cells slots subtypes cellWord firstSlot sumBelow
 differ g = (refl, refl)
 
 -- ---- the premises of demand 3 are met, for an observer in the low cell, whichever cell is the guard's

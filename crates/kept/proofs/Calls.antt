@@ -13,7 +13,7 @@ use Rattle.rules.specs.Call04.{rendezvous}
 use Rattle.rules.specs.Call05.{releaseSegment}
 use Rattle.rules.specs.Call06.{setAccess}
 use Rattle.rules.specs.Call07.{create}
-use Rattle.rules.specs.Call08.{openFile}
+use Rattle.rules.specs.Call08.{openFile, openSubtype}
 use Rattle.rules.specs.Call09.{close}
 use Rattle.rules.specs.Call10.{link}
 use Rattle.rules.specs.Call11.{unlink}
@@ -29,6 +29,7 @@ use Rattle.rules.specs.Call20.{pageAccess}
 use Rattle.rules.specs.Call21.{regrade}
 use Rattle.rules.specs.Step.{Call, ruleOf}
 use Rattle.laws.proofs.Refusals.{without}
+use Rattle.laws.proofs.Subtypes.{by-opened}
 use Rattle.kept.proofs.Keeps.{KeptBy, Caller, keeps-none}
 use Rattle.kept.proofs.Keep01
 use Rattle.kept.proofs.Keep02
@@ -61,8 +62,8 @@ module _ (h : List ℕ) (r : Addr → ℕ) (st : List ℕ) (k : Call) where
         call-4 = λ e. Keep04.keeps h r p me (k .a) (k .b) (k .buffer);
         call-5 = λ e. Keep05.keeps h r p me (k .a) (k .buffer);
         call-6 = λ e. Keep06.keeps h r p me (k .a) (k .b) (k .buffer);
-        call-7 = λ e. Keep07.keeps h r p me (k .a) (k .b) (k .buffer);
-        call-8 = λ e. Keep08.keeps h r p me (k .a) (k .b) (k .buffer);
+        call-7 = λ e. Keep07.keeps h r p me (k .a) (k .b) (k .c) (k .buffer);
+        call-8 = λ e. Keep08.keeps h r p me (k .a) (k .b) (k .c) (k .buffer);
         call-9 = λ e. Keep09.keeps h r p me (k .a) (k .buffer);
         call-10 = λ e. Keep10.keeps h r p me (k .a) (k .buffer);
         call-11 = λ e. Keep11.keeps h r p me (k .a) (k .buffer);
@@ -81,7 +82,7 @@ module _ (h : List ℕ) (r : Addr → ℕ) (st : List ℕ) (k : Call) where
 
   -- no refusal of any call has that number
   pub numbers : without XbTab (ruleOf h r st k .refusals) ≡ true
-  unfolding spawn releaseProcess buildSegment rendezvous releaseSegment setAccess create openFile close link unlink readBlock writeBlock post receive accessOf remap pageAccess regrade
+  unfolding spawn releaseProcess buildSegment rendezvous releaseSegment setAccess create openFile openSubtype close link unlink readBlock writeBlock post receive accessOf remap pageAccess regrade
   numbers =
       let P : Rule → Type 0 = λ x. without XbTab (x .refusals) ≡ true in
       by-code h k (λ f. P (f r st)) (record {
@@ -92,7 +93,7 @@ module _ (h : List ℕ) (r : Addr → ℕ) (st : List ℕ) (k : Call) where
         call-5 = λ e. refl;
         call-6 = λ e. refl;
         call-7 = λ e. refl;
-        call-8 = λ e. refl;
+        call-8 = λ e. by-opened h r (k .caller) (k .a) (k .b) (k .c) (k .buffer) P (λ t. refl) (λ t. refl);
         call-9 = λ e. refl;
         call-10 = λ e. refl;
         call-11 = λ e. refl;

@@ -8,13 +8,14 @@ use native.Mathlib.Decide.{ℕ-discrete}
 use lib.Dec.{ltb, leb, eqb}
 use borrow.Author.Tests.{eq-eqb, eqb-true, eqb-false, leb-false}
 use Rattle.rules.specs.Layout.{Kind, process, segment, file, slots, cellOf, flows, Addr, at, live, serial, entries, heldAt, usedAt, pages, pagesAt, pageAt, links, holders}
-use Rattle.rules.specs.Seid.{class, indexOf, serialOf, isSeid}
-use Rattle.rules.specs.WellFormed.{validUse, writeUse, ownEntry}
+use Rattle.rules.specs.Seid.{class, indexOf, serialOf, isSeid, formed, isSubtype}
+use Rattle.rules.specs.WellFormed.{validUse, writeUse, holdsSubtype, ownEntry}
 use Rattle.rules.specs.Rule.{_⇒_, firstRefusal, Word, _≔_, over}
 use Rattle.rules.specs.Find.{inOwnCell, entered, oneMore, freed, oneLess, pageLeft, pagesCleared, emptied, givenUp, kept}
-use Rattle.laws.proofs.Tests.{cond-both, and-left, both-ways}
+use Rattle.laws.proofs.Tests.{cond-both, split, and-left, both-ways, refuted}
 use Rattle.laws.proofs.Seids.{class-pos, class-some, is-formed}
-use Rattle.laws.proofs.Shape.{Held, Entry}
+use Rattle.laws.proofs.Shape.{Entry, SubtypeHeld, formed-object, subtype-some}
+use Rattle.laws.proofs.Subtypes.{named-subtype, no-object}
 use Rattle.laws.proofs.Written.{AllOf, nil, all-if, over-append}
 use Rattle.laws.proofs.Object.{Object, no-process}
 use Rattle.kept.proofs.Fine.{linked, Own, Fine}
@@ -25,7 +26,7 @@ use Rattle.kept.proofs.Made.{placed, object-words, freed-record}
 use Rattle.kept.proofs.OneEntry.{Fresh, Unmapped, still-filled}
 use Rattle.kept.proofs.Keeps.{Keeps, Caller, keeps-none, keeps-then}
 use Rattle.kept.proofs.Pages.{pages-in, pages-past, pages-at, keeps-pages, left-page, left-gone}
-use Rattle.kept.proofs.Exchange.{entry-first, entered-in, entered-held, entered-beside}
+use Rattle.kept.proofs.Exchange.{entry-first, entry-alone, entered-in, entered-held, entered-beside}
 use Rattle.kept.proofs.Found.{Found}
 use Rattle.kept.proofs.Objects.{own-holders}
 
@@ -40,16 +41,32 @@ new-entry h q k c s u form lives serial-is flow valid own = record {
   current-serial = λ n e. serial-is;
   valid = λ n. valid;
   writes-own = λ n. own;
+  subtype = λ t. both-ways (holdsSubtype k s) t (formed-object h k s form .1);
 }
+
+-- one that holds a subtype: no object's record matters
+pub subtype-entry : (h : List ℕ) (q : Addr → ℕ) (c s u : ℕ) → SubtypeHeld h c s u → Entry h q file c s u
+subtype-entry h q c s u x =
+    let t = named-subtype h s (x .names) in
+    record {
+      empty = λ z. absurd (subtype-some file s t z);
+      held = λ n. both-ways (isSubtype s) t (n .1);
+      current-live = λ n e. both-ways (isSubtype s) t (n .1);
+      current-serial = λ n e. both-ways (isSubtype s) t (n .1);
+      valid = λ n. x .valid;
+      writes-own = λ n e. both-ways (isSubtype s) t (n .1);
+      subtype = λ e. x;
+    }
 
 pub empty-entry : (h : List ℕ) (q : Addr → ℕ) (k : Kind) (c : ℕ) → Entry h q k c 0 0
 empty-entry h q k c = record {
   empty = λ e. refl;
-  held = λ n. absurd (n refl);
-  current-live = λ n e. absurd (n refl);
-  current-serial = λ n e. absurd (n refl);
+  held = λ n. absurd (n .0 refl);
+  current-live = λ n e. absurd (n .0 refl);
+  current-serial = λ n e. absurd (n .0 refl);
   valid = λ n. absurd (n refl);
-  writes-own = λ n e. absurd (n refl);
+  writes-own = λ n e. absurd (n .0 refl);
+  subtype = λ t. absurd (subtype-some k 0 t refl);
 }
 
 no-fresh : (r : Addr → ℕ) (k : Kind) (p d : ℕ) → Fresh r k p d 0
@@ -81,7 +98,7 @@ module _ (h : List ℕ) (r : Addr → ℕ) (p : ℕ) (c : Caller h r p) (k : Kin
     fresh = fresh;
     unmapped = still-filled r k p d s (class-some s (class k) (class-pos k) (f .parts .class-is));
     entry-after = new-entry h (over r B) k _ s u (f .form) (e0 ∙ f .here .is-live) (e1 ∙ f .here .same-serial) flow valid writes-own;
-    old-index = λ n. absurd (n empty);
+    old-index = λ n. absurd (n .0 empty);
     new-index = λ n. refl;
     counts = λ q e. rw (empty-named h r k p d (indexOf s) empty) (omega (arith, counts q e));
   })
@@ -110,24 +127,21 @@ less-in r k o i =
     all-if _ (eqb (r (at k i (holders k))) 1 && not (kept r k i)) _ _ (λ t. freed-in k i) (λ t. word-in k i (holders k) _ (omega arith) nil)
 
 module _ (h : List ℕ) (r : Addr → ℕ) (w : Fine h r) (p : ℕ) (pl : p < slots h process) (lives : r (at process p live) ≡ 1) (k : Kind) (o : Object k) (d : ℕ) (dl : d < entries)
-    (some : r (at process p (heldAt k d)) ≡ 0 → ⊥) (off : Unmapped r k p d 0) where
+    (off : Unmapped r k p d 0) where
   abbrev given : ℕ
   given = r (at process p (heldAt k d))
 
   abbrev slot : ℕ
   slot = indexOf given
 
-  held : Held h r k (cellOf h process p) given
-  held = w .entry k o p d pl dl .held some
+  slot-in : formed h k given ≡ true → slot < slots h k
+  slot-in form = is-formed _ _ given form .index-in
 
-  slot-in : slot < slots h k
-  slot-in = is-formed _ _ given (held .form) .index-in
-
-  emptied-by : (B : List Word) → AllOf (InRecord k slot) B → Own h (over r B) k slot → over r B (at k slot serial) ≡ r (at k slot serial)
+  emptied-by : formed h k given ≡ true → (B : List Word) → AllOf (InRecord k slot) B → Own h (over r B) k slot → over r B (at k slot serial) ≡ r (at k slot serial)
       → (1 ≤ over r B (at k slot (holders k)) → over r B (at k slot live) ≡ r (at k slot live))
       → over r B (at k slot (holders k)) + one (ownEntry h r k slot p d) ≡ r (at k slot (holders k)) → Keeps h r (entered k p d 0 0 ++ B)
-  emptied-by B a own e1 e0 counts = entry-first h r w k o p d slot 0 0 pl lives dl (record {
-    in-range = slot-in;
+  emptied-by form B a own e1 e0 counts = entry-first h r w k o p d slot 0 0 pl lives dl (record {
+    in-range = slot-in form;
     in-record = a;
     own-after = own;
     grown-after = omega arith;
@@ -136,31 +150,31 @@ module _ (h : List ℕ) (r : Addr → ℕ) (w : Fine h r) (p : ℕ) (pl : p < sl
     unmapped = off;
     entry-after = empty-entry h (over r B) k _;
     old-index = λ n. refl;
-    new-index = λ n. absurd (n refl);
+    new-index = λ n. absurd (n .0 refl);
     counts = λ q e. rw (empty-named h q k p d slot e) (omega (arith, counts));
   })
 
   -- an object of the own cell loses a holder
-  own-less : cellOf h k slot ≡ cellOf h process p → Keeps h r (entered k p d 0 0 ++ oneLess r k slot)
+  own-less : formed h k given ≡ true → cellOf h k slot ≡ cellOf h process p → Keeps h r (entered k p d 0 0 ++ oneLess r k slot)
   unfolding oneLess
-  own-less e =
+  own-less form e =
       let i : ℕ = slot in
       let n : ℕ = holders k in
       let x = w .entry k o p d pl dl in
-      let own : Own h r k i = w .own k i slot-in in
-      let alive : r (at k i live) ≡ 1 = x .current-live some e in
+      let own : Own h r k i = w .own k i (slot-in form) in
+      let alive : r (at k i live) ≡ 1 = x .current-live (formed-object h k given form) e in
       let ws = object-words k o in
       let named : ownEntry h r k i p d ≡ true =
-      named-is h r k p d i (record { same-cell = e; same-class = is-formed _ _ given (held .form) .class-is; same-index = refl }) in
-      let many : 1 ≤ r (at k i n) = rw (w .counted k o i slot-in) (named-counted h r k i p d pl dl named) in
+      named-is h r k p d i (record { same-cell = e; same-class = is-formed _ _ given form .class-is; same-index = refl }) in
+      let many : 1 ≤ r (at k i n) = rw (w .counted k o i (slot-in form)) (named-counted h r k i p d pl dl named) in
       cond-both (λ B. Keeps h r (entered k p d 0 0 ++ B)) (eqb (r (at k i n)) 1 && not (kept r k i)) (freed k i) ((at k i n ≔ r (at k i n) - 1) ∷ [])
       (λ t. let last : r (at k i n) ≡ 1 = eqb-true _ 1 (and-left (eqb (r (at k i n)) 1) (not (kept r k i)) t) in
       let z = freed-word k i r in
       let gone = z n (omega arith) (λ x. omega arith) in
-      emptied-by (freed k i) (freed-in k i)
+      emptied-by form (freed k i) (freed-in k i)
       (freed-record r k i _ (own .serial-fits))
       (freed-serial k i r) (λ y. absurd (omega arith)) (rw named (omega arith)))
-      (λ t. emptied-by ((at k i n ≔ r (at k i n) - 1) ∷ []) (word-in k i n _ (omega arith) nil)
+      (λ t. emptied-by form ((at k i n ≔ r (at k i n) - 1) ∷ []) (word-in k i n _ (omega arith) nil)
       (own-holders h r k o i own alive _ (λ l. fewer (r (at k i n)) (kept r k i) many t (kept-linked r k i ∙ l)))
       (word-past r k i n _ serial (λ x. omega arith)) (λ y. word-past r k i n _ live (λ x. omega arith))
       (rw (named, word-at r k i n (r (at k i n) - 1)) (omega arith)))
@@ -171,11 +185,26 @@ module _ (h : List ℕ) (r : Addr → ℕ) (w : Fine h r) (p : ℕ) (pl : p < sl
         | no x ↦ omega arith
       ]
 
-  entry-emptied : Keeps h r (emptied h r k p d given)
+  -- what is no object's identifier is a subtype's, and no object loses a holder
+  none-less : (given ≡ 0 → ⊥) → formed h k given ≡ false → Keeps h r (entered k p d 0 0)
+  none-less some form =
+      let x = w .entry k o p d pl dl in
+      let other : holdsSubtype k given ≡ false → ⊥ = λ n. both-ways (formed h k given) (x .held (some, n) .form) form in
+      entry-alone h r w k o p d 0 0 pl lives dl (record {
+        fresh = no-fresh r k p d;
+        unmapped = off;
+        entry-after = λ q. empty-entry h q k _;
+        old-class = λ c. other (refuted (holdsSubtype k given) (λ t. no-object k given t c));
+        new-class = λ c. class-some 0 (class k) (class-pos k) c refl;
+      })
+
+  entry-emptied : (given ≡ 0 → ⊥) → Keeps h r (emptied h r k p d given)
   unfolding emptied over
-  entry-emptied = cond-both (λ B. Keeps h r (entered k p d 0 0 ++ B)) (inOwnCell h p k given) (oneLess r k slot) []
-      (λ e. own-less (eqb-true _ _ e))
-      (λ e. emptied-by [] nil (w .own k slot slot-in) refl (λ x. refl) (rw (not-named h r k p d slot (λ y. eqb-false _ _ e (y .same-cell))) (omega arith)))
+  entry-emptied some = split _ (formed h k given)
+      (λ form. rw form (cond-both (λ B. Keeps h r (entered k p d 0 0 ++ B)) (inOwnCell h p k given) (oneLess r k slot) []
+      (λ e. own-less form (eqb-true _ _ e))
+      (λ e. emptied-by form [] nil (w .own k slot (slot-in form)) refl (λ x. refl) (rw (not-named h r k p d slot (λ y. eqb-false _ _ e (y .same-cell))) (omega arith)))))
+      (λ form. rw form (none-less some form))
 
 -- what is written of the object hangs on the object alone
 less-same : (r q : Addr → ℕ) (k : Kind) (i : ℕ) → ((j : ℕ) → q (at k i j) ≡ r (at k i j)) → oneLess q k i ≡ oneLess r k i
@@ -235,14 +264,14 @@ module _ (h : List ℕ) (r : Addr → ℕ) (w : Fine h r) (p : ℕ) (pl : p < sl
   rest-is = rw same-held (emptied-same h r without k o p d holds same-object)
 
   rest : Keeps h without (emptied h r k p d holds)
-  rest = rw rest-is at (entry-emptied h without (cleared .keeps .fine) p pl (cleared .past live (omega arith) ∙ lives) k o d dl (λ z. some (sym same-held ∙ z)) (cleared .off))
+  rest = rw rest-is at (entry-emptied h without (cleared .keeps .fine) p pl (cleared .past live (omega arith) ∙ lives) k o d dl (cleared .off) (λ z. some (sym same-held ∙ z)))
 
   pub given-up : Keeps h r (givenUp h r k p d holds)
   unfolding givenUp
   given-up = keeps-then h r (pagesCleared r k p d) (emptied h r k p d holds) (cleared .keeps) rest
 
-  given-in : AllOf (InRecord k (indexOf holds)) (cond (inOwnCell h p k holds) (oneLess r k (indexOf holds)) [])
-  given-in = all-if _ (inOwnCell h p k holds) _ _ (λ e. less-in r k o (indexOf holds)) (λ e. nil)
+  given-in : AllOf (InRecord k (indexOf holds)) (cond (formed h k holds && inOwnCell h p k holds) (oneLess r k (indexOf holds)) [])
+  given-in = all-if _ (formed h k holds && inOwnCell h p k holds) _ _ (λ e. less-in r k o (indexOf holds)) (λ e. nil)
 
   -- of the process, the entry and its pages alone are written
   given-word : (j : ℕ) → over r (givenUp h r k p d holds) (at process p j) ≡ over without (entered k p d 0 0) (at process p j)

@@ -8,11 +8,12 @@ use native.Mathlib.Decide.{ℕ-discrete, decLt}
 use lib.Dec.{eqb}
 use borrow.Author.Tests.{eq-eqb, ne-eqb, lt-ltb, le-leb, eqb-true, eqb-false, ltb-true, leb-true}
 use Rattle.rules.specs.Claim.{Claim, Holds}
-use Rattle.rules.specs.Layout.{maxBits, maxLinks, Kind, process, segment, file, recordWords, slots, blocks, cellOf, Addr, at, live, parent, queue, zero7, entries, heldAt, usedAt, messages, messageWords, messageAt, pages, pageAt, bits, size, links, opens, holders}
-use Rattle.rules.specs.WellFormed.{recordOk, currentOk, entryOk, parentOk, heldOnce, messageOk, pageOk, processOk, ownEntries, segmentSize, segmentOk, fileOk, recordsOk}
+use Rattle.rules.specs.Layout.{maxBits, maxLinks, Kind, process, segment, file, recordWords, slots, blocks, cellOf, Addr, at, live, parent, queue, zero7, entries, heldAt, usedAt, messages, messageWords, messageAt, pages, pageAt, bits, size, links, opens, subtype, holders}
+use Rattle.rules.specs.WellFormed.{recordOk, currentOk, holdsSubtype, objectEntryOk, entryOk, parentOk, heldOnce, messageOk, pageOk, processOk, ownEntries, segmentSize, segmentOk, fileSubtypeOk, fileOk, recordsOk}
 use Rattle.laws.proofs.Tests.{not-of, failed, passed}
 use Rattle.laws.proofs.Object.{Object}
-use Rattle.laws.proofs.Shape.{Record, Held, held-of, held-holds, Entry, LiveProcess, process-record, segment-record, file-record, descriptor, designator, references-counted, opens-counted, alive-map}
+use Rattle.laws.proofs.Shape as shape
+use Rattle.laws.proofs.Shape.{Record, Held, held-of, held-holds, subtype-held-holds, Entry, LiveProcess, process-record, segment-record, file-record, descriptor, designator, references-counted, opens-counted, alive-map}
 
 -- ---- a live record's own words
 
@@ -28,10 +29,17 @@ linked process x = true
 linked segment x = false
 linked file x = not (eqb x 0)
 
+-- word 8 of a file: none, or a subtype of its cell
+abbrev pub Subtyped : List ℕ → Kind → ℕ → ℕ → Type 0
+Subtyped h process i s = Unit {0}
+Subtyped h segment i s = Unit {0}
+Subtyped h file i s = Holds (fileSubtypeOk h i s)
+
 pub record AliveObject (h : List ℕ) (r : Addr → ℕ) (k : Kind) (i : ℕ) : Type 0 where
   pub bits-fit : r (at k i (bits k)) ≤ maxBits
   pub particular : Particular h k (r (at k i links)) (r (at k i size))
   pub needed : linked k (r (at k i links)) ≡ false → 1 ≤ r (at k i (holders k))
+  pub subtype-ok : Subtyped h k i (r (at k i subtype))
 
 -- what a page may hold: nothing, or designator + 1 of a filled entry
 abbrev pub Paged : (Addr → ℕ) → ℕ → ℕ → Type 0
@@ -96,10 +104,16 @@ module _ (h : List ℕ) (r : Addr → ℕ) (w : Holds (recordsOk h r)) where
 
   own-of : (k : Kind) (i : ℕ) → i < slots h k → Own h r k i
   own-of process i l = alive-map r process i _ _ (process-alive i) (process-record h r w i l)
-  own-of segment i l = alive-map r segment i _ _ (λ x. record { bits-fit = x .bits-fit; particular = (x .sharable-flag, x .size-ok); needed = λ e. x .referred })
+  own-of segment i l = alive-map r segment i _ _
+      (λ x. record { bits-fit = x .bits-fit; particular = (x .sharable-flag, x .size-ok); needed = λ e. x .referred; subtype-ok = tt })
       (segment-record h r w i l)
   own-of file i l = alive-map r file i _ _
-      (λ x. record { bits-fit = x .bits-fit; particular = (x .links-fit, x .size-fits); needed = λ e. omega (arith, x .kept, eqb-true (r (at file i links)) 0 (passed _ e)) })
+      (λ x. record {
+        bits-fit = x .bits-fit;
+        particular = (x .links-fit, x .size-fits);
+        needed = λ e. omega (arith, x .kept, eqb-true (r (at file i links)) 0 (passed _ e));
+        subtype-ok = x .subtype-ok;
+      })
       (file-record h r w i l)
 
   entry-of : (k : Kind) → Object k → (p d : ℕ) → p < slots h process → d < entries → EntryAt h r k p d
@@ -138,11 +152,14 @@ record-holds r k i A c b f x = (
 )
 
 entry-holds : (h : List ℕ) (r : Addr → ℕ) (k : Kind) (c s u : ℕ) → Entry h r k c s u → Holds (entryOk h r k c s u)
-unfolding entryOk currentOk
+unfolding entryOk objectEntryOk currentOk
 entry-holds h r k c s u x = (
-  λ e. x .empty (eqb-true s 0 e),
-  λ e. let n : s ≡ 0 → ⊥ = eqb-false s 0 (failed (eqb s 0) e) in
-      (held-holds h r k c s (x .held n), (λ o. (x .current-live n (eqb-true _ c o), x .current-serial n (eqb-true _ c o)), (x .valid n, λ o. x .writes-own n o))),
+  λ t. (
+    λ e. x .empty (eqb-true s 0 e),
+    λ e. let n : shape.Object k s = (eqb-false s 0 (failed (eqb s 0) e), failed (holdsSubtype k s) t) in
+        (held-holds h r k c s (x .held n), (λ o. (x .current-live n (eqb-true _ c o), x .current-serial n (eqb-true _ c o)), (x .valid (n .0), λ o. x .writes-own n o))),
+  ),
+  λ t. subtype-held-holds h c s u (x .subtype t),
 )
 
 module _ (h : List ℕ) (r : Addr → ℕ) (w : Fine h r) where
@@ -182,7 +199,7 @@ module _ (h : List ℕ) (r : Addr → ℕ) (w : Fine h r) where
   file-holds : (i : ℕ) → i < slots h file → Holds (fileOk h r i)
   unfolding fileOk
   file-holds i l =
-      (record-holds r file i _ _ (omega arith) (λ a. (a .bits-fit, (a .particular .0, (a .particular .1, stays a)))) (w .own file i l), w .counted file tt i l)
+      (record-holds r file i _ _ (omega arith) (λ a. (a .bits-fit, (a .particular .0, (a .particular .1, (stays a, a .subtype-ok))))) (w .own file i l), w .counted file tt i l)
     where
       stays : AliveObject h r file i → 1 ≤ r (at file i links) + r (at file i opens)
       stays a = elim (ℕ-discrete (r (at file i links)) 0) [

@@ -9,8 +9,8 @@ use borrow.Author.Tests.{eqb-true, leb-false}
 use Rattle.rules.specs.Words.{lowest}
 use Rattle.rules.specs.Layout.{Kind, process, slots, cellOf, Addr, at, serial, entries, heldAt}
 use Rattle.rules.specs.Seid.{class, formed, isSeid, indexOf, seidAt, present}
-use Rattle.rules.specs.Find.{inOwnCell, freeSlot, noSlot, freeEntry, noEntry}
-use Rattle.laws.proofs.Tests.{passed}
+use Rattle.rules.specs.Find.{inOwnCell, stale, freeSlot, noSlot, freeEntry, noEntry}
+use Rattle.laws.proofs.Tests.{and-left, and-right, passed}
 use Rattle.laws.proofs.Search.{lowest-hit}
 use Rattle.laws.proofs.Seids.{index-seid, serial-seid, Formed, is-formed, made-formed, Present, is-present}
 use Rattle.laws.proofs.Shape.{in-run}
@@ -27,6 +27,13 @@ pub found : (h : List ℕ) (r : Addr → ℕ) (k : Kind) (s : ℕ) → not (form
 found h r k s f p =
     let e = passed (formed h k s) f in
     record { form = e; parts = is-formed (class k) (slots h k) s e; here = is-present r k s (passed (present r k s) p) }
+
+-- an entry's seid that isn't stale
+pub found-held : (h : List ℕ) (r : Addr → ℕ) (k : Kind) (s : ℕ) → stale h r k s ≡ false → Found h r k s
+found-held h r k s n =
+    let e = passed (formed h k s && present r k s) n in
+    let form = and-left (formed h k s) (present r k s) e in
+    record { form = form; parts = is-formed (class k) (slots h k) s form; here = is-present r k s (and-right (formed h k s) (present r k s) e) }
 
 -- a live process's own seid names it
 module _ (h : List ℕ) (r : Addr → ℕ) (p : ℕ) (me : Caller h r p) where

@@ -27,6 +27,6 @@ unfolding buildSegment
 keeps h r p me a b c buffer e =
     let ok = clear (buildSegment h r p a b c buffer .refusals) refl e in
     let mine : ℕ = cellOf h process p in
-    created h r p me segment tt (freeSlot h r segment mine) (freeEntry r segment p) (access (mayRead (b / 64)) (mayWrite (b / 64))) b c a
+    created h r p me segment tt (freeSlot h r segment mine) (freeEntry r segment p) (access (mayRead (b / 64)) (mayWrite (b / 64))) b c a 0
     (own-slot h r p me segment (ok .1 .1 .1 .0)) (free-entry r segment p (ok .1 .1 .0))
-    (ltb-false maxBits b (or-left (ltb maxBits b) (ltb 1 c) (ok .0))) (ltb-false 1 c (or-right (ltb maxBits b) (ltb 1 c) (ok .0)), passed _ (ok .1 .0)) (access-valid _ _)
+    (ltb-false maxBits b (or-left (ltb maxBits b) (ltb 1 c) (ok .0))) (ltb-false 1 c (or-right (ltb maxBits b) (ltb 1 c) (ok .0)), passed _ (ok .1 .0)) tt (access-valid _ _)

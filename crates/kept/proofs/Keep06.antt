@@ -1,6 +1,6 @@
 -- Call 6, set access, keeps tables well formed.
-use mathlib.Core.Path.{_≡_, refl, _∙_}
-use mathlib.Core.Bool.{true}
+use mathlib.Core.Path.{_≡_, refl, sym, _∙_}
+use mathlib.Core.Bool.{true, true≢false}
 use mathlib.Core.List.{List, [], _∷_}
 use Prim.Native.Nat.{ℕ, _<_}
 use native.Mathlib.Omega.{arith}
@@ -44,6 +44,7 @@ module _ (h : List ℕ) (r : Addr → ℕ) (p : ℕ) (me : Caller h r p) (a b : 
         current-serial = x .current-serial;
         valid = λ n. valid;
         writes-own = λ n. own;
+        subtype = λ t. absurd (true≢false (sym t));
       }))
       (λ d n l. rw (past (usedAt segment d) (λ e. n (omega arith))) (me .fine .entry segment tt p d (me .in-range) l)) d l
 

@@ -5,22 +5,23 @@ use mathlib.Core.List.{List}
 use Prim.Native.Nat.{ℕ, _+_, _≤_, _<_}
 use native.Mathlib.Omega.{arith}
 use lib.Dec.{ltb, leb, eqb}
-use borrow.Author.Tests.{ltb-false, leb-false, eqb-false}
+use borrow.Author.Tests.{ltb-false, leb-false}
 use Rattle.rules.specs.Words.{word2}
-use Rattle.rules.specs.Layout.{maxOwner, maxBits, process, file, cells, slots, blocks, Addr, at, serial, entries, heldAt, size}
+use Rattle.rules.specs.Layout.{maxOwner, maxBits, process, file, cells, blocks, Addr, at, serial, heldAt, size, subtype}
 use Rattle.rules.specs.Seid.{indexOf}
 use Rattle.rules.specs.Rule.{over}
 use Rattle.rules.specs.Find.{freeSlot}
 use Rattle.rules.specs.Copy.{Copy}
 use Rattle.rules.specs.Call21.{carried, regraded, regrade}
-use Rattle.laws.proofs.Tests.{passed, or-left, or-right}
-use Rattle.laws.proofs.Seids.{is-formed, is-present}
+use Rattle.laws.proofs.Tests.{or-left, or-right}
+use Rattle.laws.proofs.Subtypes.{unsubtyped}
 use Rattle.laws.proofs.Written.{AllOf, nil}
 use Rattle.kept.proofs.Fine.{Fine, object-alive}
 use Rattle.laws.proofs.Refusals.{clear}
 use Rattle.kept.proofs.Records.{InRecord, word-in, same-record, elsewhere}
 use Rattle.kept.proofs.Made.{live-record}
 use Rattle.kept.proofs.Keeps.{Keeps, KeptBy, Caller, keeps-object}
+use Rattle.kept.proofs.Found.{found-held}
 use Rattle.kept.proofs.Objects.{alive-now}
 use Rattle.laws.proofs.Slots.{FreeSlot, free-slot}
 
@@ -43,7 +44,8 @@ module _ (h : List ℕ) (r : Addr → ℕ) (w : Fine h r) (x : Copy) (c f : ℕ)
   begins : Keeps h r (regraded x f next)
   begins =
       let word = regraded-word r x f next in
-      let held = w .own file f (free .in-range) .free (free .is-free) 7 (omega arith) (omega arith) in
+      let zero = w .own file f (free .in-range) .free (free .is-free) in
+      let held = zero 7 (omega arith) (omega arith) in
       keeps-object h r w file tt f (free .in-range) (regraded-in x f next) (record {
         others = elsewhere file f (regraded-in x f next) r;
         own-object = live-record _ file f _ (word 0) (rw (word 1) (omega arith)) (rw (word 1) (omega (arith, free .not-worn))) (rw (word 2) owner-fits)
@@ -52,6 +54,7 @@ module _ (h : List ℕ) (r : Addr → ℕ) (w : Fine h r) (x : Copy) (c f : ℕ)
               bits-fit = rw (word 4) bits-fit;
               particular = rw (word 5, word 6) (omega arith, size-fits);
               needed = rw (word 5) (λ z. absurd (true≢false z));
+              subtype-ok = unsubtyped h f _ (word subtype ∙ zero subtype (omega arith) (omega arith));
             }));
         serial-grown = omega (arith, word 1);
         same-holders = word 7 ∙ sym held;
@@ -68,11 +71,8 @@ keeps h r st p me a b c buffer e =
     let s : ℕ = r (at process p (heldAt file a)) in
     let ok = clear (regrade h r st p a b c buffer .refusals) refl e in
     let cell : b < cells h = leb-false (cells h) b (or-left (leb (cells h) b) (ltb maxBits c) (ok .1 .1 .0)) in
-    let al : a < entries = leb-false entries a (ok .1 .1 .1 .0) in
-    let held = me .fine .entry file tt p a (me .in-range) al .held (eqb-false s 0 (ok .1 .1 .1 .1 .0)) in
-    let il : indexOf s < slots h file = is-formed _ _ s (held .form) .index-in in
-    let lives = is-present r file s (passed _ (ok .1 .1 .1 .1 .1 .1 .0)) .is-live in
-    let x = alive-now h r file tt (indexOf s) (me .fine .own file (indexOf s) il) lives in
+    let f = found-held h r file s (ok .1 .1 .1 .1 .1 .1 .0) in
+    let x = alive-now h r file tt (indexOf s) (me .fine .own file (indexOf s) (f .parts .index-in)) (f .here .is-live) in
     begins h r (me .fine) (carried h r st p a b c buffer) b (freeSlot h r file b)
     (free-slot h r (me .shape) b cell file (ok .1 .1 .1 .1 .1 .1 .1 .1 .0))
     (two-bytes buffer _) (two-bytes buffer _)

@@ -5,7 +5,7 @@ use mathlib.Core.List.{List, [], _∷_}
 use Prim.Native.Nat.{ℕ, _≤_, _<_}
 use native.Mathlib.Omega.{arith}
 use lib.Dec.{eqb}
-use Rattle.rules.specs.Layout.{maxBits, Kind, slots, Addr, at, live, serial, owner, group, bits, links, size, holders}
+use Rattle.rules.specs.Layout.{maxBits, Kind, slots, Addr, at, live, serial, owner, group, bits, links, size, subtype, holders}
 use Rattle.rules.specs.Rule.{_≔_, over}
 use Rattle.laws.proofs.Written.{nil}
 use Rattle.laws.proofs.Object.{Object}
@@ -25,8 +25,8 @@ module _ (h : List ℕ) (r : Addr → ℕ) (k : Kind) (o : Object k) (i : ℕ) (
   pub alive-now : AliveObject h r k i
   alive-now = alive-object h r k i o (old .alive lives)
 
-  own-word : (n v : ℕ) → 4 ≤ n → AliveWith h r k i n v → Own h (over r ((at k i n ≔ v) ∷ [])) k i
-  own-word n v past a =
+  own-word : (n v : ℕ) → 4 ≤ n → n < subtype → AliveWith h r k i n v → Own h (over r ((at k i n ≔ v) ∷ [])) k i
+  own-word n v past before a =
       let e0 = word-past r k i n v live (λ e. omega arith) in
       let e1 = word-past r k i n v serial (λ e. omega arith) in
       let e2 = word-past r k i n v owner (λ e. omega arith) in
@@ -35,12 +35,17 @@ module _ (h : List ℕ) (r : Addr → ℕ) (k : Kind) (o : Object k) (i : ℕ) (
       live-record _ k i _ (e0 ∙ lives) (omega (arith, old .serial-some lives)) (omega (arith, old .serial-fits)) (omega (arith, old .owner-fits))
       (omega (arith, old .group-fits))
       (object-alive h _ k i o
-      (record { bits-fit = rw (w (bits k)) (a .bits-fit); particular = rw (w links, w size) (a .particular); needed = rw (w links, w (holders k)) (a .needed) }))
+      (record {
+        bits-fit = rw (w (bits k)) (a .bits-fit);
+        particular = rw (w links, w size) (a .particular);
+        needed = rw (w links, w (holders k)) (a .needed);
+        subtype-ok = rw (word-past r k i n v subtype (λ e. omega arith)) (alive-now .subtype-ok);
+      }))
 
   pub own-holders : (v : ℕ) → (linked k (r (at k i links)) ≡ false → 1 ≤ v) → Own h (over r ((at k i (holders k) ≔ v) ∷ [])) k i
   own-holders v needed =
       let s = object-words k o in
-      own-word (holders k) v (omega arith)
+      own-word (holders k) v (omega arith) (omega arith)
       (record {
         bits-fit = rw (s .holders-at, s .bits-at) (rw (s .bits-at) at (alive-now .bits-fit));
         particular = rw (s .holders-at) (alive-now .particular);
@@ -54,7 +59,7 @@ keeps-word h r w k o i il lives n v lo hi a =
     let in-it = word-in k i n v (omega arith) nil in
     keeps-object h r w k o i il in-it (record {
       others = elsewhere k i in-it r;
-      own-object = own-word h r k o i (w .own k i il) lives n v lo a;
+      own-object = own-word h r k o i (w .own k i il) lives n v lo (omega arith) a;
       serial-grown = omega (arith, word-past r k i n v serial (λ e. omega arith));
       same-holders = word-past r k i n v (holders k) (λ e. omega arith);
       steady = λ x e. (word-past r k i n v live (λ e. omega arith) ∙ e, word-past r k i n v serial (λ e. omega arith));

@@ -40,7 +40,7 @@ module _ (h : List ℕ) (r q : Addr → ℕ) where
     pub fresh : Fresh r k p d (q (at process p (heldAt k d)))
     pub unmapped : Unmapped r k p d (q (at process p (heldAt k d)))
     pub entry-ok : EntryAt h q k p d
-    pub own-object : Own h q k i
+    pub own-object : i < slots h k → Own h q k i
     pub serial-grown : r (at k i serial) ≤ q (at k i serial)
     pub steady : 1 ≤ q (at k i (holders k)) → Steady h r q k i
     -- no other object gains or loses
@@ -161,7 +161,7 @@ module _ (h : List ℕ) (r q : Addr → ℕ) where
 
     pub entry-changed : Fine h q
     entry-changed = record {
-      own = by-record (λ l m. m < slots h l → Own h q l m) k i (λ l. x .own-object)
+      own = by-record (λ l m. m < slots h l → Own h q l m) k i (x .own-object)
           (λ l m n. by-record (λ l m. (l ≡ k → m ≡ i → ⊥) → m < slots h l → Own h q l m) process p (λ n b. process-now)
           (λ l m n n′ b. own-same h r q l m (λ j jl. x .others l m j n n′) (w .own l m b)) l m n);
       entry = all-entries;

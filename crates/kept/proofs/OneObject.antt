@@ -6,6 +6,7 @@ use native.Mathlib.Omega.{arith}
 use Rattle.rules.specs.Layout.{Kind, process, slots, cellOf, Addr, at, serial, queue, entries, heldAt, usedAt, messageAt, holders}
 use Rattle.rules.specs.Seid.{indexOf}
 use Rattle.laws.proofs.Seids.{is-formed}
+use Rattle.laws.proofs.Shape as shape
 use Rattle.laws.proofs.Object.{Object, no-process}
 use Rattle.kept.proofs.Fine.{Own, Fine}
 use Rattle.kept.proofs.Records.{by-record}
@@ -29,7 +30,7 @@ module _ (h : List ℕ) (r q : Addr → ℕ) where
         (λ l m n b. omega (arith, x .others l m serial n))
 
     -- what an own-cell entry names has holders
-    held-steady : (l : Kind) → Object l → (p d : ℕ) → p < slots h process → d < entries → (r (at process p (heldAt l d)) ≡ 0 → ⊥)
+    held-steady : (l : Kind) → Object l → (p d : ℕ) → p < slots h process → d < entries → shape.Object l (r (at process p (heldAt l d)))
         → cellOf h l (indexOf (r (at process p (heldAt l d)))) ≡ cellOf h process p → Steady h r q l (indexOf (r (at process p (heldAt l d))))
     held-steady l s p d pl dl n c =
         let v = r (at process p (heldAt l d)) in

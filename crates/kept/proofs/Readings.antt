@@ -4,17 +4,24 @@ use mathlib.Core.List.{List}
 use Prim.Native.Nat.{ℕ, _-_, _≤_, _<_}
 use native.Mathlib.Omega.{arith}
 use native.Mathlib.Decide.{ℕ-discrete}
-use Rattle.rules.specs.Layout.{maxBits, Kind, process, segment, file, recordWords, slots, cellOf, Addr, at, Valid, live, serial, owner, group, parent, queue, zero7, entries, heldAt, usedAt, messages, messageWords, messageAt, pages, pageAt, bits, size, links, holders}
+use Rattle.rules.specs.Layout.{maxBits, Kind, process, segment, file, recordWords, slots, cellOf, Addr, at, Valid, live, serial, owner, group, parent, queue, zero7, entries, heldAt, usedAt, messages, messageWords, messageAt, pages, pageAt, bits, size, links, subtype, holders}
 use Rattle.rules.specs.Seid.{indexOf}
 use Rattle.laws.proofs.Seids.{is-formed}
+use Rattle.laws.proofs.Shape as shape
 use Rattle.laws.proofs.Shape.{Held, Entry, words-some}
 use Rattle.laws.proofs.Object.{Object}
-use Rattle.kept.proofs.Fine.{AliveObject, Paged, AliveProcess, Alive, Own, Fine}
+use Rattle.kept.proofs.Fine.{Subtyped, AliveObject, Paged, AliveProcess, Alive, Own, Fine}
 use Rattle.kept.proofs.Counting.{count-all}
 use Rattle.kept.proofs.Made.{placed, object-words, live-record}
 
 module _ (h : List ℕ) (r q : Addr → ℕ) where
   -- ---- a record none of whose words change
+
+  subtyped-same : (k : Kind) (i : ℕ) → ((j : ℕ) → j < recordWords k → q (at k i j) ≡ r (at k i j)) → Subtyped h k i (r (at k i subtype))
+      → Subtyped h k i (q (at k i subtype))
+  subtyped-same process i same x = tt
+  subtyped-same segment i same x = tt
+  subtyped-same file i same x = rw (same subtype (omega arith)) x
 
   object-same : (k : Kind) (i : ℕ) → Object k → ((j : ℕ) → j < recordWords k → q (at k i j) ≡ r (at k i j)) → AliveObject h r k i → AliveObject h q k i
   object-same k i o same x =
@@ -23,7 +30,12 @@ module _ (h : List ℕ) (r q : Addr → ℕ) where
       let e5 = same links (omega arith) in
       let e6 = same size (omega arith) in
       let e7 = same (holders k) (omega arith) in
-      record { bits-fit = rw e4 (x .bits-fit); particular = rw (e5, e6) (x .particular); needed = rw (e5, e7) (x .needed) }
+      record {
+        bits-fit = rw e4 (x .bits-fit);
+        particular = rw (e5, e6) (x .particular);
+        needed = rw (e5, e7) (x .needed);
+        subtype-ok = subtyped-same k i same (x .subtype-ok);
+      }
 
   -- what a page holds, while the entries that are filled stay so
   pub paged-kept : (p v : ℕ) → ((d : ℕ) → d < entries → (r (at process p (heldAt segment d)) ≡ 0 → ⊥) → q (at process p (heldAt segment d)) ≡ 0 → ⊥) → Paged r p v
@@ -102,7 +114,7 @@ module _ (h : List ℕ) (r q : Addr → ℕ) where
   held-kept g k c s x =
       record { form = x .form; serial-known = omega (arith, x .serial-known, g k (indexOf s) (is-formed _ _ s (x .form) .index-in)); flow = x .flow }
 
-  pub entry-kept : Grown → (k : Kind) (c s u : ℕ) → ((s ≡ 0 → ⊥) → cellOf h k (indexOf s) ≡ c → Steady k (indexOf s)) → Entry h r k c s u → Entry h q k c s u
+  pub entry-kept : Grown → (k : Kind) (c s u : ℕ) → (shape.Object k s → cellOf h k (indexOf s) ≡ c → Steady k (indexOf s)) → Entry h r k c s u → Entry h q k c s u
   entry-kept g k c s u steady x = record {
     empty = x .empty;
     held = λ n. held-kept g k c s (x .held n);
@@ -110,6 +122,7 @@ module _ (h : List ℕ) (r q : Addr → ℕ) where
     current-serial = λ n e. steady n e (x .current-live n e) .1 ∙ x .current-serial n e;
     valid = x .valid;
     writes-own = x .writes-own;
+    subtype = x .subtype;
   }
 
   pub same-steady : (k : Kind) (i : ℕ) → ((j : ℕ) → q (at k i j) ≡ r (at k i j)) → Steady k i

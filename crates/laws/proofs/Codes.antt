@@ -16,7 +16,7 @@ use Rattle.rules.specs.Call04.{rendezvous}
 use Rattle.rules.specs.Call05.{releaseSegment}
 use Rattle.rules.specs.Call06.{setAccess}
 use Rattle.rules.specs.Call07.{create}
-use Rattle.rules.specs.Call08.{openFile}
+use Rattle.rules.specs.Call08.{openSeid}
 use Rattle.rules.specs.Call09.{close}
 use Rattle.rules.specs.Call10.{link}
 use Rattle.rules.specs.Call11.{unlink}
@@ -40,8 +40,8 @@ pub record Each (h : List ℕ) (k : Call) (P : ((Addr → ℕ) → List ℕ → 
   pub call-4 : k .code ≡ 4 → P (λ r st. rendezvous h r (k .caller) (k .a) (k .b) (k .buffer))
   pub call-5 : k .code ≡ 5 → P (λ r st. releaseSegment h r (k .caller) (k .a) (k .buffer))
   pub call-6 : k .code ≡ 6 → P (λ r st. setAccess h r (k .caller) (k .a) (k .b) (k .buffer))
-  pub call-7 : k .code ≡ 7 → P (λ r st. create h r (k .caller) (k .a) (k .b) (k .buffer))
-  pub call-8 : k .code ≡ 8 → P (λ r st. openFile h r (k .caller) (k .a) (k .b) (k .buffer))
+  pub call-7 : k .code ≡ 7 → P (λ r st. create h r (k .caller) (k .a) (k .b) (k .c) (k .buffer))
+  pub call-8 : k .code ≡ 8 → P (λ r st. openSeid h r (k .caller) (k .a) (k .b) (k .c) (k .buffer))
   pub call-9 : k .code ≡ 9 → P (λ r st. close h r (k .caller) (k .a) (k .buffer))
   pub call-10 : k .code ≡ 10 → P (λ r st. link h r (k .caller) (k .a) (k .buffer))
   pub call-11 : k .code ≡ 11 → P (λ r st. unlink h r (k .caller) (k .a) (k .buffer))

@@ -1,7 +1,7 @@
 -- The header's numbers, and where the records lie by them.
 use mathlib.Core.List.{List}
 use Prim.Native.Nat.{ℕ, _+_, _*_}
-use Rattle.rules.specs.Layout.{Kind, process, segment, file, headerWords, cellWords, recordWords, cells, slots, blocks, guard, Addr}
+use Rattle.rules.specs.Layout.{Kind, process, segment, file, headerWords, cellWords, subtypeWords, recordWords, cells, slots, blocks, guard, subtypes, Addr}
 use Rattle.layout.specs.declared.Header.{Header}
 
 -- those of a table, or of its configuration
@@ -14,6 +14,7 @@ headerOf h =
       files = slots h file;
       blocks = blocks h;
       guard = guard h;
+      subtypes = subtypes h;
     }
 
 abbrev pub slotsOf : Header → Kind → ℕ
@@ -21,9 +22,13 @@ slotsOf n process = n .processes
 slotsOf n segment = n .segments
 slotsOf n file = n .files
 
+-- where a subtype's words begin
+abbrev pub subtypeOf : Header → ℕ → ℕ
+subtypeOf n i = headerWords + cellWords * n .cells + subtypeWords * i
+
 -- how many words the configuration has
 abbrev pub configurationOf : Header → ℕ
-configurationOf n = headerWords + cellWords * n .cells
+configurationOf n = subtypeOf n (n .subtypes)
 
 -- where the records of a kind begin, a record begins, and a word of one lies
 abbrev pub baseOf : Header → Kind → ℕ

@@ -4,7 +4,7 @@ ghost use Prim.Native.Nat.{_+_, _*_, _<_, _^_};
 ghost use Rattle.rules.specs.Layout.{process, file, recordWords, cellSlotsWord, cellWords, heldAt, bits, holders};
 ghost use Rattle.rules.specs.Seid.{class, classOf, indexOf, serialOf, isSeid};
 ghost use Rattle.layout.specs.Kinds.{kindOf};
-ghost use Rattle.layout.specs.Header.{headerOf, slotsOf, baseOf, recordOf};
+ghost use Rattle.layout.specs.Header.{headerOf, slotsOf, subtypeOf, baseOf, recordOf};
 ghost use Rattle.layout.specs.Hall.{cellsAt};
 use rules::BITS;
 use rules::BLOCKS;
@@ -30,6 +30,8 @@ use rules::REFERENCES;
 use rules::SEGMENT_CLASS;
 use rules::SEGMENT_WORDS;
 use rules::SEGMENTS;
+use rules::SUBTYPE_WORDS;
+use rules::SUBTYPES;
 use words::wide;
 use words::word;
 
@@ -121,6 +123,7 @@ pub struct Header {
     pub files: u32,
     pub blocks: u32,
     pub guard: u32,
+    pub subtypes: u32,
 }
 
 // Of a slice that has no room for one: what is not there reads as 0.
@@ -133,6 +136,7 @@ fn short_header(t: &[u32]) -> Header
     let files = word(t, FILES);
     let blocks = word(t, BLOCKS);
     let guard = word(t, GUARD);
+    let subtypes = word(t, SUBTYPES);
     Header {
         cells,
         processes,
@@ -140,6 +144,7 @@ fn short_header(t: &[u32]) -> Header
         files,
         blocks,
         guard,
+        subtypes,
     }
 }
 
@@ -156,6 +161,7 @@ pub fn header_of(t: &[u32]) -> Header
     let files = t[FILES];
     let blocks = t[BLOCKS];
     let guard = t[GUARD];
+    let subtypes = t[SUBTYPES];
     Header {
         cells,
         processes,
@@ -163,6 +169,7 @@ pub fn header_of(t: &[u32]) -> Header
         files,
         blocks,
         guard,
+        subtypes,
     }
 }
 
@@ -177,11 +184,18 @@ impl Header {
         }
     }
 
+    // Where a subtype's words begin; those past the last subtype's, the configuration's end.
+    pub fn subtype_at(self, i: u32) -> usize
+        ensures { λ r. ⌜ (r ≡ subtypeOf self i) × (r < 2 ^ 37) ⌝ }
+    {
+        HEADER_WORDS + CELL_WORDS * wide(self.cells) + SUBTYPE_WORDS * wide(i)
+    }
+
     // Where the records of a kind begin: the parts follow without gaps.
     pub fn base(self, kind: Kind) -> usize
         ensures { λ r. ⌜ (r ≡ baseOf self (kindOf kind)) × (r < 2 ^ 43) ⌝ }
     {
-        let processes = HEADER_WORDS + CELL_WORDS * wide(self.cells);
+        let processes = self.subtype_at(self.subtypes);
         let segments = processes + PROCESS_WORDS * wide(self.processes);
         let files = segments + SEGMENT_WORDS * wide(self.segments);
         match kind {

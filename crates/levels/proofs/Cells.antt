@@ -1,31 +1,25 @@
 -- The cells' levels and the flow matrix, read off a table's words.
-use mathlib.Core.Bool.{Bool, true, false, _&&_, cond, and-false}
+use mathlib.Core.Bool.{Bool, true, false, cond, and-false}
 use mathlib.Core.List.{List, []}
 use mathlib.Core.Path.{_≡_, refl, sym, ap, _∙_}
 use Prim.Native.Nat.{ℕ, _+_, _*_, _<_, _≤_, min}
 use native.Mathlib.Omega.{arith}
 use native.Mathlib.Nat.{add-zero, le-refl, le-antisymm}
 use lib.Dec.{ltb}
-use lib.ListN.{getD, set, take, length-take, List·getD-eq-default}
+use lib.ListN.{getD, set}
 use lib.Seq.{getD-set-same, set-getD, set-set}
 use borrow.Author.Tests.{lt-ltb, le-ltb, ltb-true, ltb-false}
 use Rattle.rules.specs.Words.{tabFrom}
 use Rattle.rules.specs.Level.{level, flowsTo}
-use Rattle.rules.specs.Layout.{maxCells, headerWords, cellWords, configurationWords, cells, cellWord, levelOf, configuration, flows, flowMatrix, cellAt}
+use Rattle.rules.specs.Layout.{maxCells, headerWords, cellWords, cells, cellWord, levelOf, configuration, flows, flowMatrix, cellAt}
 use Rattle.laws.proofs.Tests.{same-test, split}
 use Rattle.laws.proofs.Tab.{length-tab, getD-tab2}
 use Rattle.laws.proofs.Fill.{tab-at, tab-past, tab-any, tab-same, upTo, upTo-more, upTo-all}
 use Rattle.laws.proofs.Places.{conf-cells, conf-cell}
 use Rattle.levels.specs.declared.Level.{Level}
-use Rattle.levels.specs.Rule.{ruleLevel, codeLevel}
+use Rattle.levels.specs.Rule.{ruleLevel, codeLevel, levelAt}
 
 -- ---- a cell's words
-
-cell-past : (t : List ℕ) (c k : ℕ) → cells t ≤ c → 0 ≡ cellWord (configuration t) c k
-unfolding cellWord configuration
-cell-past t c k h =
-    let end : ℕ = configurationWords t in
-    sym (List·getD-eq-default (take end t) 0 (omega (arith, length-take end t)))
 
 -- n is the table's first word, as the code read it
 module _ (t : List ℕ) (n c : ℕ) (count : n ≡ getD t 0 0) where
@@ -33,27 +27,28 @@ module _ (t : List ℕ) (n c : ℕ) (count : n ≡ getD t 0 0) where
   unfolding cellWord cells
   cell-in k x h l e = e ∙ sym (conf-cell t c k (omega arith) l)
 
+  cells-are : cells (configuration t) ≡ n
+  unfolding cells
+  cells-are = conf-cells t ∙ sym count
+
   pub level-in : c < n → (s i m : ℕ) → s ≡ getD t (headerWords + cellWords * c) 0 → i ≡ getD t (cellAt c 1) 0
       → m ≡ getD t (cellAt c 2) 0
-      → level s i m ≡ levelOf (configuration t) c
+      → level s i m ≡ levelAt (configuration t) c
   unfolding levelOf
   level-in h s i m p q r =
       let s' = cell-in 0 s h (omega arith) (p ∙ ap (λ (k : ℕ). getD t k 0) (sym (add-zero (headerWords + cellWords * c)))) in
       let i' = cell-in 1 i h (omega arith) q in
       let m' = cell-in 2 m h (omega arith) r in
-      λ j. level (s' j) (i' j) (m' j)
+      rw (lt-ltb c (cells (configuration t)) (omega (arith, cells-are))) (λ j. level (s' j) (i' j) (m' j))
 
-  pub level-past : n ≤ c → level 0 0 0 ≡ levelOf (configuration t) c
-  unfolding levelOf cells
-  level-past h =
-      let past : (k : ℕ) → 0 ≡ cellWord (configuration t) c k = λ k. cell-past t c k (omega arith) in
-      λ j. level (past 0 j) (past 1 j) (past 2 j)
+  pub level-past : n ≤ c → level 0 0 0 ≡ levelAt (configuration t) c
+  level-past h = rw (le-ltb c (cells (configuration t)) (omega (arith, cells-are))) refl
 
 -- ---- the cells' levels, each read once
 
 -- a cell's level as the code holds it
 abbrev pub levelIn : List ℕ → ℕ → Level
-levelIn t c = codeLevel (levelOf (configuration t) c)
+levelIn t c = codeLevel (levelAt (configuration t) c)
 
 abbrev pub nil : Level
 nil = codeLevel (level 0 0 0)
@@ -64,11 +59,6 @@ levels-all t n c all e h p =
     p ∙ upTo-all nil (levelIn t) maxCells c (λ k l m. ap codeLevel (level-past t (getD t 0 0) k refl (omega arith)))
 
 -- ---- the flow matrix
-
--- a conjunction picks its second test where the first holds
-and-cond : (a b : Bool) → a && b ≡ cond a b false
-and-cond true b = refl
-and-cond false b = refl
 
 -- whether a level may flow to that of a cell
 abbrev pub flowsFor : List Level → Level → ℕ → Bool
@@ -135,8 +125,9 @@ module _ (t : List ℕ) (n : ℕ) (count : n ≡ min (getD t 0 0) maxCells) wher
     entry-in : (c : ℕ) → c < n → (d : ℕ) → d < maxCells → cond (ltb d n) (flowsFor all (getD all c nil) d) false ≡ flows (configuration t) c d
     unfolding flows
     entry-in c h d m =
-        rw (known c (omega arith), known d m, counted d m, ← counted c (omega arith), lt-ltb c n h)
-        (sym (and-cond (ltb d (cells (configuration t))) (flowsTo (levelOf (configuration t) c) (levelOf (configuration t) d))))
+        let here : ltb c (cells (configuration t)) ≡ true = sym (counted c (omega arith)) ∙ lt-ltb c n h in
+        rw (known c (omega arith), known d m, counted d m, here)
+        (split _ (ltb d (cells (configuration t))) (λ e. rw e refl) (λ e. rw e refl))
 
     row-in : (c : ℕ) → c < n → rowTo all (getD all c nil) n ≡ rowIn t c
     row-in c h =

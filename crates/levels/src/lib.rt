@@ -4,8 +4,8 @@ ghost use Rattle.rules.specs.Level.{equals, flowsTo, flowsFrom};
 ghost use Prim.Native.Nat.{min};
 ghost use lib.ListN.{getD};
 ghost use Rattle.rules.specs.Words.{tabFrom};
-ghost use Rattle.rules.specs.Layout.{maxCells, configuration, levelOf, flowMatrix};
-ghost use Rattle.levels.specs.Rule.{ruleLevel, codeLevel};
+ghost use Rattle.rules.specs.Layout.{maxCells, configuration, flowMatrix};
+ghost use Rattle.levels.specs.Rule.{ruleLevel, codeLevel, levelAt};
 use rules::CELL_WORDS;
 use rules::HEADER_WORDS;
 use rules::MAX_CELLS;
@@ -41,9 +41,9 @@ impl Level {
     }
 }
 
-// The level of cell c. Past the last cell the configuration has no words, and they read as 0.
+// The level of cell c; past the last cell there is none, and its words are told as 0.
 pub fn level_at(t: &[u32], c: u32) -> Level
-    ensures { λ r. ⌜ ruleLevel r ≡ levelOf (configuration (now (t .entry))) c ⌝ }
+    ensures { λ r. ⌜ ruleLevel r ≡ levelAt (configuration (now (t .entry))) c ⌝ }
 {
     if c < word(t, 0) {
         let at = HEADER_WORDS + CELL_WORDS * (c as usize);
@@ -76,9 +76,9 @@ fn count(t: &[u32]) -> u32
     }
 }
 
-// Each cell's level, read once; past the last cell they read as 0.
+// Each cell's level, read once.
 pub fn levels(t: &[u32]) -> [Level; MAX_CELLS]
-    ensures { λ r. ⌜ r ≡ tabFrom 0 maxCells (λ c. codeLevel (levelOf (configuration (now (t .entry))) c)) ⌝ }
+    ensures { λ r. ⌜ r ≡ tabFrom 0 maxCells (λ c. codeLevel (levelAt (configuration (now (t .entry))) c)) ⌝ }
 {
     let n = count(t);
     let mut all = [Level {

@@ -27,6 +27,9 @@ header-of = (λ κs a. tt, λ κs a z z′ w w′ p q. (one p q, refl))
 pub Header-slots : Exact code.Header.slots.Kinds.ps code.Header.slots.Kinds.r code.Header.slots.Reads.Asked code.Header.slots.Reads.Learnt
 Header-slots = (λ κs a. tt, λ κs a z z′ w w′ p q. (one p q, refl))
 
+pub Header-subtype-at : Exact code.Header.subtype_at.Kinds.ps code.Header.subtype_at.Kinds.r code.Header.subtype_at.Reads.Asked code.Header.subtype_at.Reads.Learnt
+Header-subtype-at = (λ κs a. tt, λ κs a z z′ w w′ p q. (one (p .0) (q .0), refl))
+
 pub Header-base : Exact code.Header.base.Kinds.ps code.Header.base.Kinds.r code.Header.base.Reads.Asked code.Header.base.Reads.Learnt
 Header-base = (λ κs a. tt, λ κs a z z′ w w′ p q. (one (p .0) (q .0), refl))
 

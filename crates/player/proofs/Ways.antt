@@ -1,10 +1,10 @@
 -- Ways through replay's loop: none, one more playing, one more piece.
 use mathlib.Core.Bool.{Bool, true, false, true≢false}
-use mathlib.Core.List.{List, [], _∷_, _++_, append-assoc, append-nil}
+use mathlib.Core.List.{List, [], _++_, append-assoc, append-nil}
 use mathlib.Core.Path.{_≡_, refl, sym, ap, _∙_}
 use Prim.Native.Nat.{ℕ, _+_, _%_, _^_, _≤_}
 use native.Mathlib.Omega.{arith}
-use lib.ListN.{length, take, drop, length-append}
+use lib.ListN.{length, take, drop, length-append, length-set}
 use lib.Seq.{length-take-le, length-sets}
 use Rattle.rules.specs.Replay.{headerNumbers, maxBuffer}
 use Rattle.output.specs.Wrote.{Wrote}
@@ -151,7 +151,7 @@ module _ (t : List ℕ) {st l : List ℕ} {x : Session} {t₀ : List ℕ} (e : (
     {x′ : Session} {t′ st′ l′ : List ℕ} {read handed : ℕ} (a : Sofar x t₀ st l x′ t′ st′ l′ read handed) (m : Sized t₀ st l) where
   enough : Lent t st l
   enough = record {
-    table = omega (arith, m .words, ap length (e .1), length-sets t headerNumbers (0 ∷ 0 ∷ []));
+    table = omega (arith, m .words, ap length (e .1), length-set t headerNumbers 0);
     store = omega (arith, m .bytes);
     buffer = omega (arith, m .buffer);
   }

@@ -1,4 +1,5 @@
--- 02, CR 14: "two descriptors of one file held in its own cell never clash", in every state that a run of calls from set-up, without reload, reaches.
+-- 02, CR 14: "two descriptors of one file held in its own cell never clash", in every state that a run of calls from set-up, without reload, reaches. Nor do two of one
+-- subtype: CR 11, they "obey the same levels and clash rule".
 use mathlib.Core.Path.{_≡_, refl, sym, ap, _∙_}
 use mathlib.Core.Bool.{Bool, true, false, cond, _&&_, _||_}
 use mathlib.Core.List.{List, [], _∷_, _++_}
@@ -10,21 +11,22 @@ use lib.ListN.{length}
 use borrow.Author.Tests.{eq-eqb}
 use Rattle.rules.specs.Words.{someBelow}
 use Rattle.rules.specs.Claim.{Holds}
-use Rattle.rules.specs.Layout.{Kind, process, segment, file, cells, slots, configuration, cellSlots, firstSlot, cellOf, Addr, at, Valid, rd, serial, owner, group, entries, heldAt, usedAt, bits, opens}
-use Rattle.rules.specs.Seid.{class, seid, indexOf, serialOf, orSelf}
+use Rattle.rules.specs.Layout.{Kind, process, segment, file, cells, slots, configuration, cellSlots, firstSlot, cellOf, subtypeCell, Addr, at, Valid, rd, serial, owner, group, entries, heldAt, usedAt, bits, opens}
+use Rattle.rules.specs.Seid.{class, seid, classOf, indexOf, serialOf, orSelf, isSubtype}
 use Rattle.rules.specs.Modes.{validModes, excludesReaders, excludesWriters, writes, clash}
 use Rattle.rules.specs.Errors.{XOK}
-use Rattle.rules.specs.Rule.{Word, _≔_, sameAddr, over}
+use Rattle.rules.specs.Rule.{Word, _≔_, Rule, sameAddr, over}
 use Rattle.rules.specs.Find.{inOwnCell, entered, freeSlot, freeEntry}
-use Rattle.rules.specs.Call07.{create}
-use Rattle.rules.specs.Call08.{clashesAt, clashes, openFile}
+use Rattle.rules.specs.Call07.{create, subtypeFor}
+use Rattle.rules.specs.Call08.{clashesAt, clashes, openFile, openSubtype, openSeid}
 use Rattle.rules.specs.SetUp.{canSetUp, firstProcesses, setUpTable}
 use Rattle.rules.specs.Step.{State, Call, step, next, run, ruleOf}
 use Rattle.laws.proofs.Tests.{split, cond-true, cond-false, both-ways}
 use Rattle.laws.proofs.Below.{none-at}
 use Rattle.laws.proofs.Places.{same-addr}
-use Rattle.laws.proofs.Seids.{index-seid, serial-seid, seid-some, class-pos}
+use Rattle.laws.proofs.Seids.{class-seid, index-seid, serial-seid}
 use Rattle.laws.proofs.Shape.{in-run}
+use Rattle.laws.proofs.Subtypes.{class-object, by-opened}
 use Rattle.laws.proofs.Written.{AllOf, nil, also, all-append, all-if, all-map, over-append, over-at}
 use Rattle.laws.proofs.Object.{no-process}
 use Rattle.kept.proofs.Fine.{Fine}
@@ -38,18 +40,22 @@ use Rattle.kept.proofs.Calls.{keeps}
 use Rattle.kept.proofs.Kept.{Well, kept, conf-kept}
 use Rattle.promises.proofs.Refusals.{none-holds, own, own-clear, refused}
 use Rattle.promises.proofs.After.{its-caller, read-after}
-use Rattle.promises.proofs.Writes.{Wrote, made, filled as entry-filled, emptied, paged, counted, freed-word, cleared, linked, sized, set-bits, posted, received, writes as words-written}
+use Rattle.promises.proofs.Writes.{madeWords, Wrote, made, filled as entry-filled, emptied, paged, counted, freed-word, cleared, linked, sized, set-bits, posted, received, writes as words-written}
 use Rattle.promises.proofs.Fresh.{blank, set-up-formed, set-up-configuration, set-up-reads}
 
 -- ---- the statement
 
--- descriptor d of process p and descriptor e of process q, if they are two, hold one file, and both processes are of its cell: their modes do not clash
+-- the cell of what a descriptor holds, a file or a subtype
+abbrev pub heldCell : List ℕ → ℕ → ℕ
+heldCell h s = cond (isSubtype s) (subtypeCell h (indexOf s)) (cellOf h file (indexOf s))
+
+-- descriptor d of process p and descriptor e of process q, if they are two, hold one file or one subtype, and both processes are of its cell: their modes do not clash
 abbrev pub Compatible : List ℕ → (Addr → ℕ) → ℕ → ℕ → ℕ → ℕ → Type 0
 Compatible h r p d q e =
     p < slots h process → d < entries → q < slots h process → e < entries → (p ≡ q → d ≡ e → ⊥)
     → (r (at process p (heldAt file d)) ≡ 0 → ⊥) → r (at process q (heldAt file e)) ≡ r (at process p (heldAt file d))
-    → cellOf h file (indexOf (r (at process p (heldAt file d)))) ≡ cellOf h process p
-    → cellOf h file (indexOf (r (at process p (heldAt file d)))) ≡ cellOf h process q
+    → heldCell h (r (at process p (heldAt file d))) ≡ cellOf h process p
+    → heldCell h (r (at process p (heldAt file d))) ≡ cellOf h process q
     → clash (r (at process p (usedAt file d))) (r (at process q (usedAt file e))) ≡ false
 
 abbrev pub ClashFree : List ℕ → (Addr → ℕ) → Type 0
@@ -84,7 +90,7 @@ bits-low file = omega arith
 
 -- every call but create and open
 clears : (h : List ℕ) (r : Addr → ℕ) (k : Call) → (k .code ≡ 7 → ⊥) → (k .code ≡ 8 → ⊥) → (x : Word) → Wrote h r k x → Clears x
-clears h r k a b x (made c l room m y) e lo hi = absurd (omega arith)
+clears h r k a b x (made {j = j} {n = n} c l room m y) e lo hi = let few : n < madeWords process = rw e at m in absurd (omega arith)
 clears h r k a b x (entry-filled process f w) e lo hi = absurd w
 clears h r k a b x (entry-filled segment f w) e lo hi = absurd (omega arith)
 clears h r k a b x (entry-filled file f w) e lo hi = absurd (b (f a))
@@ -135,8 +141,8 @@ record Filled (h : List ℕ) (r v : Addr → ℕ) (me i s b : ℕ) : Type 0 wher
       (v (at process p (usedAt file d)) ≡ r (at process p (usedAt file d)))
   held : v (at process me (heldAt file i)) ≡ s
   used : v (at process me (usedAt file i)) ≡ b
-  alone : (q e : ℕ) → q < slots h process → e < entries → r (at process q (heldAt file e)) ≡ s → cellOf h file (indexOf s) ≡ cellOf h process me
-      → cellOf h file (indexOf s) ≡ cellOf h process q → clash b (r (at process q (usedAt file e))) ≡ false
+  alone : (q e : ℕ) → q < slots h process → e < entries → r (at process q (heldAt file e)) ≡ s → heldCell h s ≡ cellOf h process me
+      → heldCell h s ≡ cellOf h process q → clash b (r (at process q (usedAt file e))) ≡ false
 
 by-filling : (h : List ℕ) (r v : Addr → ℕ) (me i s b : ℕ) → Filled h r v me i s b → ClashFree h r → ClashFree h v
 by-filling h r v me i s b f free = by-entry (λ p d. (q e : ℕ) → Compatible h v p d q e) me i
@@ -173,8 +179,8 @@ module _ (r : Addr → ℕ) (me i s b : ℕ) (il : i < entries) where
 
   -- a reading in which the object's words are written too
   filled : (h : List ℕ) (v : Addr → ℕ) → ((p j : ℕ) → v (at process p j) ≡ over r (entered file me i s b) (at process p j))
-      → ((q e : ℕ) → q < slots h process → e < entries → r (at process q (heldAt file e)) ≡ s → cellOf h file (indexOf s) ≡ cellOf h process me
-      → cellOf h file (indexOf s) ≡ cellOf h process q → clash b (r (at process q (usedAt file e))) ≡ false)
+      → ((q e : ℕ) → q < slots h process → e < entries → r (at process q (heldAt file e)) ≡ s → heldCell h s ≡ cellOf h process me
+      → heldCell h s ≡ cellOf h process q → clash b (r (at process q (usedAt file e))) ≡ false)
       → Filled h r v me i s b
   filled h v same alone = record {
     others = λ p d dl n. let o = beside p d dl n in (same p (heldAt file d) ∙ o .0, same p (usedAt file d) ∙ o .1);
@@ -193,50 +199,73 @@ module _ (r : Addr → ℕ) (me i s b : ℕ) (il : i < entries) where
 
 module _ (h : List ℕ) (r : Addr → ℕ) (p : ℕ) (me : Caller h r p) (free : ClashFree h r) where
   -- create: nobody holds a serial that has not been given
-  by-create : (a b : ℕ) (buffer : List ℕ) → Clear (create h r p a b buffer .refusals) → ClashFree h (over r (create h r p a b buffer .effects .words))
+  by-create : (a b c : ℕ) (buffer : List ℕ) → Clear (create h r p a b c buffer .refusals) → ClashFree h (over r (create h r p a b c buffer .effects .words))
   unfolding create
-  by-create a b buffer ok =
+  by-create a b c buffer ok =
       let f = freeSlot h r file (cellOf h process p) in
       let i = freeEntry r file p in
       let n = r (at file f serial) + 1 in
       let s = seid (class file) f n in
-      let room = own-slot h r p me file (ok .1 .1 .1 .0) in
-      let il = free-entry r file p (ok .1 .1 .0) .in-record in
+      let room = own-slot h r p me file (ok .1 .1 .1 .1 .1 .0) in
+      let il = free-entry r file p (ok .1 .1 .1 .1 .0) .in-record in
       let small : f < 256 = omega (arith, room .in-range, me .shape .few file) in
       let fits : n < 65536 = omega (arith, room .not-worn) in
-      by-filling h r (over r (create h r p a b buffer .effects .words)) p i s b (filled r p i s b il h (over r (create h r p a b buffer .effects .words))
-      (object-first r p i s b il f (made-in file tt f n (r (at process p owner)) (r (at process p group)) a 0 0))
+      by-filling h r (over r (create h r p a b c buffer .effects .words)) p i s b (filled r p i s b il h (over r (create h r p a b c buffer .effects .words))
+      (object-first r p i s b il f (made-in file tt f n (r (at process p owner)) (r (at process p group)) a 0 0 (subtypeFor r p c)))
       (λ q e ql el same cp cq.
-      let known = me .fine .entry file tt q e ql el .held (λ z. seid-some (class file) f n (class-pos file) (sym same ∙ z)) .serial-known in
+      let object = class-object file _ (ap classOf same ∙ class-seid (class file) f n small fits) in
+      let known = me .fine .entry file tt q e ql el .held object .serial-known in
       let is : serialOf (r (at process q (heldAt file e))) ≡ n = ap serialOf same ∙ serial-seid (class file) f n small fits in
       let ix : indexOf (r (at process q (heldAt file e))) ≡ f = ap indexOf same ∙ index-seid (class file) f n small fits in
       absurd (omega (arith, rw ix at known))))
       free
 
   -- open: the search has found none that clashes
-  by-open : (a b : ℕ) (buffer : List ℕ) → Clear (openFile h r p a b buffer .refusals) → ClashFree h (over r (openFile h r p a b buffer .effects .words))
-  unfolding openFile clashes clashesAt
-  by-open a b buffer ok =
-      let s = orSelf r p a in
-      let i = freeEntry r file p in
-      let c = cellOf h process p in
-      let il = free-entry r file p (ok .1 .1 .1 .1 .1 .1 .0) .in-record in
-      by-filling h r (over r (openFile h r p a b buffer .effects .words)) p i s b (filled r p i s b il h (over r (openFile h r p a b buffer .effects .words))
-      (entry-first r p i s b il (indexOf s)
-      (all-if _ (inOwnCell h p file s) _ _ (λ e. word-in file (indexOf s) opens _ (omega arith) nil) (λ e. nil)))
-      (λ q e ql el same cp cq.
+  none-found : (s b q e : ℕ) → q < slots h process → e < entries → r (at process q (heldAt file e)) ≡ s → cellOf h process q ≡ cellOf h process p
+      → clashes h r (cellOf h process p) s b ≡ false → clash b (r (at process q (usedAt file e))) ≡ false
+  unfolding clashes clashesAt
+  none-found s b q e ql el same qc none =
       let run = in-run h (me .shape) process q ql in
-      let qc : cellOf h process q ≡ c = sym cq ∙ cp in
+      let c = cellOf h process p in
       let j : ℕ = q - firstSlot h process c in
       let lo : firstSlot h process c ≤ q = rw qc at (run .1) in
       let hi : q < firstSlot h process c + cellSlots h process c = rw qc at (run .2) in
       let at-q : firstSlot h process c + j ≡ q = omega arith in
-      let none : clashes h r c s b ≡ false = rw (eq-eqb _ _ cp) at (ok .1 .1 .1 .1 .1 .0) in
       let here : eqb (r (at process q (heldAt file e))) s && clash (r (at process q (usedAt file e))) b ≡ false =
       rw at-q at (none-at entries (clashesAt r s b (firstSlot h process c + j))
       (none-at (cellSlots h process c) (λ i. someBelow entries (clashesAt r s b (firstSlot h process c + i))) none j (omega arith)) e el) in
-      clash-swap b _ ∙ rw (eq-eqb _ _ same) at here))
+      clash-swap b _ ∙ rw (eq-eqb _ _ same) at here
+
+  by-open-file : (s b c : ℕ) (buffer : List ℕ) → isSubtype s ≡ false → Clear (openFile h r p s b c buffer .refusals)
+      → ClashFree h (over r (openFile h r p s b c buffer .effects .words))
+  unfolding openFile
+  by-open-file s b c buffer t ok =
+      let i = freeEntry r file p in
+      let il = free-entry r file p (ok .1 .1 .1 .1 .1 .1 .1 .1 .0) .in-record in
+      by-filling h r (over r (openFile h r p s b c buffer .effects .words)) p i s b (filled r p i s b il h (over r (openFile h r p s b c buffer .effects .words))
+      (entry-first r p i s b il (indexOf s)
+      (all-if _ (inOwnCell h p file s) _ _ (λ e. word-in file (indexOf s) opens _ (omega arith) nil) (λ e. nil)))
+      (λ q e ql el same cp cq.
+      let own : cellOf h file (indexOf s) ≡ cellOf h process p = rw t at cp in
+      none-found s b q e ql el same (sym cq ∙ cp) (rw (eq-eqb _ _ own) at (ok .1 .1 .1 .1 .1 .1 .1 .0))))
       free
+
+  by-open-subtype : (s b : ℕ) (buffer : List ℕ) → isSubtype s ≡ true → Clear (openSubtype h r p s b buffer .refusals)
+      → ClashFree h (over r (openSubtype h r p s b buffer .effects .words))
+  unfolding openSubtype
+  by-open-subtype s b buffer t ok =
+      let i = freeEntry r file p in
+      let il = free-entry r file p (ok .1 .1 .1 .1 .1 .1 .0) .in-record in
+      by-filling h r (over r (openSubtype h r p s b buffer .effects .words)) p i s b (filled r p i s b il h (over r (openSubtype h r p s b buffer .effects .words))
+      (λ q j. refl)
+      (λ q e ql el same cp cq.
+      let own : subtypeCell h (indexOf s) ≡ cellOf h process p = rw t at cp in
+      none-found s b q e ql el same (sym cq ∙ cp) (rw (eq-eqb _ _ own) at (ok .1 .1 .1 .1 .1 .0))))
+      free
+
+  by-open : (a b c : ℕ) (buffer : List ℕ) → Clear (openSeid h r p a b c buffer .refusals) → ClashFree h (over r (openSeid h r p a b c buffer .effects .words))
+  by-open a b c buffer = let s : ℕ = orSelf r p a in
+      by-opened h r p a b c buffer (λ (x : Rule). Clear (x .refusals) → ClashFree h (over r (x .effects .words))) (by-open-subtype s b buffer) (by-open-file s b c buffer)
 
 -- ---- any call
 
@@ -244,9 +273,9 @@ module _ (h : List ℕ) (r : Addr → ℕ) (st : List ℕ) (k : Call) (me : Call
   by-call : Clear (ruleOf h r st k .refusals) → ClashFree h (over r (ruleOf h r st k .effects .words))
   unfolding ruleOf
   by-call = elim (ℕ-discrete (k .code) 7) [
-    | yes e ↦ rw e (by-create h r (k .caller) me free (k .a) (k .b) (k .buffer))
+    | yes e ↦ rw e (by-create h r (k .caller) me free (k .a) (k .b) (k .c) (k .buffer))
     | no n ↦ elim (ℕ-discrete (k .code) 8) [
-      | yes e ↦ rw e (by-open h r (k .caller) me free (k .a) (k .b) (k .buffer))
+      | yes e ↦ rw e (by-open h r (k .caller) me free (k .a) (k .b) (k .c) (k .buffer))
       | no m ↦ λ ok. by-clearing h r (all-map (clears h r k n m) (words-written h r st k me ok)) free (keeps h r st k me (none-holds (ruleOf h r st k .refusals) ok) .fine)
     ]
   ]

@@ -57,7 +57,7 @@ two-slots = (1 ∷ 1 ∷ 0 ∷ 2 ∷ 1 ∷ 0 ∷ 0 ∷ 0 ∷ []) ++ (0 ∷ 0 ∷
 
 abbrev pub first-worn : State
 first-worn = record {
-  table = write two-slots (setUpTable (two-slots ++ replicate 128 0) 1024) ((at file 0 serial ≔ maxSerial) ∷ []);
+  table = write two-slots (setUpTable (two-slots ++ replicate 130 0) 1024) ((at file 0 serial ≔ maxSerial) ∷ []);
   store = replicate 1024 0;
 }
 

@@ -10,13 +10,13 @@ use lib.ListN.{length, getD, replicate, length-replicate, getD-replicate, length
 use lib.Seq.{length-take-le, getD-append-add, take-at}
 use borrow.Author.Tests.{ne-eqb}
 use Rattle.rules.specs.Claim.{Holds}
-use Rattle.rules.specs.Layout.{maxOwner, process, configurationWords, cells, slots, cellOwner, cellGroup, configuration, firstSlot, Addr, at, offset, Valid, rd, tableWords, live, serial, owner, group, parent, entries, bits}
+use Rattle.rules.specs.Layout.{maxOwner, process, configurationWords, cells, subtypes, slots, cellOwner, cellGroup, configuration, firstSlot, Addr, at, offset, Valid, rd, tableWords, live, serial, owner, group, parent, entries, bits}
 use Rattle.rules.specs.WellFormed.{parentOk, ownEntries, ownEntry, lengthsExact, recordsOk, wellFormed}
 use Rattle.rules.specs.Rule.{Word, _≔_, over}
 use Rattle.rules.specs.SetUp.{firstBits, canSetUp, firstProcesses, freshTable, setUpTable}
 use Rattle.laws.proofs.Claims.{tested}
 use Rattle.laws.proofs.Below.{sum-zero, count-none}
-use Rattle.laws.proofs.Places.{conf-cells, offset-ge, offset-lt}
+use Rattle.laws.proofs.Places.{conf-cells, conf-subtypes, offset-ge, offset-lt}
 use Rattle.laws.proofs.Cells.{first-next, first-grows, run-end}
 use Rattle.laws.proofs.Shape.{Shape, shape-of}
 use Rattle.laws.proofs.Written.{AllOf, nil, over-append, over-same, rd-write, conf-write, length-write}
@@ -137,10 +137,11 @@ module _ (h : List ℕ) (exact : length h ≡ configurationWords h) where
   zeroed-length = omega (arith, length-append h (replicate (tableWords h - length h) 0), length-replicate {A = ℕ} (tableWords h - length h) 0)
 
   zeroed-configuration : configuration (zeroed h) ≡ h
-  unfolding configuration cells
+  unfolding configuration cells subtypes
   zeroed-configuration =
       let c : getD (zeroed h) 0 0 ≡ getD h 0 0 = List·getD-append h (replicate (tableWords h - length h) 0) 0 0 (omega arith) in
-      rw c (take-at h (replicate (tableWords h - length h) 0) _ exact)
+      let n : getD (zeroed h) 6 0 ≡ getD h 6 0 = List·getD-append h (replicate (tableWords h - length h) 0) 0 6 (omega arith) in
+      rw (c, n) (take-at h (replicate (tableWords h - length h) 0) _ exact)
 
   -- every word of a record is zero
   zeroed-word : (a : Addr) → Valid h a → rd h (zeroed h) a ≡ 0
@@ -179,7 +180,7 @@ unfolding configuration
 taken-length t l = length-take-le (configurationWords t) t l
 
 whole-configuration : (t : List ℕ) → length t ≡ tableWords (configuration t) → length (configuration t) ≡ configurationWords (configuration t)
-whole-configuration t e = rw (conf-cells t) (taken-length t (omega (arith, conf-cells t)))
+whole-configuration t e = rw (conf-cells t, conf-subtypes t) (taken-length t (omega (arith, conf-cells t, conf-subtypes t)))
 
 pub configured-shape : (t : List ℕ) (m : ℕ) → Holds (canSetUp t m) → Shape (configuration t)
 unfolding canSetUp

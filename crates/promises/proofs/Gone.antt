@@ -1,6 +1,6 @@
 -- An identifier once gone stays gone: a seid that names nothing, of a serial that its slot has reached, names nothing after any run of calls, whatever has come
 -- into its slot since (`gone-for-good`); and no call that is given it, by itself or by an entry that holds it, reaches what is in that slot (`never-reached`).
--- Every seid that named an object once, and every seid that an entry holds, is of such a serial (`named-once`, `held-once`).
+-- Every seid that named an object once, and every object's seid that an entry holds, is of such a serial (`named-once`, `held-once`).
 use mathlib.Core.Path.{_≡_, refl, sym, ap, _∙_}
 use mathlib.Core.Bool.{true, false}
 use mathlib.Core.List.{List, [], _∷_}
@@ -16,7 +16,9 @@ use Rattle.rules.specs.Call15.{post}
 use Rattle.rules.specs.Step.{State, Call, step, next, run, ruleOf}
 use Rattle.laws.proofs.Tests.{passed, both-ways, split, refuted}
 use Rattle.laws.proofs.Seids.{class-some, class-pos, class-inj, is-formed, is-present, present-is}
+use Rattle.laws.proofs.Shape as shape
 use Rattle.laws.proofs.Shape.{good-of, words-some}
+use Rattle.laws.proofs.Subtypes.{names-none}
 use Rattle.laws.proofs.Written.{AllOf, all-map, over-either}
 use Rattle.laws.proofs.Object.{Object}
 use Rattle.laws.proofs.Refusals.{Clear}
@@ -162,10 +164,10 @@ named-once s w j v form here between gone =
       absent = gone;
     }
 
--- what an entry holds, and names nothing
+-- what an entry holds, if that is no subtype, and names nothing
 pub held-once : (s : State) → Well s → (j : Kind) → Object j → (p d : ℕ) → p < slots (configuration (s .table)) process → d < entries
     → let v : ℕ = rd (configuration (s .table)) (s .table) (at process p (heldAt j d)) in
-    (v ≡ 0 → ⊥) → present (rd (configuration (s .table)) (s .table)) j v ≡ false → Gone s j v
+    shape.Object j v → present (rd (configuration (s .table)) (s .table)) j v ≡ false → Gone s j v
 held-once s w j o p d pl dl some gone =
     let x = fine-of _ _ (good-of (s .table) (length (s .store)) w .records) .entry j o p d pl dl .held some in
     record { well = w; form = x .form; reached = x .serial-known; absent = gone }
@@ -204,7 +206,7 @@ unreached s j v g =
     let refuses : (k : Call) → (step s k .answered .error ≡ XOK → ⊥) → (step s k .answered .error ≡ XOK → ⊥) × Untouched s k (step s k) =
     λ k n. (n, refused s k n) in
     record {
-      by-seid = λ k e t. refuses k (stale-seid s k t (λ l y. rw (itself k e) (λ z. as-any l z)));
+      by-seid = λ k e t. refuses k (stale-seid s k t (λ c. rw (itself k e) (names-none h j v (f .class-is))) (λ l y. rw (itself k e) (λ z. as-any l z)));
       by-post = λ k e c. split _ (formed h process v)
           (λ y. stale-post s k c (rw (itself k e) (as-any process y)) .1)
           (λ n. refused s k (λ ok. both-ways (formed h process v) (rw (itself k e) at (to-form s k c ok)) n));

@@ -5,20 +5,24 @@ use mathlib.Core.List.{List, [], _∷_, _++_}
 use Prim.Native.Nat.{ℕ, _+_, _-_, _*_}
 use lib.ListN.{set, replicate}
 use Rattle.rules.specs.Claim.{test}
-use Rattle.rules.specs.Layout.{headerWords, cellWords, process, segment, file, recordWords, Addr, at, live, serial, owner, group, parent, queue, zero7, heldAt, usedAt, messageAt, pageAt, bits, sharable, size, references, opens}
-use Rattle.rules.specs.Seid.{class, seid}
+use Rattle.rules.specs.Layout.{headerWords, cellWords, process, segment, file, recordWords, Addr, at, live, serial, owner, group, parent, queue, zero7, heldAt, usedAt, messageAt, pageAt, bits, sharable, size, references, opens, subtype}
+use Rattle.rules.specs.Seid.{class, subtypeClass, seid}
 use Rattle.rules.specs.Modes.{clash}
-use Rattle.rules.specs.WellFormed.{headerOk, wellFormed}
+use Rattle.rules.specs.WellFormed.{headerOk, configured, wellFormed}
 use Rattle.rules.specs.Rule.{Word, _≔_, write}
 use Rattle.rules.specs.SetUp.{setUpTable}
 use Rattle.promises.proofs.Opened.{open-table, open-set-up}
 
--- two cells of security 1 and 3, with a process and a file slot each, and a segment slot in the first; B 1
-abbrev conf : List ℕ
-conf =
-    (2 ∷ 2 ∷ 1 ∷ 2 ∷ 1 ∷ 0 ∷ 0 ∷ 0 ∷ [])
+-- two cells of security 1 and 3, with a process and a file slot each, and a segment slot in the first; B 1; a subtype of each cell, or of the cells c and d
+abbrev subtyped : ℕ → ℕ → List ℕ
+subtyped c d =
+    (2 ∷ 2 ∷ 1 ∷ 2 ∷ 1 ∷ 0 ∷ 2 ∷ 0 ∷ [])
     ++ ((1 ∷ 0 ∷ 0 ∷ 1 ∷ 1 ∷ 1 ∷ 7 ∷ 9 ∷ [])
-    ++ (3 ∷ 0 ∷ 0 ∷ 1 ∷ 0 ∷ 1 ∷ 8 ∷ 9 ∷ []))
+    ++ ((3 ∷ 0 ∷ 0 ∷ 1 ∷ 0 ∷ 1 ∷ 8 ∷ 9 ∷ [])
+    ++ ((c ∷ 7 ∷ 9 ∷ 438 ∷ []) ++ (d ∷ 8 ∷ 9 ∷ 438 ∷ []))))
+
+abbrev conf : List ℕ
+conf = subtyped 0 1
 
 -- its store, and words that are to be a table of it
 abbrev bytes : ℕ
@@ -37,15 +41,23 @@ shared = seid (class segment) 0 1
 abbrev opened : ℕ
 opened = seid (class file) 0 2
 
--- in use: the first process holds the segment and, to write, the file; the second holds the file to read, and has a message from the first
+-- the subtypes
+abbrev low : ℕ
+low = seid subtypeClass 0 1
+
+abbrev high : ℕ
+high = seid subtypeClass 1 1
+
+-- in use: the first process holds the segment and, to write, the file and its subtype; the second holds both to read, and has a message from the first
 abbrev inUse : List Word
 inUse =
     (at file 0 live ≔ 1) ∷ (at file 0 serial ≔ 2) ∷ (at file 0 owner ≔ 7) ∷ (at file 0 group ≔ 9) ∷ (at file 0 (bits file) ≔ 420) ∷ (at file 0 size ≔ 1)
-    ∷ (at file 0 opens ≔ 1) ∷ (at process 0 (heldAt file 0) ≔ opened) ∷ (at process 0 (usedAt file 0) ≔ 3)
+    ∷ (at file 0 opens ≔ 1) ∷ (at file 0 subtype ≔ low) ∷ (at process 0 (heldAt file 0) ≔ opened) ∷ (at process 0 (usedAt file 0) ≔ 3)
     ∷ (at segment 0 live ≔ 1) ∷ (at segment 0 serial ≔ 1) ∷ (at segment 0 owner ≔ 7) ∷ (at segment 0 group ≔ 9) ∷ (at segment 0 (bits segment) ≔ 384)
     ∷ (at segment 0 sharable ≔ 1) ∷ (at segment 0 size ≔ 512) ∷ (at segment 0 references ≔ 1)
     ∷ (at process 0 (heldAt segment 3) ≔ shared) ∷ (at process 0 (usedAt segment 3) ≔ 384)
     ∷ (at process 1 (heldAt file 5) ≔ opened) ∷ (at process 1 (usedAt file 5) ≔ 1)
+    ∷ (at process 0 (heldAt file 4) ≔ low) ∷ (at process 0 (usedAt file 4) ≔ 3) ∷ (at process 1 (heldAt file 6) ≔ low) ∷ (at process 1 (usedAt file 6) ≔ 1)
     ∷ (at process 1 queue ≔ 1) ∷ (at process 1 (messageAt 0 0) ≔ sender) ∷ (at process 1 (messageAt 0 1) ≔ 17)
     ∷ []
 
@@ -104,6 +116,26 @@ pub record Judged : Type 0 where
   -- the guard word names one of the two cells, or none
   pub guard-last : right (butGuard 2) ≡ true
   pub guard-past : right (butGuard 3) ≡ false
+  -- a file may have no subtype, and has none but one of its cell that there is; a free record has none
+  pub no-subtype : right (but (at file 0 subtype) 0) ≡ true
+  pub subtype-across : right (but (at file 0 subtype) high) ≡ false
+  pub subtype-past : right (but (at file 0 subtype) (seid subtypeClass 2 1)) ≡ false
+  pub subtype-serial : right (but (at file 0 subtype) (low + 1)) ≡ false
+  pub subtype-file : right (but (at file 0 subtype) opened) ≡ false
+  pub free-subtype : right (but (at file 1 subtype) high) ≡ false
+  -- a subtype obeys the same levels, and only descriptors hold one
+  pub subtype-from-above : right (but (at process 0 (heldAt file 4)) high) ≡ false
+  pub subtype-write-across : right (but (at process 1 (usedAt file 6)) 3) ≡ false
+  pub subtype-own : right (but (at process 1 (heldAt file 6)) high) ≡ true
+  pub subtype-modes : right (but (at process 0 (usedAt file 4)) 9) ≡ false
+  pub subtype-designated : right (but (at process 0 (heldAt segment 3)) low) ≡ false
+  -- the subtypes' cells never fall, and are cells
+  pub cells-level : test (configured (subtyped 1 1)) ≡ true
+  pub cells-fall : test (configured (subtyped 1 0)) ≡ false
+  pub cell-past : test (configured (subtyped 0 2)) ≡ false
+  -- there are 16 at the most
+  pub subtypes : test (headerOk (2 ∷ 2 ∷ 1 ∷ 2 ∷ 1 ∷ 0 ∷ 16 ∷ 0 ∷ [])) ≡ true
+  pub subtypes-over : test (headerOk (2 ∷ 2 ∷ 1 ∷ 2 ∷ 1 ∷ 0 ∷ 17 ∷ 0 ∷ [])) ≡ false
   -- a hall has 256 slots of a kind at the most
   pub hall : test (headerOk (16 ∷ 256 ∷ 256 ∷ 256 ∷ 64 ∷ 0 ∷ 0 ∷ 0 ∷ [])) ≡ true
   pub hall-over : test (headerOk (16 ∷ 256 ∷ 256 ∷ 257 ∷ 64 ∷ 0 ∷ 0 ∷ 0 ∷ [])) ≡ false
@@ -139,6 +171,22 @@ judged =
       no-flow = refl;
       guard-last = refl;
       guard-past = refl;
+      no-subtype = refl;
+      subtype-across = refl;
+      subtype-past = refl;
+      subtype-serial = refl;
+      subtype-file = refl;
+      free-subtype = refl;
+      subtype-from-above = refl;
+      subtype-write-across = refl;
+      subtype-own = refl;
+      subtype-modes = refl;
+      subtype-designated = refl;
+      cells-level = refl;
+      cells-fall = refl;
+      cell-past = refl;
+      subtypes = refl;
+      subtypes-over = refl;
       hall = refl;
       hall-over = refl;
       word-too-many = refl;

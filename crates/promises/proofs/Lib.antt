@@ -15,7 +15,9 @@ pub mod Judged
 pub mod Released
 pub mod Wear
 pub mod Map
+pub mod Surviving
 pub mod Shared
+pub mod Subtyped
 pub mod Regraded
 pub mod Single
 pub mod Clash

@@ -19,10 +19,10 @@ abbrev pub lines : List String → List ℕ
 lines [] = []
 lines (s ∷ ss) = ascii s ++ (newline ++ lines ss)
 
--- "Two cells, security 1 and 3, integrity, compartments, owner and group 0, two process and two file slots each, no segment slots, B 1." (02, CR 9: no guard cell.)
+-- "Two cells, security 1 and 3, integrity, compartments, owner and group 0, two process and two file slots each, no segment slots, B 1." (02, CR 9: no guard cell; CR 11: no subtypes.)
 abbrev pub configuration-bytes : List ℕ
 configuration-bytes =
-    numbers (2 ∷ 4 ∷ 0 ∷ 4 ∷ 1 ∷ 0 ∷ [])
+    numbers (2 ∷ 4 ∷ 0 ∷ 4 ∷ 1 ∷ 0 ∷ 0 ∷ [])
     ++ (numbers (1 ∷ 0 ∷ 0 ∷ 2 ∷ 0 ∷ 2 ∷ 0 ∷ 0 ∷ [])
     ++ numbers (3 ∷ 0 ∷ 0 ∷ 2 ∷ 0 ∷ 2 ∷ 0 ∷ 0 ∷ []))
 

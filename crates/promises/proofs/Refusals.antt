@@ -21,7 +21,7 @@ use Rattle.rules.specs.Call04.{rendezvous}
 use Rattle.rules.specs.Call05.{releaseSegment}
 use Rattle.rules.specs.Call06.{setAccess}
 use Rattle.rules.specs.Call07.{create}
-use Rattle.rules.specs.Call08.{openFile}
+use Rattle.rules.specs.Call08.{openFile, openSubtype}
 use Rattle.rules.specs.Call09.{close}
 use Rattle.rules.specs.Call10.{link}
 use Rattle.rules.specs.Call11.{unlink}
@@ -38,6 +38,7 @@ use Rattle.laws.proofs.Tests.{cond-true, cond-false, cond-both, split}
 use Rattle.laws.proofs.Claims.{tested}
 use Rattle.laws.proofs.Refusals.{Clear, numbered, clear}
 use Rattle.kept.proofs.Keep12.{bits-numbered}
+use Rattle.laws.proofs.Subtypes.{by-opened}
 use Rattle.laws.proofs.Codes.{by-code, by-bits, by-status}
 
 -- the refusals of a call in their order, those of all calls first; and what it does where none of them holds
@@ -121,7 +122,7 @@ module _ (s : State) (k : Call) where
 
   -- every refusal has a number
   all-numbered : numbered (refusals s k) ≡ true
-  unfolding wholeRule spawn releaseProcess buildSegment rendezvous releaseSegment setAccess create openFile close link unlink readBlock writeBlock post receive accessOf remap pageAccess regrade
+  unfolding wholeRule spawn releaseProcess buildSegment rendezvous releaseSegment setAccess create openFile openSubtype close link unlink readBlock writeBlock post receive accessOf remap pageAccess regrade
   all-numbered =
       let P : Rule → Type 0 = λ x. numbered (x .refusals) ≡ true in
       by-code conf k (λ f. P (f reading (s .store))) (record {
@@ -132,7 +133,7 @@ module _ (s : State) (k : Call) where
         call-5 = λ e. refl;
         call-6 = λ e. refl;
         call-7 = λ e. refl;
-        call-8 = λ e. refl;
+        call-8 = λ e. by-opened conf reading (k .caller) (k .a) (k .b) (k .c) (k .buffer) P (λ t. refl) (λ t. refl);
         call-9 = λ e. refl;
         call-10 = λ e. refl;
         call-11 = λ e. refl;
@@ -164,7 +165,7 @@ module _ (s : State) (k : Call) where
   -- ---- the buffer
 
   own-buffer : (k .code ≡ 13 → ⊥) → (k .code ≡ 16 → ⊥) → (k .code ≡ 17 → ⊥) → effects s k .buffer ≡ k .buffer
-  unfolding wholeRule spawn releaseProcess buildSegment rendezvous releaseSegment setAccess create openFile close link unlink writeBlock post accessOf remap pageAccess regrade
+  unfolding wholeRule spawn releaseProcess buildSegment rendezvous releaseSegment setAccess create openFile openSubtype close link unlink writeBlock post accessOf remap pageAccess regrade
   own-buffer a b c =
       let P : Rule → Type 0 = λ x. x .effects .buffer ≡ k .buffer in
       by-code conf k (λ f. P (f reading (s .store))) (record {
@@ -175,7 +176,7 @@ module _ (s : State) (k : Call) where
         call-5 = λ e. refl;
         call-6 = λ e. refl;
         call-7 = λ e. refl;
-        call-8 = λ e. refl;
+        call-8 = λ e. by-opened conf reading (k .caller) (k .a) (k .b) (k .c) (k .buffer) P (λ t. refl) (λ t. refl);
         call-9 = λ e. refl;
         call-10 = λ e. refl;
         call-11 = λ e. refl;

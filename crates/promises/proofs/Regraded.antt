@@ -8,9 +8,9 @@ use native.Mathlib.Nat.{mul-le-mul-right}
 use lib.Dec.{ltb, leb}
 use lib.ListN.{length, getD, drop, length-take, length-drop}
 use lib.Seq.{sets, getD-take, getD-drop}
-use borrow.Author.Tests.{leb-false, eqb-false, lt-leb, eq-eqb}
+use borrow.Author.Tests.{leb-false, lt-leb, eq-eqb}
 use Rattle.rules.specs.Words.{part, word2}
-use Rattle.rules.specs.Layout.{maxBits, process, file, recordWords, blockBytes, cells, slots, blocks, configuration, cellOf, stretch, storeBytes, Addr, at, rd, live, serial, owner, group, entries, heldAt, bits, links, size, opens}
+use Rattle.rules.specs.Layout.{maxBits, process, file, recordWords, blockBytes, cells, slots, blocks, configuration, cellOf, stretch, storeBytes, Addr, at, rd, live, serial, owner, group, heldAt, bits, links, size, opens, subtype}
 use Rattle.rules.specs.Seid.{class, seid, indexOf}
 use Rattle.rules.specs.WellFormed.{wellFormed}
 use Rattle.rules.specs.Errors.{XOK, XnoSPriv}
@@ -19,18 +19,18 @@ use Rattle.rules.specs.Find.{freeSlot}
 use Rattle.rules.specs.Copy.{Copy}
 use Rattle.rules.specs.Call21.{inGuard, contents, carried, regraded, regrade}
 use Rattle.rules.specs.Step.{State, Call, step, next, regradeCode, badCaller, badCode, ruleOf, wholeRule}
-use Rattle.laws.proofs.Tests.{or-left, passed}
+use Rattle.laws.proofs.Tests.{or-left}
 use Rattle.laws.proofs.Claims.{tested}
-use Rattle.laws.proofs.Seids.{is-formed, is-present}
 use Rattle.laws.proofs.Shape.{good-of, file-record}
 use Rattle.laws.proofs.Slots.{FreeSlot, free-slot}
 use Rattle.laws.proofs.Stored.{sets-out, sets-in, stretch-apart}
 use Rattle.laws.proofs.Refusals.{Clear}
 use Rattle.kept.proofs.Records.{elsewhere}
+use Rattle.kept.proofs.Found.{Found, found-held}
 use Rattle.kept.proofs.Keep21.{regraded-in, regraded-word}
 use Rattle.kept.proofs.Kept.{Well, conf-kept}
 use Rattle.promises.proofs.Refusals.{answered, own, own-clear, done}
-use Rattle.promises.proofs.After.{its-caller, read-after}
+use Rattle.promises.proofs.After.{read-after}
 
 abbrev pub wordOf : State → ℕ → ℕ → ℕ
 wordOf s f n = rd (configuration (s .table)) (s .table) (at file f n)
@@ -91,7 +91,7 @@ module _ (s : State) (k : Call) (w : Well s) (code : k .code ≡ regradeCode) (o
   unfolding regrade
   after f n l m = rw (conf-kept s k w) (read-after s k w ok (at file f n) (l, m) ∙ ap (λ (x : Rule). over r (x .effects .words) (at file f n)) its-rule)
 
-  -- "owner and group from a 4-byte buffer, high bytes first, links 1, opens 0"; "Size and blocks come across"
+  -- "owner and group from a 4-byte buffer, high bytes first, links 1, opens 0"; "Size and blocks come across"; CR 11: "a regraded copy has none", no subtype
   pub record Copied : Type 0 where
     pub lives : wordOf (next s k) copied live ≡ 1
     pub used : wordOf (next s k) copied serial ≡ wordOf s copied serial + 1
@@ -101,12 +101,14 @@ module _ (s : State) (k : Call) (w : Well s) (code : k .code ≡ regradeCode) (o
     pub its-links : wordOf (next s k) copied links ≡ 1
     pub its-size : wordOf (next s k) copied size ≡ wordOf s source size
     pub its-opens : wordOf (next s k) copied opens ≡ 0
+    pub its-subtype : wordOf (next s k) copied subtype ≡ 0
 
   pub words-copied : Copied
   unfolding carried
   words-copied =
       let word : (n : ℕ) → n < recordWords file → wordOf (next s k) copied n ≡ _ = λ n l. after copied n (room .in-range) l
       ∙ regraded-word r brought copied (r (at file copied serial) + 1) n in
+      let unused = file-record h r (good-of (s .table) (length (s .store)) w .records) copied (room .in-range) .free (room .is-free) in
       record {
         lives = word live (omega arith);
         used = word serial (omega arith);
@@ -116,6 +118,7 @@ module _ (s : State) (k : Call) (w : Well s) (code : k .code ≡ regradeCode) (o
         its-links = word links (omega arith);
         its-size = word size (omega arith);
         its-opens = word opens (omega arith);
+        its-subtype = word subtype (omega arith) ∙ unused subtype (omega arith) (omega arith);
       }
 
   -- every other file's record is as it was
@@ -123,9 +126,12 @@ module _ (s : State) (k : Call) (w : Well s) (code : k .code ≡ regradeCode) (o
   others-stay f n l m d = after f n l m ∙ elsewhere file copied (regraded-in brought copied (r (at file copied serial) + 1)) r file f n (λ e. d)
 
   -- the source lives, so it is another
-  source-lives : wordOf s source live ≡ 1
+  source-found : Found h r file (r (at process (k .caller) (heldAt file (k .a))))
   unfolding regrade
-  source-lives = is-present r file _ (passed _ (clear .1 .1 .1 .1 .1 .1 .0)) .is-live
+  source-found = found-held h r file _ (clear .1 .1 .1 .1 .1 .1 .0)
+
+  source-lives : wordOf s source live ≡ 1
+  source-lives = source-found .here .is-live
 
   pub source-apart : source ≡ copied → ⊥
   source-apart e = omega (arith, source-lives, room .is-free, ap (λ (f : ℕ). r (at file f live)) e)
@@ -137,11 +143,7 @@ module _ (s : State) (k : Call) (w : Well s) (code : k .code ≡ regradeCode) (o
   stored = done s k ok .store ∙ ap (λ (x : Rule). store h (s .store) (x .effects .bytes)) its-rule
 
   source-in : source < slots h file
-  unfolding regrade
-  source-in =
-      let me = its-caller s k w ok in
-      is-formed _ _ _ (me .fine .entry file tt (k .caller) (k .a) (me .in-range) (leb-false entries (k .a) (clear .1 .1 .1 .0)) .held
-      (eqb-false _ 0 (clear .1 .1 .1 .1 .0)) .form) .index-in
+  source-in = source-found .parts .index-in
 
   size-fits : wordOf s source size ≤ blocks h
   size-fits = file-record h r (good-of (s .table) (length (s .store)) w .records) source source-in .alive source-lives .size-fits

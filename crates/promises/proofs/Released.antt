@@ -1,7 +1,7 @@
 -- Releasing a process gives up all that it holds, whether that names anything or not: it succeeds whatever the entries hold, every entry is empty afterwards, and
 -- the objects that it touches are those of its own cell that an entry names. So a stale entry given up by 2, as by 5 and 9, touches nothing.
 use mathlib.Core.Path.{_≡_, refl, sym, ap, _∙_}
-use mathlib.Core.Bool.{true}
+use mathlib.Core.Bool.{true, _&&_}
 use mathlib.Core.List.{List, _++_}
 use Prim.Native.Nat.{ℕ, zero, suc, _≤_, _<_}
 use native.Mathlib.Omega.{arith}
@@ -16,7 +16,8 @@ use Rattle.rules.specs.Find.{inOwnCell, pageLeft, pagesSet, pagesCleared, empti
 use Rattle.rules.specs.Call02.{dropped, droppedTo, released, releaseProcess}
 use Rattle.rules.specs.Step.{State, Call, step, next, badCode, ruleOf, wholeRule}
 use Rattle.laws.proofs.Seids.{index-small, is-formed, present-is}
-use Rattle.laws.proofs.Shape.{good-of}
+use Rattle.laws.proofs.Tests.{and-left, and-right}
+use Rattle.laws.proofs.Shape.{good-of, formed-object}
 use Rattle.laws.proofs.Written.{AllOf, nil, also, all-append, all-if, all-map, all-tab, over-append, over-miss}
 use Rattle.laws.proofs.Object.{Object, no-process}
 use Rattle.kept.proofs.Fine.{fine-of}
@@ -30,6 +31,7 @@ use Rattle.promises.proofs.Stale.{given}
 -- process q holds object i by entry d: one of its own cell, which the entry names
 pub record HoldsBy (h : List ℕ) (r : Addr → ℕ) (q : ℕ) (j : Kind) (i d : ℕ) : Type 0 where
   pub some : r (at process q (heldAt j d)) ≡ 0 → ⊥
+  pub form : formed h j (r (at process q (heldAt j d))) ≡ true
   pub own-cell : inOwnCell h q j (r (at process q (heldAt j d))) ≡ true
   pub names : present r j (r (at process q (heldAt j d))) ≡ true
   pub slot : indexOf (r (at process q (heldAt j d))) ≡ i
@@ -52,7 +54,8 @@ module _ (h : List ℕ) (q : ℕ) where
 -- entry d, by what r says that it holds, does not hold object i in the own cell
 abbrev Other : List ℕ → ℕ → Kind → ℕ → (Addr → ℕ) → Kind → ℕ → Type 0
 Other h q j i r k d =
-    (r (at process q (heldAt k d)) ≡ 0 → ⊥) → inOwnCell h q k (r (at process q (heldAt k d))) ≡ true → k ≡ j → indexOf (r (at process q (heldAt k d))) ≡ i → ⊥
+    (r (at process q (heldAt k d)) ≡ 0 → ⊥) → formed h k (r (at process q (heldAt k d))) ≡ true → inOwnCell h q k (r (at process q (heldAt k d))) ≡ true → k ≡ j
+    → indexOf (r (at process q (heldAt k d))) ≡ i → ⊥
 
 module _ (h : List ℕ) (q : ℕ) (j : Kind) (o : Object j) (i : ℕ) where
   -- of the processes, words of q past its serial alone, and below b or pages; of the objects, not object i
@@ -87,9 +90,9 @@ module _ (h : List ℕ) (q : ℕ) (j : Kind) (o : Object j) (i : ℕ) where
         all-if _ (eqb v 0) _ _ (λ e. nil) (λ e. all-append _ (of-cleared _ r k d) (all-append _
         (also (λ x. (refl, l .0, λ m. omega (arith, l .1, l .2)), λ x y. no-process j o (sym x))
         (also (λ x. (refl, omega (arith, l .0, l .1), λ m. l .2), λ x y. no-process j o (sym x)) nil))
-        (all-if _ (inOwnCell h q k v) _ _
-        (λ mine. all-map
-        (λ x w. (λ f. absurd (no-process k ok (sym (w .0) ∙ f)), λ f g. other (eqb-false v 0 e) mine (sym (w .0) ∙ f) (sym (w .1) ∙ g)))
+        (all-if _ (formed h k v && inOwnCell h q k v) _ _
+        (λ t. let form = and-left (formed h k v) (inOwnCell h q k v) t in let mine = and-right (formed h k v) (inOwnCell h q k v) t in all-map
+        (λ x w. (λ f. absurd (no-process k ok (sym (w .0) ∙ f)), λ f g. other (eqb-false v 0 e) form mine (sym (w .0) ∙ f) (sym (w .1) ∙ g)))
         (less-in r k ok (indexOf v)))
         (λ theirs. nil))))
 
@@ -131,7 +134,7 @@ module _ (h : List ℕ) (r : Addr → ℕ) (q : ℕ) where
 
   -- no index is so high: what is so of any object's words is so of the processes'
   nobody : (k : Kind) (d : ℕ) → d < entries → Other h q file 256 r k d
-  nobody k d l some mine e f = omega (arith, index-small (r (at process q (heldAt k d))))
+  nobody k d l some form mine e f = omega (arith, index-small (r (at process q (heldAt k d))))
 
   process-spared : (p : ℕ) → (p ≡ q → ⊥) → (w : ℕ) → over r (released h r q) (at process p w) ≡ r (at process p w)
   process-spared p n w =
@@ -182,16 +185,18 @@ module _ (s : State) (k : Call) (w : Well s) (is-release : k .code ≡ 2) where
   -- in a well-formed table an entry of the own cell names its object
   not-held : q < slots h process → (j : Kind) → Object j → (i : ℕ) → ((d : ℕ) → d < entries → HoldsBy h r q j i d → ⊥)
       → (g : Kind) (d : ℕ) → d < entries → Other h q j i r g d
-  not-held ql j o i none g d l = by-kind (λ g. Other h q j i r g d) j (λ some mine e f.
+  not-held ql j o i none g d l = by-kind (λ g. Other h q j i r g d) j (λ some form mine e f.
+      let n = formed-object h j _ form in
       let x = fine-of h r (good-of (s .table) (length (s .store)) w .records) .entry j o q d ql l in
       let c = eqb-true _ _ mine in
       none d l (record {
         some = some;
+        form = form;
         own-cell = mine;
-        names = present-is r j _ (record { is-live = x .current-live some c; same-serial = x .current-serial some c });
+        names = present-is r j _ (record { is-live = x .current-live n c; same-serial = x .current-serial n c });
         slot = f;
       }))
-      (λ g n some mine e f. n e) g
+      (λ g n some form mine e f. n e) g
 
   -- a live caller may release what is its owner's in its cell, whatever that holds
   pub all-released : k .caller < slots h process → r (at process (k .caller) live) ≡ 1 → formed h process (given s k) ≡ true

@@ -37,7 +37,7 @@ formed = holds (wellFormed (first-worn .table) (length (first-worn .store))) ref
 
 small : Words (first-worn .table)
 unfolding open-table open-set-up
-small i l = ltb-true _ _ (all-at 144 (λ i. ltb (getD (first-worn .table) i 0) (2 ^ 32)) refl i l)
+small i l = ltb-true _ _ (all-at 146 (λ i. ltb (getD (first-worn .table) i 0) (2 ^ 32)) refl i l)
 
 -- room for the image, and no more
 abbrev room : List ℕ

@@ -1,40 +1,39 @@
 -- 02, CR 7, "Shared segments are fixed": call 12 on a sharable segment is refused with 33, after 14 (`refused-shared`, `owner-first`); and in every run, the bits of a
 -- segment that is sharable never change while it lives (`fixed`, at the end).
 use mathlib.Core.Path.{_≡_, refl, sym, ap, _∙_}
-use mathlib.Core.Bool.{true, _&&_, not}
-use mathlib.Core.List.{List, [], _∷_, _++_}
-use Prim.Native.Nat.{ℕ, zero, suc, _-_, _≤_, _<_}
+use mathlib.Core.Bool.{true, not}
+use mathlib.Core.List.{List, [], _∷_}
+use Prim.Native.Nat.{ℕ, _≤_, _<_}
 use native.Mathlib.Omega.{arith}
 use native.Mathlib.Decide.{ℕ-discrete}
 use lib.Dec.{eqb}
 use lib.ListN.{length}
 use borrow.Author.Tests.{eqb-true, eq-eqb, ne-eqb, lt-leb, le-ltb}
 use Rattle.rules.specs.Claim.{Holds, test}
-use Rattle.rules.specs.Layout.{maxBits, Kind, process, segment, file, slots, configuration, Addr, at, rd, live, serial, owner, entries, heldAt, bits, sharable, holders}
+use Rattle.rules.specs.Layout.{maxBits, Kind, process, segment, file, slots, configuration, Addr, at, rd, live, serial, owner, heldAt, bits, sharable, holders}
 use Rattle.rules.specs.Seid.{class, indexOf, formed, orSelf, present}
 use Rattle.rules.specs.WellFormed.{wellFormed}
 use Rattle.rules.specs.Errors.{XOK, XnoOwner, XshSg}
 use Rattle.rules.specs.Rule.{_⇒_, firstRefusal, Word, _≔_, over}
-use Rattle.rules.specs.Find.{inOwnCell, entered, freed, kept as staysLinked, oneLess, pagesCleared, emptied, givenUp}
-use Rattle.rules.specs.Call02.{dropped, droppedTo, released, releaseProcess}
+use Rattle.rules.specs.Find.{inOwnCell}
+use Rattle.rules.specs.Call02.{releaseProcess}
 use Rattle.rules.specs.Call05.{releaseSegment}
 use Rattle.rules.specs.Call12.{isShared, setBitsOf, setBits}
 use Rattle.rules.specs.Step.{State, Call, step, next, run, badCaller, badCode, ruleOf, wholeRule}
-use Rattle.laws.proofs.Tests.{passed, cond-both}
+use Rattle.laws.proofs.Tests.{passed}
 use Rattle.laws.proofs.Claims.{tested}
 use Rattle.laws.proofs.Seids.{is-formed}
-use Rattle.laws.proofs.Written.{AllOf, nil, also, all-map, over-append, over-miss}
+use Rattle.laws.proofs.Written.{AllOf, all-map, over-miss}
 use Rattle.laws.proofs.Object.{Object, no-process}
 use Rattle.laws.proofs.Refusals.{Clear}
 use Rattle.laws.proofs.Slots.{slot-untaken}
-use Rattle.kept.proofs.Records.{InRecord, elsewhere, freed-in, freed-word as freed-is}
 use Rattle.kept.proofs.Made.{object-words}
 use Rattle.kept.proofs.Keeps.{Caller}
-use Rattle.kept.proofs.Pages.{pages-in}
 use Rattle.kept.proofs.Kept.{Well, kept, conf-kept}
 use Rattle.promises.proofs.Refusals.{refusals, answered, own, own-clear, refused}
 use Rattle.promises.proofs.After.{its-caller, read-after}
 use Rattle.promises.proofs.Stale.{for-itself}
+use Rattle.promises.proofs.Surviving.{Survives, survives-given, survives-released}
 use Rattle.promises.proofs.Writes.{Wrote, made, filled, emptied as entry-emptied, paged, counted, freed-word, cleared, linked, sized, set-bits, posted, received, writes}
 
 -- ---- "Call 12 on a sharable segment is to be refused with 33 XshSg, after 14."
@@ -85,8 +84,10 @@ module _ (i : ℕ) where
   Same r q = q (at segment i live) ≡ 1
       → (r (at segment i live) ≡ 1) × (q (at segment i sharable) ≡ r (at segment i sharable)) × (q (at segment i (bits segment)) ≡ r (at segment i (bits segment)))
 
-  same-then : (r : Addr → ℕ) (ws vs : List Word) → Same r (over r ws) → Same (over r ws) (over (over r ws) vs) → Same r (over r (ws ++ vs))
-  same-then r ws vs a b = rw (over-append r ws vs) (λ l. let y = b l in let x = a (y .0) in (x .0, y .1 ∙ x .1, y .2 ∙ x .2))
+  survived : (r : Addr → ℕ) (ws : List Word) → Survives segment tt i r (over r ws) → Same r (over r ws)
+  survived r ws f l =
+      let word : (n : ℕ) → n < holders segment → over r ws (at segment i n) ≡ r (at segment i n) = λ n b. f l n (λ e. omega arith) in
+      (sym (word live (omega arith)) ∙ l, word sharable (omega arith), word (bits segment) (omega arith))
 
   -- words that are none of these three
   abbrev Spares : Word → Type 0
@@ -100,66 +101,8 @@ module _ (i : ℕ) where
   kind-of : (n : ℕ) (x : Word) → at segment i n ≡ x .at → segment ≡ x .at .kind
   kind-of n x e = ap (λ (b : Addr). b .kind) e
 
-  -- a record of another kind
-  in-other : (k : Kind) (m : ℕ) → (k ≡ segment → ⊥) → {ws : List Word} → AllOf (InRecord k m) ws → AllOf Spares ws
-  in-other k m d a = all-map (λ x w n l z e. d (sym (w .0) ∙ sym (kind-of n x e))) a
-
   holders-spare : (k : Kind) → Object k → (m v : ℕ) → Spares (at k m (holders k) ≔ v)
   holders-spare k o m v n l z e = omega (arith, ap (λ (b : Addr). b .word) e, object-words k o .holders-at)
-
-  same-freed : (r : Addr → ℕ) (k : Kind) → Object k → (m : ℕ) → Same r (over r (freed k m))
-  same-freed r process o m = absurd o
-  same-freed r file o m = same-miss r (in-other file m (λ e. omega (arith, ap class e)) (freed-in file m))
-  same-freed r segment o m = elim (ℕ-discrete i m) [
-    | yes e ↦ λ l. absurd (omega (arith, rw e at l, freed-is segment m r live (omega arith) (λ z. omega arith)))
-    | no n ↦ let word : (j : ℕ) → over r (freed segment m) (at segment i j) ≡ r (at segment i j) = λ j. elsewhere segment m (freed-in segment m) r segment i j (λ a b. n b) in
-        λ l. (sym (word live) ∙ l, word sharable, word (bits segment))
-  ]
-
-  same-less : (r q : Addr → ℕ) (k : Kind) → Object k → (m : ℕ) → Same r (over r (oneLess q k m))
-  unfolding oneLess
-  same-less r q k o m = cond-both (λ ws. Same r (over r ws)) (eqb (q (at k m (holders k))) 1 && not (staysLinked q k m)) (freed k m)
-      ((at k m (holders k) ≔ q (at k m (holders k)) - 1) ∷ [])
-      (λ e. same-freed r k o m) (λ e. same-miss r (also (holders-spare k o m (q (at k m (holders k)) - 1)) nil))
-
-  -- (what is written may go by another reading than the one that it is written over)
-  process-spare : (p j v : ℕ) → Spares (at process p j ≔ v)
-  process-spare p j v n l z e = no-process segment tt (kind-of n (at process p j ≔ v) e)
-
-  same-entered : (r : Addr → ℕ) (k : Kind) (p d s u : ℕ) → Same r (over r (entered k p d s u))
-  same-entered r k p d s u = same-miss r (also (process-spare p (heldAt k d) s) (also (process-spare p _ u) nil))
-
-  same-cleared : (r q : Addr → ℕ) (k : Kind) (p d : ℕ) → Same r (over r (pagesCleared q k p d))
-  same-cleared r q process p d = same-miss r nil
-  same-cleared r q segment p d = same-miss r (in-other process p (λ e. no-process segment tt (sym e)) (pages-in p _))
-  same-cleared r q file p d = same-miss r nil
-
-  same-given : (h : List ℕ) (r q : Addr → ℕ) (k : Kind) → Object k → (p d s : ℕ) → Same r (over r (givenUp h q k p d s))
-  unfolding givenUp emptied
-  same-given h r q k o p d s =
-      let gone : List Word = pagesCleared q k p d in
-      let r′ : Addr → ℕ = over r gone in
-      same-then r gone _ (same-cleared r q k p d) (same-then r′ (entered k p d 0 0) _ (same-entered r′ k p d 0 0)
-      (cond-both (λ ws. Same (over r′ (entered k p d 0 0)) (over (over r′ (entered k p d 0 0)) ws)) (inOwnCell h p k s) (oneLess q k (indexOf s)) []
-      (λ e. same-less _ q k o (indexOf s)) (λ e. same-miss _ nil)))
-
-  same-dropped : (h : List ℕ) (r : Addr → ℕ) (k : Kind) → Object k → (p d : ℕ) → Same r (over r (dropped h r k p d))
-  unfolding dropped
-  same-dropped h r k o p d = cond-both (λ ws. Same r (over r ws)) (eqb (r (at process p (heldAt k d))) 0) [] _ (λ e. same-miss r nil) (λ e. same-given h r r k o p d _)
-
-  same-to : (h : List ℕ) (r : Addr → ℕ) (k : Kind) → Object k → (p n : ℕ) → Same r (over r (droppedTo h r k p n))
-  unfolding droppedTo
-  same-to h r k o p zero = same-miss r nil
-  same-to h r k o p (suc n) = same-then r (droppedTo h r k p n) _ (same-to h r k o p n) (same-dropped h (over r (droppedTo h r k p n)) k o p n)
-
-  same-released : (h : List ℕ) (r : Addr → ℕ) (p : ℕ) → Same r (over r (released h r p))
-  unfolding released
-  same-released h r p =
-      let files : List Word = droppedTo h r file p entries in
-      let r′ : Addr → ℕ = over r files in
-      let segments : List Word = droppedTo h r′ segment p entries in
-      same-then r files _ (same-to h r file tt p entries) (same-then r′ segments _ (same-to h r′ segment tt p entries)
-      (same-miss (over r′ segments) (in-other process p (λ e. no-process segment tt (sym e)) (freed-in process p))))
 
 -- ---- every call
 
@@ -191,9 +134,9 @@ module _ (h : List ℕ) (r : Addr → ℕ) (st : List ℕ) (k : Call) (me : Call
   same-after : Clear (ruleOf h r st k .refusals) → Same i r (over r (ruleOf h r st k .effects .words))
   unfolding ruleOf releaseProcess releaseSegment
   same-after ok = elim (ℕ-discrete (k .code) 2) [
-    | yes e ↦ rw e (same-released i h r (indexOf (orSelf r (k .caller) (k .a))))
+    | yes e ↦ rw e (survived i r _ (survives-released segment tt i h r (indexOf (orSelf r (k .caller) (k .a)))))
     | no a ↦ elim (ℕ-discrete (k .code) 5) [
-      | yes e ↦ rw e (same-given i h r r segment tt (k .caller) (k .a) (r (at process (k .caller) (heldAt segment (k .a)))))
+      | yes e ↦ rw e (survived i r _ (survives-given segment tt i h r r segment (k .caller) (k .a) (r (at process (k .caller) (heldAt segment (k .a))))))
       | no b ↦ same-miss i r (all-map (sparing a b) (writes h r st k me ok))
     ]
   ]

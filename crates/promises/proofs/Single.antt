@@ -78,18 +78,18 @@ module _ (h : List ℕ) (r : Addr → ℕ) (k : Call) (me : Caller h r (k .calle
   handed = handed-in cell (in-run h (me .shape) process (k .caller) (me .in-range) .0)
 
   -- an object's serial, where its words are followed by an entry for it
-  object-serial : (j : Kind) → Object j → (i d : ℕ) → d < entries → (s u g b x y v a : ℕ) → over r (made j i s u g b x y ++ entered j (k .caller) d v a) (at j i serial) ≡ s
-  object-serial j o i d l s u g b x y v a =
-      in-first j process i (k .caller) (λ e f. no-process j o (sym e)) (made-in j o i s u g b x y) (entered-in r j o (k .caller) d v a l) r serial
-      ∙ made-word j o i s u g b x y r serial
+  object-serial : (j : Kind) → Object j → (i d : ℕ) → d < entries → (s u g b x y t v a : ℕ) → over r (made j i s u g b x y t ++ entered j (k .caller) d v a) (at j i serial) ≡ s
+  object-serial j o i d l s u g b x y t v a =
+      in-first j process i (k .caller) (λ e f. no-process j o (sym e)) (made-in j o i s u g b x y t) (entered-in r j o (k .caller) d v a l) r serial
+      ∙ made-word j o i s u g b x y t r serial (omega arith)
 
   -- an entry for it, written after it, leaves every other slot as it was
-  object-beside : (j : Kind) → Object j → (i d : ℕ) → d < entries → (s u g b x y v a : ℕ) (l : Kind) (m : ℕ) → (l ≡ j → m ≡ i → ⊥)
-      → over r (made j i s u g b x y ++ entered j (k .caller) d v a) (at l m live) ≡ r (at l m live)
-  object-beside j o i d dl s u g b x y v a l m n =
+  object-beside : (j : Kind) → Object j → (i d : ℕ) → d < entries → (s u g b x y t v a : ℕ) (l : Kind) (m : ℕ) → (l ≡ j → m ≡ i → ⊥)
+      → over r (made j i s u g b x y t ++ entered j (k .caller) d v a) (at l m live) ≡ r (at l m live)
+  object-beside j o i d dl s u g b x y t v a l m n =
       let z = placed j o d dl in
       let entry = over-miss (at l m live) (also (not-live l m (k .caller) (heldAt j d) (omega arith)) (also (not-live l m (k .caller) (usedAt j d) (omega arith)) nil)) in
-      rw (over-append r (made j i s u g b x y) (entered j (k .caller) d v a)) (entry _ ∙ elsewhere j i (made-in j o i s u g b x y) r l m live n)
+      rw (over-append r (made j i s u g b x y t) (entered j (k .caller) d v a)) (entry _ ∙ elsewhere j i (made-in j o i s u g b x y t) r l m live n)
     where
       not-live : (l : Kind) (m p w : ℕ) → live < w → at l m live ≡ at process p w → ⊥
       not-live l m p w low e = let same : live ≡ w = ap (λ (b : Addr). b .word) e in omega arith
@@ -101,12 +101,12 @@ module _ (h : List ℕ) (r : Addr → ℕ) (k : Call) (me : Caller h r (k .calle
       (λ l m. elsewhere process (free process) (spawned-in r (k .caller) (k .a) (k .b) (k .c) (free process) _) r l m live)))
       (λ n. split _ (eqb (k .code) 3)
       (λ e. rw (eqb-true (k .code) 3 e) (λ ok. handed segment _ (ok .1 .1 .1 .0) refl
-      (object-serial segment tt (free segment) (freeEntry r segment (k .caller)) (free-entry r segment (k .caller) (ok .1 .1 .0) .in-record) _ _ _ _ _ _ _ _)
-      (object-beside segment tt (free segment) (freeEntry r segment (k .caller)) (free-entry r segment (k .caller) (ok .1 .1 .0) .in-record) _ _ _ _ _ _ _ _)))
+      (object-serial segment tt (free segment) (freeEntry r segment (k .caller)) (free-entry r segment (k .caller) (ok .1 .1 .0) .in-record) _ _ _ _ _ _ 0 _ _)
+      (object-beside segment tt (free segment) (freeEntry r segment (k .caller)) (free-entry r segment (k .caller) (ok .1 .1 .0) .in-record) _ _ _ _ _ _ 0 _ _)))
       (λ m. split _ (eqb (k .code) 7)
-      (λ e. rw (eqb-true (k .code) 7 e) (λ ok. handed file _ (ok .1 .1 .1 .0) refl
-      (object-serial file tt (free file) (freeEntry r file (k .caller)) (free-entry r file (k .caller) (ok .1 .1 .0) .in-record) _ _ _ _ _ _ _ _)
-      (object-beside file tt (free file) (freeEntry r file (k .caller)) (free-entry r file (k .caller) (ok .1 .1 .0) .in-record) _ _ _ _ _ _ _ _)))
+      (λ e. rw (eqb-true (k .code) 7 e) (λ ok. handed file _ (ok .1 .1 .1 .1 .1 .0) refl
+      (object-serial file tt (free file) (freeEntry r file (k .caller)) (free-entry r file (k .caller) (ok .1 .1 .1 .1 .0) .in-record) _ _ _ _ _ _ _ _ _)
+      (object-beside file tt (free file) (freeEntry r file (k .caller)) (free-entry r file (k .caller) (ok .1 .1 .1 .1 .0) .in-record) _ _ _ _ _ _ _ _ _)))
       (λ o. rw (eqb-true (k .code) regradeCode (or-rest (eqb (k .code) 7) _ (or-rest (eqb (k .code) 3) _ (or-rest (eqb (k .code) 1) _ t n) m) o))
       (λ ok. let x = carried h r st (k .caller) (k .a) (k .b) (k .c) (k .buffer) in
       handed-in (k .b) (leb-false (cells h) (k .b) (or-left (leb (cells h) (k .b)) (ltb maxBits (k .c)) (ok .1 .1 .0))) file _ (ok .1 .1 .1 .1 .1 .1 .1 .1 .0) refl

@@ -1,5 +1,6 @@
--- Stale identifiers. A seid that names no object is refused by every call that takes a seid, save a post to another cell, which is dropped; a held entry that is stale
--- is refused by every use of it, save giving it up, which succeeds and touches no object, and taking it off the map (02, CR 1: "An outgoing entry may be stale": Map).
+-- Stale identifiers. A seid that names no object (for call 8, which opens subtypes too, no subtype either) is refused by every call that takes a seid, save a post to another
+-- cell, which is dropped; a held entry that is stale is refused by every use of it, save giving it up, which succeeds and touches no object, and taking it off the map
+-- (02, CR 1: "An outgoing entry may be stale": Map). A descriptor that holds a subtype (02, CR 11) is used for blocks and given up as a stale one is.
 -- (All but giving up are so in every state, well formed or not.)
 use mathlib.Core.Path.{_≡_, refl, sym, ap, _∙_}
 use mathlib.Core.Bool.{Bool, true, false, cond, _&&_, _||_, not}
@@ -12,16 +13,16 @@ use lib.ListN.{length}
 use borrow.Author.Tests.{eqb-true, eqb-false, ne-eqb, lt-leb, lt-ltb}
 use Rattle.rules.specs.Claim.{Holds}
 use Rattle.rules.specs.Layout.{Kind, process, segment, file, slots, configuration, Addr, at, Valid, rd, live, entries, heldAt, usedAt, pages, pagesAt, pageAt}
-use Rattle.rules.specs.Seid.{class, classOf, formed, seidAt, orSelf, present}
+use Rattle.rules.specs.Seid.{class, classOf, formed, isSubtype, namesSubtype, seidAt, orSelf, present}
 use Rattle.rules.specs.WellFormed.{wellFormed}
 use Rattle.rules.specs.Errors.{XOK, XnSgDes, XbSgDes, XbadOd}
 use Rattle.rules.specs.Rule.{_⇒_, Word, Effect, effect, Rule, rule, write, store, over}
-use Rattle.rules.specs.Find.{inOwnCell, entered, pagesCleared, emptied, givenUp}
+use Rattle.rules.specs.Find.{inOwnCell, stale, entered, pagesCleared, emptied, givenUp}
 use Rattle.rules.specs.Call02.{releaseProcess}
 use Rattle.rules.specs.Call04.{rendezvous}
 use Rattle.rules.specs.Call05.{releaseSegment}
 use Rattle.rules.specs.Call06.{setAccess}
-use Rattle.rules.specs.Call08.{openFile}
+use Rattle.rules.specs.Call08.{openFile, openSubtype}
 use Rattle.rules.specs.Call09.{close}
 use Rattle.rules.specs.Call10.{link}
 use Rattle.rules.specs.Call11.{unlink}
@@ -35,9 +36,10 @@ use Rattle.rules.specs.Call19.{remap}
 use Rattle.rules.specs.Call20.{pageAccess}
 use Rattle.rules.specs.Call21.{regrade}
 use Rattle.rules.specs.Step.{State, Call, step, regradeCode, ruleOf, badCode, wholeRule}
-use Rattle.laws.proofs.Tests.{and-both, passed, not-of, refuted, both-ways, or-rest, split, cond-both, cond-false}
+use Rattle.laws.proofs.Tests.{and-left, and-right, and-both, passed, not-of, refuted, both-ways, or-rest, split, cond-both, cond-false}
 use Rattle.laws.proofs.Seids.{class-pos, class-some, class-inj, is-formed, present-is}
-use Rattle.laws.proofs.Shape.{good-of}
+use Rattle.laws.proofs.Shape.{good-of, formed-object, subtype-some}
+use Rattle.laws.proofs.Subtypes.{names-it, not-formed, by-opened}
 use Rattle.laws.proofs.Written.{AllOf, nil, also, all-map, all-append, rd-write, conf-write, over-append, over-miss}
 use Rattle.laws.proofs.Object.{Object}
 use Rattle.kept.proofs.Fine.{fine-of}
@@ -109,13 +111,17 @@ module _ (s : State) (k : Call) where
       → Clear (cond x f g .refusals) → Names h r (k .code) given
   by-class x f g a b = cond-both (λ (y : Rule). Clear (y .refusals) → Names h r (k .code) given) x f g (λ e. a) (λ e. b)
 
-  named : takesSeid (k .code) ≡ true → Clear (own s k .refusals) → Names h r (k .code) given
-  unfolding ruleOf releaseProcess rendezvous openFile link unlink setBits status
-  named t c =
+  named : takesSeid (k .code) ≡ true → (k .code ≡ 8 → namesSubtype h given ≡ false) → Clear (own s k .refusals) → Names h r (k .code) given
+  unfolding ruleOf releaseProcess rendezvous openFile openSubtype link unlink setBits status
+  named t no-subtype c =
       let n : ℕ = k .code in
       either (eqb n 2) _ t (λ e. let q = rw (eqb-true n 2 e) at c in (process, rw (eqb-true n 2 e), passed _ (q .0), passed _ (q .1 .1 .0)))
       (λ t. either (eqb n 4) _ t (λ e. let q = rw (eqb-true n 4 e) at c in (segment, rw (eqb-true n 4 e), passed _ (q .1 .0), passed _ (q .1 .1 .1 .0)))
-      (λ t. either (eqb n 8) _ t (λ e. let q = rw (eqb-true n 8 e) at c in (file, rw (eqb-true n 8 e), passed _ (q .1 .0), passed _ (q .1 .1 .1 .0)))
+      (λ t. either (eqb n 8) _ t
+      (λ e. by-opened h r (k .caller) (k .a) (k .b) (k .c) (k .buffer) (λ (x : Rule). Clear (x .refusals) → Names h r (k .code) given)
+      (λ t q. both-ways (namesSubtype h given) (names-it h given (passed _ (q .1 .0)) (passed _ (q .1 .1 .1 .0))) (no-subtype (eqb-true n 8 e)))
+      (λ t q. (file, rw (eqb-true n 8 e), passed _ (q .1 .0), passed _ (q .1 .1 .1 .0)))
+      (rw (eqb-true n 8 e) at c))
       (λ t. either (eqb n 10) _ t (λ e. let q = rw (eqb-true n 10 e) at c in (file, rw (eqb-true n 10 e), passed _ (q .0), passed _ (q .1 .1 .0)))
       (λ t. either (eqb n 11) _ t (λ e. let q = rw (eqb-true n 11 e) at c in (file, rw (eqb-true n 11 e), passed _ (q .0), passed _ (q .1 .1 .0)))
       (λ t. either (eqb n 12) _ t
@@ -131,12 +137,12 @@ module _ (s : State) (k : Call) where
       for-status : (j : Kind) → takes j (k .code) ≡ true → Clear (statusOf h r (k .caller) given (k .buffer) j .refusals) → Names h r (k .code) given
       for-status j t q = (j, t, passed _ (q .1 .0), passed _ (q .1 .1 .1 .0))
 
-  -- a seid that names no object of a kind that the call takes
-  pub stale-seid : takesSeid (k .code) ≡ true
+  -- a seid that names no object of a kind that the call takes, nor, to call 8, a subtype
+  pub stale-seid : takesSeid (k .code) ≡ true → (k .code ≡ 8 → namesSubtype (configuration (s .table)) given ≡ false)
       → ((j : Kind) → takes j (k .code) ≡ true → formed (configuration (s .table)) j given ≡ true → present (rd (configuration (s .table)) (s .table)) j given ≡ false)
       → step s k .answered .error ≡ XOK → ⊥
-  stale-seid t nothing e =
-      let n = named t (own-clear s k e) in
+  stale-seid t no-subtype nothing e =
+      let n = named t no-subtype (own-clear s k e) in
       both-ways (present r (n .0) given) (n .3) (nothing (n .0) (n .1) (n .2))
 
   -- a live caller's own seid, which 0 stands for, is never stale
@@ -165,32 +171,43 @@ module _ (s : State) (k : Call) where
 
   -- ---- entries
 
-  -- (an incoming designator is an entry: 16 is none)
-  pub stale-entry : (j : Kind) → usesEntry j (k .code) ≡ true → (k .code ≡ 19 → k .a < entries) → present (rd (configuration (s .table)) (s .table)) j (entryHolds j) ≡ false
-      → step s k .answered .error ≡ XOK → ⊥
+  -- what such a call uses isn't stale (an incoming designator is an entry: 16 is none)
+  used : (j : Kind) → usesEntry j (k .code) ≡ true → (k .code ≡ 19 → k .a < entries) → Clear (own s k .refusals) → stale h r j (entryHolds j) ≡ false
   unfolding ruleOf setAccess accessOf remap readBlock writeBlock regrade
-  stale-entry process u in-entries gone e = both-ways true refl (sym u)
-  stale-entry segment u in-entries gone e =
-      let c = own-clear s k e in
-      both-ways (present r segment (entryHolds segment)) (either (eqb (k .code) 6) _ u
-      (λ e. let q = rw (eqb-true (k .code) 6 e) at c in passed _ (q .1 .1 .1 .0))
+  used process u in-entries c = both-ways true refl (sym u)
+  used segment u in-entries c = either (eqb (k .code) 6) _ u
+      (λ e. let q = rw (eqb-true (k .code) 6 e) at c in q .1 .1 .1 .0)
       (λ u. either (eqb (k .code) 18) (eqb (k .code) 19) u
-      (λ e. let q = rw (eqb-true (k .code) 18 e) at c in passed _ (q .1 .1 .0))
+      (λ e. let q = rw (eqb-true (k .code) 18 e) at c in q .1 .1 .0)
       (λ e. let q = rw (eqb-true (k .code) 19 e) at c in
       let t : ltb (k .a) entries ≡ true = lt-ltb (k .a) entries (in-entries (eqb-true (k .code) 19 e)) in
-      passed _ (rw t at (q .1 .1 .0))))) gone
-  stale-entry file u in-entries gone e =
-      let c = own-clear s k e in
-      both-ways (present r file (entryHolds file)) (either (eqb (k .code) 13) _ u
-      (λ e. let q = rw (eqb-true (k .code) 13 e) at c in passed _ (q .1 .1 .1 .1 .0))
+      rw t at (q .1 .1 .0)))
+  used file u in-entries c = either (eqb (k .code) 13) _ u
+      (λ e. let q = rw (eqb-true (k .code) 13 e) at c in q .1 .1 .1 .1 .0)
       (λ u. either (eqb (k .code) 14) (eqb (k .code) regradeCode) u
-      (λ e. let q = rw (eqb-true (k .code) 14 e) at c in passed _ (q .1 .1 .1 .1 .0))
-      (λ e. let q = rw (eqb-true (k .code) regradeCode e) at c in passed _ (q .1 .1 .1 .1 .1 .1 .0)))) gone
+      (λ e. let q = rw (eqb-true (k .code) 14 e) at c in q .1 .1 .1 .1 .0)
+      (λ e. let q = rw (eqb-true (k .code) regradeCode e) at c in q .1 .1 .1 .1 .1 .1 .0))
+
+  -- it is an object's identifier, and names one
+  not-stale : (j : Kind) (v : ℕ) → stale h r j v ≡ false → (formed h j v ≡ true) × (present r j v ≡ true)
+  not-stale j v e =
+      let t = passed (formed h j v && present r j v) e in
+      (and-left (formed h j v) (present r j v) t, and-right (formed h j v) (present r j v) t)
+
+  pub stale-entry : (j : Kind) → usesEntry j (k .code) ≡ true → (k .code ≡ 19 → k .a < entries) → present (rd (configuration (s .table)) (s .table)) j (entryHolds j) ≡ false
+      → step s k .answered .error ≡ XOK → ⊥
+  stale-entry j u in-entries gone e = both-ways (present r j (entryHolds j)) (not-stale j (entryHolds j) (used j u in-entries (own-clear s k e)) .1) gone
+
+  -- 02, CR 11: "block calls and regrades" on a subtype are refused
+  pub subtype-entry : usesEntry file (k .code) ≡ true → isSubtype (entryHolds file) ≡ true → step s k .answered .error ≡ XOK → ⊥
+  subtype-entry u t e =
+      let in-entries : k .code ≡ 19 → k .a < entries = λ c. both-ways (usesEntry file (k .code)) u (rw c) in
+      both-ways (formed h file (entryHolds file)) (not-stale file (entryHolds file) (used file u in-entries (own-clear s k e)) .0) (not-formed h file (entryHolds file) t)
 
   -- a page whose designator is stale is refused by call 20
   pub stale-page : k .code ≡ 20 → present (rd (configuration (s .table)) (s .table)) segment pageHolds ≡ false → step s k .answered .error ≡ XOK → ⊥
   unfolding ruleOf pageAccess accessOf
-  stale-page c gone e = let q = rw c at (own-clear s k e) in both-ways (present r segment _) (passed _ (q .1 .1 .1 .1 .0)) gone
+  stale-page c gone e = let q = rw c at (own-clear s k e) in both-ways (present r segment pageHolds) (not-stale segment pageHolds (q .1 .1 .1 .1 .0) .1) gone
 
   -- ---- giving up
 
@@ -210,21 +227,27 @@ module _ (s : State) (k : Call) where
     pub store : step s k .state .store ≡ s .store
     pub buffer : step s k .buffer ≡ k .buffer
 
-  module _ (j : Kind) (o : Object j) (w : Holds (wellFormed (s .table) (length (s .store)))) (in-range : k .caller < slots h process)
-      (alive : r (at process (k .caller) live) ≡ 1) (known : k .a < entries) (some : entryHolds j ≡ 0 → ⊥) (gone : present r j (entryHolds j) ≡ false) where
-    -- a held object of the own cell is there: so this one is another cell's
-    elsewhere : inOwnCell h (k .caller) j (entryHolds j) ≡ false
-    elsewhere = refuted (inOwnCell h (k .caller) j (entryHolds j)) (λ e.
-        let x = fine-of h r (good-of (s .table) (length (s .store)) w .records) .entry j o (k .caller) (k .a) in-range known in
-        let c = eqb-true _ _ e in
-        both-ways (present r j (entryHolds j)) (present-is r j (entryHolds j) (record { is-live = x .current-live some c; same-serial = x .current-serial some c })) gone)
+  -- the entry holds an object of the own cell
+  abbrev mine : Kind → Bool
+  mine j = formed h j (entryHolds j) && inOwnCell h (k .caller) j (entryHolds j)
 
+  -- a held object of the own cell is there: so one that isn't is another cell's
+  elsewhere : (j : Kind) → Object j → Holds (wellFormed (s .table) (length (s .store))) → k .caller < slots h process → k .a < entries
+      → present r j (entryHolds j) ≡ false → mine j ≡ false
+  elsewhere j o w in-range known gone = refuted (mine j) (λ t.
+      let x = fine-of h r (good-of (s .table) (length (s .store)) w .records) .entry j o (k .caller) (k .a) in-range known in
+      let n = formed-object h j (entryHolds j) (and-left (formed h j (entryHolds j)) (inOwnCell h (k .caller) j (entryHolds j)) t) in
+      let c = eqb-true _ _ (and-right (formed h j (entryHolds j)) (inOwnCell h (k .caller) j (entryHolds j)) t) in
+      both-ways (present r j (entryHolds j)) (present-is r j (entryHolds j) (record { is-live = x .current-live n c; same-serial = x .current-serial n c })) gone)
+
+  module _ (j : Kind) (o : Object j) (w : Holds (wellFormed (s .table) (length (s .store)))) (in-range : k .caller < slots h process)
+      (alive : r (at process (k .caller) live) ≡ 1) (known : k .a < entries) (some : entryHolds j ≡ 0 → ⊥) (theirs : mine j ≡ false) where
     abbrev words : List Word
     words = pagesCleared r j (k .caller) (k .a) ++ entered j (k .caller) (k .a) 0 0
 
     written : givenUp h r j (k .caller) (k .a) (entryHolds j) ≡ words
     unfolding givenUp emptied
-    written = rw elsewhere
+    written = rw theirs
 
     cleared : Cleared h r j (k .caller) (k .a)
     cleared = clears h r (fine-of h r (good-of (s .table) (length (s .store)) w .records)) (k .caller) in-range alive j o (k .a)
@@ -279,11 +302,20 @@ module _ (s : State) (k : Call) where
           buffer = d .buffer ∙ ap (λ (x : Effect). x .buffer) e;
         }
 
-  -- of a well-formed state and a live caller
+  -- of a well-formed state and a live caller: an entry that holds no object of the own cell
+  other-given-up : (j : Kind) → Object j → Holds (wellFormed (s .table) (length (s .store))) → k .caller < slots h process
+      → r (at process (k .caller) live) ≡ 1 → k .code ≡ givesUpEntry j → k .a < entries → (entryHolds j ≡ 0 → ⊥) → mine j ≡ false → GivenUp j
+  unfolding ruleOf badCode releaseSegment close
+  other-given-up process o w l a c known some theirs = absurd o
+  other-given-up segment o w l a c known some theirs = by-rule segment o w l a known some theirs XnSgDes XbSgDes (rw c) (rw c)
+  other-given-up file o w l a c known some theirs = by-rule file o w l a known some theirs XbadOd XbadOd (rw c) (rw c)
+
   pub stale-given-up : (j : Kind) → Object j → Holds (wellFormed (s .table) (length (s .store))) → k .caller < slots (configuration (s .table)) process
       → rd (configuration (s .table)) (s .table) (at process (k .caller) live) ≡ 1 → k .code ≡ givesUpEntry j → k .a < entries → (entryHolds j ≡ 0 → ⊥)
       → present (rd (configuration (s .table)) (s .table)) j (entryHolds j) ≡ false → GivenUp j
-  unfolding ruleOf badCode releaseSegment close
-  stale-given-up process o w l a c known some gone = absurd o
-  stale-given-up segment o w l a c known some gone = by-rule segment o w l a known some gone XnSgDes XbSgDes (rw c) (rw c)
-  stale-given-up file o w l a c known some gone = by-rule file o w l a known some gone XbadOd XbadOd (rw c) (rw c)
+  stale-given-up j o w l a c known some gone = other-given-up j o w l a c known some (elsewhere j o w l known gone)
+
+  -- 02, CR 11: so too a descriptor that holds a subtype
+  pub subtype-given-up : Holds (wellFormed (s .table) (length (s .store))) → k .caller < slots (configuration (s .table)) process
+      → rd (configuration (s .table)) (s .table) (at process (k .caller) live) ≡ 1 → k .code ≡ 9 → k .a < entries → isSubtype (entryHolds file) ≡ true → GivenUp file
+  subtype-given-up w l a c known t = other-given-up file tt w l a c known (subtype-some file (entryHolds file) t) (rw (not-formed h file (entryHolds file) t))

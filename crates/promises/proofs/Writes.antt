@@ -6,8 +6,8 @@ use Prim.Native.Nat.{ℕ, zero, suc, _+_, _*_, _-_, _≤_, _<_}
 use native.Mathlib.Omega.{arith}
 use lib.Dec.{ltb, leb, eqb}
 use borrow.Author.Tests.{ltb-true, leb-false}
-use Rattle.rules.specs.Layout.{maxBits, Kind, process, segment, file, recordWords, cells, cellOf, Addr, at, live, serial, owner, group, parent, queue, entries, heldAt, usedAt, messages, messageWords, messagesAt, messageAt, pages, pagesAt, pageAt, bits, size, holders, links, opens}
-use Rattle.rules.specs.Seid.{indexOf, orSelf, present}
+use Rattle.rules.specs.Layout.{maxBits, Kind, process, segment, file, recordWords, cells, cellOf, Addr, at, live, serial, owner, group, parent, queue, entries, heldAt, usedAt, messages, messageWords, messagesAt, messageAt, pages, pagesAt, pageAt, bits, size, holders, links, opens, subtype}
+use Rattle.rules.specs.Seid.{indexOf, formed, orSelf, present}
 use Rattle.rules.specs.Rule.{Word, _≔_, Rule, over}
 use Rattle.rules.specs.Find.{inOwnCell, entered, oneMore, zeros, freed, kept, oneLess, pageLeft, pagesSet, pagesCleared, emptied as emptiedEntry, givenUp, freeSlot, noSlot, freeEntry}
 use Rattle.rules.specs.Call01.{spawn}
@@ -17,7 +17,7 @@ use Rattle.rules.specs.Call04.{rendezvous}
 use Rattle.rules.specs.Call05.{releaseSegment}
 use Rattle.rules.specs.Call06.{setAccess}
 use Rattle.rules.specs.Call07.{create}
-use Rattle.rules.specs.Call08.{openFile}
+use Rattle.rules.specs.Call08.{openFile, openSubtype}
 use Rattle.rules.specs.Call09.{close}
 use Rattle.rules.specs.Call10.{link}
 use Rattle.rules.specs.Call11.{unlinked, unlink}
@@ -36,6 +36,7 @@ use Rattle.laws.proofs.Written.{AllOf, nil, also, all-append, all-if, all-tab}
 use Rattle.laws.proofs.Object.{Object}
 use Rattle.laws.proofs.Refusals.{Clear}
 use Rattle.laws.proofs.Shape.{in-run}
+use Rattle.laws.proofs.Subtypes.{by-opened}
 use Rattle.laws.proofs.Codes.{by-code, by-bits, by-status}
 use Rattle.kept.proofs.Keeps.{Caller}
 use Rattle.kept.proofs.Found.{free-entry}
@@ -73,9 +74,20 @@ Makes process n = n ≡ 1
 Makes segment n = n ≡ 3
 Makes file n = (n ≡ 7 → ⊥) → n ≡ regradeCode
 
+-- how many words of its record are written when it is made: a file's subtype is past the first eight
+abbrev pub madeWords : Kind → ℕ
+madeWords process = 8
+madeWords segment = 8
+madeWords file = 9
+
+made-some : (j : Kind) → 8 ≤ madeWords j
+made-some process = omega arith
+made-some segment = omega arith
+made-some file = omega arith
+
 pub data Wrote (h : List ℕ) (r : Addr → ℕ) (k : Call) : Word → Type 0 where
-  -- one of the first eight words of a record made in a free slot of a cell: its serial is one more
-  made : {j : Kind} {c n v : ℕ} → Makes j (k .code) → c < cells h → noSlot h r j c ≡ false → n < 8 → (n ≡ serial → v ≡ r (at j (freeSlot h r j c) serial) + 1)
+  -- one of the first words of a record made in a free slot of a cell: its serial is one more
+  made : {j : Kind} {c n v : ℕ} → Makes j (k .code) → c < cells h → noSlot h r j c ≡ false → n < madeWords j → (n ≡ serial → v ≡ r (at j (freeSlot h r j c) serial) + 1)
       → Wrote h r k (at j (freeSlot h r j c) n ≔ v)
   -- an entry of the caller's filled, or used otherwise; an entry given up
   filled : (j : Kind) {n v : ℕ} → Fills j (k .code) → EntryWord j n → Wrote h r k (at process (k .caller) n ≔ v)
@@ -145,7 +157,7 @@ module _ (h : List ℕ) (r : Addr → ℕ) (k : Call) where
   of-given-up : (q : Addr → ℕ) (j : Kind) → Object j → Frees j (k .code) → (p : ℕ) → Acting r k p → (d s : ℕ) → d < entries → Writes (givenUp h q j p d s)
   unfolding givenUp emptiedEntry
   of-given-up q j o f p a d s l = all-append _ (of-cleared-pages q j p a d)
-      (all-append _ (of-emptied j o p a d l) (all-if (Wrote h r k) (inOwnCell h p j s) (oneLess q j (indexOf s)) [] (λ e. of-less q j o f (indexOf s)) (λ e. nil)))
+      (all-append _ (of-emptied j o p a d l) (all-if (Wrote h r k) (formed h j s && inOwnCell h p j s) (oneLess q j (indexOf s)) [] (λ e. of-less q j o f (indexOf s)) (λ e. nil)))
 
   of-dropped : (q : Addr → ℕ) (j : Kind) → Object j → Frees j (k .code) → (p : ℕ) → Acting r k p → (d : ℕ) → d < entries → Writes (dropped h q j p d)
   unfolding dropped
@@ -171,7 +183,7 @@ module _ (h : List ℕ) (r : Addr → ℕ) (k : Call) where
   -- ---- a record made in a cell that has room
 
   module _ (c : ℕ) (l : c < cells h) (j : Kind) (makes : Makes j (k .code)) (room : noSlot h r j c ≡ false) where
-    new-word : (n v : ℕ) → n < 8 → (n ≡ serial → ⊥) → Wrote h r k (at j (freeSlot h r j c) n ≔ v)
+    new-word : (n v : ℕ) → n < madeWords j → (n ≡ serial → ⊥) → Wrote h r k (at j (freeSlot h r j c) n ≔ v)
     new-word n v m x = made makes l room m (λ e. absurd (x e))
 
     -- live, serial, owner and group, and what comes after them
@@ -179,6 +191,7 @@ module _ (h : List ℕ) (r : Addr → ℕ) (k : Call) where
         → let i : ℕ = freeSlot h r j c in
         Writes ((at j i live ≔ 1) ∷ (at j i serial ≔ r (at j i serial) + 1) ∷ (at j i owner ≔ u) ∷ (at j i group ≔ g) ∷ ws)
     of-made u g ws =
+        let m = made-some j in
         also (new-word live 1 (omega arith) (λ e. omega arith)) (also (made {n = serial} makes l room (omega arith) (λ e. refl))
         (also (new-word owner u (omega arith) (λ e. omega arith)) (also (new-word group g (omega arith) (λ e. omega arith)) ws)))
 
@@ -186,7 +199,9 @@ module _ (h : List ℕ) (r : Addr → ℕ) (k : Call) where
     of-object : (u g b x y z : ℕ) → let i : ℕ = freeSlot h r j c in
         Writes ((at j i live ≔ 1) ∷ (at j i serial ≔ r (at j i serial) + 1) ∷ (at j i owner ≔ u) ∷ (at j i group ≔ g)
         ∷ (at j i 4 ≔ b) ∷ (at j i 5 ≔ x) ∷ (at j i 6 ≔ y) ∷ (at j i 7 ≔ z) ∷ [])
-    of-object u g b x y z = of-made u g
+    of-object u g b x y z =
+        let m = made-some j in
+        of-made u g
         (also (new-word 4 b (omega arith) (λ e. omega arith)) (also (new-word 5 x (omega arith) (λ e. omega arith)) (also (new-word 6 y (omega arith) (λ e. omega arith))
         (also (new-word 7 z (omega arith) (λ e. omega arith)) nil))))
 
@@ -235,7 +250,7 @@ shared-clear h r p s b buffer file ok = refl
 -- ---- every call
 
 pub writes : (h : List ℕ) (r : Addr → ℕ) (st : List ℕ) (k : Call) → Caller h r (k .caller) → Clear (ruleOf h r st k .refusals) → AllOf (Wrote h r k) (ruleOf h r st k .effects .words)
-unfolding releaseProcess buildSegment rendezvous releaseSegment setAccess create openFile close link unlink readBlock writeBlock accessOf remap pageAccess
+unfolding releaseProcess buildSegment rendezvous releaseSegment setAccess create openFile openSubtype close link unlink readBlock writeBlock accessOf remap pageAccess
 writes h r st k me =
     let p = k .caller in
     let P : Rule → Type 0 = λ x. Clear (x .refusals) → AllOf (Wrote h r k) (x .effects .words) in
@@ -251,11 +266,17 @@ writes h r st k me =
       call-5 = λ e ok. of-given-up h r k r segment tt (λ n. e) p itself (k .a) _ (leb-false entries (k .a) (ok .0));
       call-6 = λ e ok. let l = leb-false entries (k .a) (ok .1 .0) in also (filled segment tt (omega arith, omega arith)) nil;
       call-7 = λ e ok.
-          all-append _ (of-object h r k (cellOf h process p) (mine h r k me) file (λ n. absurd (n e)) (ok .1 .1 .1 .0) _ _ _ _ _ 1)
-          (of-filled h r k file tt (λ n. absurd (n e)) (freeEntry r file p) _ _ (free-entry r file p (ok .1 .1 .0) .in-record));
-      call-8 = λ e ok.
-          all-append _ (of-filled h r k file tt (λ n. e) (freeEntry r file p) _ _ (free-entry r file p (ok .1 .1 .1 .1 .1 .1 .0) .in-record))
-          (of-more h r k r p file tt _);
+          let c = cellOf h process p in
+          let makes : Makes file (k .code) = λ n. absurd (n e) in
+          let room = ok .1 .1 .1 .1 .1 .0 in
+          all-append _ (all-append _ (of-object h r k c (mine h r k me) file makes room _ _ _ _ _ 1)
+          (also (new-word h r k c (mine h r k me) file makes room subtype _ (omega arith) (λ e. omega arith)) nil))
+          (of-filled h r k file tt (λ n. absurd (n e)) (freeEntry r file p) _ _ (free-entry r file p (ok .1 .1 .1 .1 .0) .in-record));
+      call-8 = λ e. by-opened h r p (k .a) (k .b) (k .c) (k .buffer) P
+          (λ t ok. of-filled h r k file tt (λ n. e) (freeEntry r file p) _ _ (free-entry r file p (ok .1 .1 .1 .1 .1 .1 .0) .in-record))
+          (λ t ok.
+          all-append _ (of-filled h r k file tt (λ n. e) (freeEntry r file p) _ _ (free-entry r file p (ok .1 .1 .1 .1 .1 .1 .1 .1 .0) .in-record))
+          (of-more h r k r p file tt _));
       call-9 = λ e ok. of-given-up h r k r file tt (λ n m. absurd (m e)) p itself (k .a) _ (leb-false entries (k .a) (ok .0));
       call-10 = λ e ok. also linked nil;
       call-11 = λ e ok. of-unlinked h r k e (indexOf (orSelf r p (k .a)));

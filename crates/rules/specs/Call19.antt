@@ -47,7 +47,7 @@ remap h r p a b c buffer =
     let s : ℕ = r (at process p (heldAt segment a)) in
     rule
     ((ltb entries a || ltb entries c ⇒ XnSgDes) ∷ ((named a && vacant r p a) || (named c && vacant r p c) ⇒ XbSgDes)
-    ∷ (named a && stale r segment s ⇒ XbSgSd)
+    ∷ (named a && stale h r segment s ⇒ XbSgSd)
     ∷ (named c && not (isMapped (λ g. r (at process p (pageAt g))) c) ⇒ XoutSgAldUmp)
     ∷ (named a && isMapped (pageLeft r p c) a ⇒ XinSgAldMap)
     ∷ (named a && conflict (pageLeft r p c) b (pagesOf r s) ⇒ XvrtMmCfl) ∷ [])

@@ -30,7 +30,7 @@ carried h r st p a b c buffer =
     let f : ℕ = indexOf (r (at process p (heldAt file a))) in
     copy b (r (at file f size)) (contents h st f (r (at file f size))) (word2 buffer 0) (word2 buffer 2) c
 
--- the file slot f, with serial s: "links 1, opens 0"
+-- the file slot f, with serial s: "links 1, opens 0"; 02, CR 11: "a regraded copy has none", for its word is 0 in every record that isn't live
 abbrev pub regraded : Copy → ℕ → ℕ → List Word
 regraded x f s =
     (at file f live ≔ 1) ∷ (at file f serial ≔ s) ∷ (at file f owner ≔ x .owner) ∷ (at file f group ≔ x .group) ∷ (at file f (bits file) ≔ x .bits)
@@ -48,5 +48,5 @@ regrade h r st p a b c buffer =
     rule
     ((not (inGuard h p) ⇒ XnoSPriv) ∷ (not (eqb (length buffer) 4) ⇒ XbSz) ∷ (leb (cells h) b || ltb maxBits c ⇒ XbParam)
     ∷ (leb entries a ⇒ XbadOd) ∷ (eqb s 0 ⇒ XbadOd) ∷ (not (reads (r (at process p (usedAt file a)))) ⇒ XnotReadable)
-    ∷ (stale r file s ⇒ XnoObj) ∷ (lacks (rightsAt r p file (indexOf s)) true false ⇒ XdapViol) ∷ (noSlot h r file b ⇒ XnoSpace) ∷ [])
+    ∷ (stale h r file s ⇒ XnoObj) ∷ (lacks (rightsAt r p file (indexOf s)) true false ⇒ XdapViol) ∷ (noSlot h r file b ⇒ XnoSpace) ∷ [])
     (effect (seid (class file) f n) 0 buffer (regraded x f n) (blocksCopied x f))

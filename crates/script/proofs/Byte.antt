@@ -2,17 +2,17 @@
 use mathlib.Core.Bool.{true, false, cond, _&&_, true≢false, and-false}
 use mathlib.Core.List.{List, [], _∷_, _++_, append-nil}
 use mathlib.Core.Path.{_≡_, refl, sym, ap, _∙_, subst}
-use Prim.Native.Nat.{ℕ, suc, _+_, _-_, _*_, _<_, _≤_}
+use Prim.Native.Nat.{ℕ, suc, _+_, _-_, _<_, _≤_}
 use native.Mathlib.Omega.{arith}
 use lib.Dec.{ltb, leb, eqb, leb·suc-suc}
-use lib.ListN.{length, getD, take, drop, set, length-set}
-use lib.Seq.{take-all, getD-take, getD-set-same, append-snoc}
+use lib.ListN.{length, getD, take, drop, set, length-set, length-append, List·getD-append}
+use lib.Seq.{take-all, length-take-le, getD-take, getD-set-same, append-snoc}
 use borrow.Author.Tests.{ltb-true, ltb-false, eqb-true, eqb-false, le-leb, lt-leb, ne-eqb}
 use Rattle.rules.specs.Claim.{test}
-use Rattle.rules.specs.Layout.{maxCells, headerWords, cellWords, cells}
+use Rattle.rules.specs.Layout.{headerWords, cells, subtypes}
 use Rattle.rules.specs.WellFormed.{configured as configuredOk, headerOk}
-use Rattle.rules.specs.Replay.{Taken, took, bad, numbersFrom, numbers, headerNumbers, replayable, callNumbers, maxBuffer, callOf}
-use Rattle.laws.proofs.Tests.{split, refuted}
+use Rattle.rules.specs.Replay.{Taken, took, bad, numbersFrom, numbers, headerNumbers, numbersAfter, replayable, callNumbers, maxBuffer, callOf}
+use Rattle.laws.proofs.Tests.{split, refuted, both-ways}
 use Rattle.laws.proofs.Claims.{holds}
 use Rattle.numerals.specs.declared.Part.{Part}
 use Rattle.numerals.specs.declared.Fed.{Fed}
@@ -20,14 +20,15 @@ use Rattle.numerals.specs.declared.Fed.the-variants as fed
 use Rattle.numerals.specs.Fed.{start, fedBy}
 use Rattle.numerals.proofs.Read.{small-start, small-more}
 use Rattle.script.specs.declared.Stage.{Stage}
-use Rattle.script.specs.declared.Stage.the-variants.{Header, Cells, Numbers, Bytes}
+use Rattle.script.specs.declared.Stage.the-variants.{Header, Body, Numbers, Bytes}
 use Rattle.script.specs.declared.Reader.{Reader}
 use Rattle.script.specs.declared.What.the-variants as what
 use Rattle.script.specs.declared.Took.{Took}
-use Rattle.script.specs.Take.{took as tookOf, awaiting, atCall, onward, callingAt, betweenAt, keptTableAt, keptNumsAt, headerEnded, numbersEnded, endedAt, numbered, Read, read, fedTook, fedTable, numberRead, byteTook, takeAt, take as takeOne}
-use Rattle.script.proofs.Going.{going, fedGoing, going-start, going-byte, cellsThen, headerThen, accepted, callThen, bytesThen}
-use Rattle.script.proofs.Meaning.{configured, called, outer, soFar, ofNumbers, meaningAt, meaning, faultAt, Roomy, GoodAt, Good, Onward, Configured, Called, Faulty, Told}
-use Rattle.script.proofs.Kept.{take-more, take-more-past, roomy-header, roomy-cell, cells-kept, header-kept, whole}
+use Rattle.script.specs.Take.{took as tookOf, awaiting, atCall, onward, callingAt, betweenAt, keptTableAt, keptNumsAt, countsFit, headerEnded, numbersEnded, endedAt, numbered, Read, read, fedTook, fedTable, numberRead, byteTook, takeAt, take as takeOne}
+use Rattle.script.proofs.Going.{going, fedGoing, going-start, going-byte, bodyThen, headerThen, accepted, callThen, bytesThen}
+use Rattle.script.proofs.Meaning.{configured, called, outer, soFar, ofNumbers, meaningAt, meaning, faultAt, Roomy, Fits, GoodAt, Good, Onward, Configured, Called, Faulty, Told}
+use Rattle.script.proofs.Counts.{fits-of, fits-counted}
+use Rattle.script.proofs.Kept.{take-more, take-more-past, roomy-header, roomy-body, cells-kept, subtypes-kept, header-kept, whole}
 
 -- at a reader's stage
 pub at-stage : (g : Stage) (r : Reader) (t l s : List ℕ) → r .stage ≡ g → meaning r t l s ≡ meaningAt g r t l s
@@ -36,7 +37,7 @@ at-stage g r t l s e = ap (λ (x : Stage). meaningAt x r t l s) e
 
 onward-begun : (r : Reader) (nums : List ℕ) (g : Stage) → betweenAt g (onward r nums) ≡ false
 onward-begun r nums Header = refl
-onward-begun r nums Cells = refl
+onward-begun r nums Body = refl
 onward-begun r nums Numbers = rw (ne-eqb (r .field + 1) 0 (λ z. omega arith))
 onward-begun r nums Bytes = refl
 
@@ -72,13 +73,13 @@ module _ (g : Stage) (r : Reader) (t l : List ℕ) (b : ℕ) (e : r .stage ≡ g
     where
       same-here : (g : Stage) → GoodAt g r t → GoodAt g (record { stage = r .stage; part = q; field = r .field; last = r .last; nums = r .nums }) t
       same-here Header x = x
-      same-here Cells x = x
+      same-here Body x = x
       same-here Numbers x = x
       same-here Bytes x = x
 
       not-between : (g : Stage) → betweenAt g (record { stage = r .stage; part = q; field = r .field; last = r .last; nums = r .nums }) ≡ false
       not-between Header = refl
-      not-between Cells = refl
+      not-between Body = refl
       not-between Numbers = rw (ne-eqb (q .count) 0 (λ z. omega (arith, small-more (r .part) q b (h .small) f .1))) (and-false (eqb (r .field) 0))
       not-between Bytes = refl
 
@@ -130,29 +131,30 @@ module _ (g : Stage) (r : Reader) (t l : List ℕ) (b : ℕ) (e : r .stage ≡ g
 
 -- ---- the last number of the header
 
--- a configuration that is taken has 1..16 cells
-cells-range : (c : List ℕ) → test (replayable c) ≡ true → (1 ≤ getD c 0 0) × (getD c 0 0 ≤ maxCells)
-unfolding replayable configuredOk headerOk cells
-cells-range c e = holds (replayable c) e .0 .0 .0
+-- the counts of a configuration that is taken
+counts-range : (c : List ℕ) → test (replayable c) ≡ true → Fits (getD c 0 0) (getD c 6 0)
+unfolding replayable configuredOk headerOk cells subtypes
+counts-range c e =
+    let w = holds (replayable c) e .0 .0 in
+    record { some-cells = w .0 .0; few-cells = w .0 .1; few-subtypes = w .1 .1 .1 .1 .1 .1 .0 }
 
-pub refused : (vs : List ℕ) (x : Taken (List ℕ)) → 0 < length vs → (1 ≤ getD vs 0 0 → getD vs 0 0 ≤ maxCells → ⊥) → accepted (cellsThen vs x) ≡ bad
-unfolding accepted cellsThen
+pub refused : (vs : List ℕ) (x : Taken (List ℕ)) → 6 < length vs → (Fits (getD vs 0 0) (getD vs 6 0) → ⊥) → accepted (bodyThen vs x) ≡ bad
+unfolding accepted bodyThen
 refused vs bad h n = refl
-refused vs (took ws after) h n = rw (not-taken (vs ++ (0 ∷ 0 ∷ []) ++ ws) (first vs h))
+refused vs (took ws after) h n = rw (refuted (test (replayable (vs ++ (0 ∷ []) ++ ws))) not-taken)
   where
-    first : (vs : List ℕ) → 0 < length vs → getD (vs ++ (0 ∷ 0 ∷ []) ++ ws) 0 0 ≡ getD vs 0 0
-    first [] h = absurd (omega arith)
-    first (v ∷ vs) h = refl
+    at : (i : ℕ) → i < length vs → getD (vs ++ (0 ∷ []) ++ ws) i 0 ≡ getD vs i 0
+    at i l = List·getD-append (vs ++ (0 ∷ [])) ws 0 i (omega (arith, l, length-append vs (0 ∷ []))) ∙ List·getD-append vs (0 ∷ []) 0 i l
 
-    not-taken : (c : List ℕ) → getD c 0 0 ≡ getD vs 0 0 → test (replayable c) ≡ false
-    not-taken c f = refuted (test (replayable c)) (λ t. let w = cells-range c t in n (rw f at (w .0)) (rw f at (w .1)))
+    not-taken : test (replayable (vs ++ (0 ∷ []) ++ ws)) ≡ true → ⊥
+    not-taken t = n (rw (at 0 (omega arith), at 6 h) at (counts-range (vs ++ (0 ∷ []) ++ ws) t))
 
-module _ (r : Reader) (t l : List ℕ) (b v : ℕ) (e : r .stage ≡ Header) (h : Good r t l) (w : (r .last ≡ 5) × Roomy t) (f : fedBy (r .part) b ≡ fed.Done v)
+module _ (r : Reader) (t l : List ℕ) (b v : ℕ) (e : r .stage ≡ Header) (h : Good r t l) (w : (r .last ≡ 6) × Roomy t) (f : fedBy (r .part) b ≡ fed.Done v)
     (ge : r .last ≤ r .field) where
   abbrev t′ : List ℕ
   t′ = set t (r .field) v
 
-  at-last : r .field ≡ 5
+  at-last : r .field ≡ 6
   at-last = omega (arith, h .within, w .0)
 
   header-read : take (r .field) t ++ (v ∷ []) ≡ take headerNumbers t′
@@ -161,28 +163,29 @@ module _ (r : Reader) (t l : List ℕ) (b v : ℕ) (e : r .stage ≡ Header) (h 
   cells-of : getD (take headerNumbers t′) 0 0 ≡ getD t′ 0 0
   cells-of = getD-take headerNumbers t′ 0 0 (omega arith)
 
-  header-whole : (s : List ℕ) → meaning r t l (b ∷ s) ≡ configured (accepted (cellsThen (take headerNumbers t′) (numbers (cellWords * getD t′ 0 0) s)))
+  subtypes-of : getD (take headerNumbers t′) 6 0 ≡ getD t′ 6 0
+  subtypes-of = getD-take headerNumbers t′ 6 0 (omega arith)
+
+  header-whole : (s : List ℕ) → meaning r t l (b ∷ s) ≡ configured (accepted (bodyThen (take headerNumbers t′) (numbers (numbersAfter t′) s)))
   unfolding headerThen
   header-whole s =
       number-last Header r t l b e h (λ r t l s. refl) v s f ge
       ∙ ap (λ (vs : List ℕ). configured (accepted (headerThen (took vs s)))) header-read
-      ∙ ap (λ (c : ℕ). configured (accepted (cellsThen (take headerNumbers t′) (numbers (cellWords * c) s)))) cells-of
+      ∙ ap (λ (n : ℕ). configured (accepted (bodyThen (take headerNumbers t′) (numbers n s)))) (rw (cells-of, subtypes-of))
 
-  header-refused : (1 ≤ getD t′ 0 0 → getD t′ 0 0 ≤ maxCells → ⊥) → Faulty r t l (b ∷ [])
+  header-refused : (Fits (getD t′ 0 0) (getD t′ 6 0) → ⊥) → Faulty r t l (b ∷ [])
   header-refused n =
       record {
         same = λ ys.
             header-whole ys
-            ∙ ap configured (refused (take headerNumbers t′) (numbers (cellWords * getD t′ 0 0) ys) (some t′ (omega (arith, length-set t (r .field) v, w .1 .room)))
-            (λ x y. n (rw cells-of at x) (rw cells-of at y)))
+            ∙ ap configured (refused (take headerNumbers t′) (numbers (numbersAfter t′) ys) seven (λ x. n (rw (cells-of, subtypes-of) at x)))
             ∙ ap faultAt (sym e);
       }
     where
-      some : (l : List ℕ) → headerNumbers ≤ length l → 0 < length (take headerNumbers l)
-      some [] x = absurd (omega arith)
-      some (y ∷ l) x = omega arith
+      seven : 6 < length (take headerNumbers t′)
+      seven = rw (length-take-le headerNumbers t′ (omega (arith, length-set t (r .field) v, w .1 .room))) (omega arith)
 
-  header-next : (c : ℕ) → suc c ≡ cellWords * getD t′ 0 0 → getD t′ 0 0 ≤ maxCells → Onward r t l (b ∷ []) (awaiting Cells c (r .nums)) t′ l
+  header-next : (c : ℕ) → suc c ≡ numbersAfter t′ → Fits (getD t′ 0 0) (getD t′ 6 0) → Onward r t l (b ∷ []) (awaiting Body c (r .nums)) t′ l
   header-next c q few =
       record {
         good = record {
@@ -199,57 +202,52 @@ module _ (r : Reader) (t l : List ℕ) (b v : ℕ) (e : r .stage ≡ Header) (h 
         begun = λ z. refl;
         same = λ ys.
             header-whole ys
-            ∙ ap (λ (j : ℕ). configured (accepted (cellsThen (take headerNumbers t′) (numbers j ys)))) (sym q)
-            ∙ ap (λ (x : Taken (List ℕ)). configured (accepted (cellsThen (take headerNumbers t′) x)))
+            ∙ ap (λ (j : ℕ). configured (accepted (bodyThen (take headerNumbers t′) (numbers j ys)))) (sym q)
+            ∙ ap (λ (x : Taken (List ℕ)). configured (accepted (bodyThen (take headerNumbers t′) x)))
             (going-start [] c ys ∙ ap (λ (j : ℕ). going start [] j ys) (let z : c ≡ c - 0 = omega arith in z))
-            ∙ sym (at-stage Cells (awaiting Cells c (r .nums)) t′ l ys refl);
+            ∙ sym (at-stage Body (awaiting Body c (r .nums)) t′ l ys refl);
       }
 
   header-last : Told (headerEnded r (r .nums) t′ .what) r t l (b ∷ []) (headerEnded r (r .nums) t′ .reader) t′ l []
   unfolding headerEnded
   header-last =
-      split _ (eqb (getD t′ 0 0) 0)
-      (λ x. rw x (header-refused (λ y z. omega (arith, eqb-true (getD t′ 0 0) 0 x))))
-      (λ x. rw x (split _ (ltb maxCells (getD t′ 0 0))
-      (λ y. rw y (header-refused (λ z w. omega (arith, ltb-true maxCells (getD t′ 0 0) y))))
-      (λ y. rw y (refl, header-next (cellWords * getD t′ 0 0 - 1) (pos x) (ltb-false maxCells (getD t′ 0 0) y)))))
+      split _ (countsFit (getD t′ 0 0) (getD t′ 6 0))
+      (λ x. rw x (let y = fits-of (getD t′ 0 0) (getD t′ 6 0) x in (refl, header-next (numbersAfter t′ - 1) (pos y) y)))
+      (λ x. rw x (header-refused (λ y. both-ways _ (fits-counted (getD t′ 0 0) (getD t′ 6 0) y) x)))
     where
-      pos : eqb (getD t′ 0 0) 0 ≡ false → suc (cellWords * getD t′ 0 0 - 1) ≡ cellWords * getD t′ 0 0
-      pos x = let n = eqb-false (getD t′ 0 0) 0 x in omega (arith, n)
+      pos : Fits (getD t′ 0 0) (getD t′ 6 0) → suc (numbersAfter t′ - 1) ≡ numbersAfter t′
+      pos y = omega (arith, y .some-cells)
 
--- ---- the last number of the cells
-module _ (r : Reader) (t l : List ℕ) (b v : ℕ) (e : r .stage ≡ Cells) (h : Good r t l) (w : (suc (r .last) ≡ cellWords * getD t 0 0) × (getD t 0 0 ≤ maxCells) × Roomy t)
+-- ---- the last number of the body
+module _ (r : Reader) (t l : List ℕ) (b v : ℕ) (e : r .stage ≡ Body) (h : Good r t l) (w : (suc (r .last) ≡ numbersAfter t) × Fits (getD t 0 0) (getD t 6 0) × Roomy t)
     (f : fedBy (r .part) b ≡ fed.Done v) (ge : r .last ≤ r .field) where
   abbrev t″ : List ℕ
   t″ = set t (headerWords + r .field) v
 
-  cell-place : headerWords + r .field < length t
-  cell-place = let a = h .within in let p = w .0 in let q = w .1 in let z = w .2 .room in omega arith
+  body-place : headerWords + r .field < length t
+  body-place = omega (arith, h .within, w .0, w .1 .few-cells, w .1 .few-subtypes, w .2 .room)
 
-  all-cells : take (r .field) (drop headerWords t) ++ (v ∷ []) ≡ take (cellWords * getD t″ 0 0) (drop headerWords t″)
-  all-cells =
-      let a = h .within in
-      let c = cells-kept t (r .field) v in
-      let p = w .0 in
-      let n : r .field + 1 ≡ cellWords * getD t″ 0 0 = omega arith in
-      sym (take-more-past headerWords t (r .field) v cell-place) ∙ ap (λ (j : ℕ). take j (drop headerWords t″)) n
+  all-body : take (r .field) (drop headerWords t) ++ (v ∷ []) ≡ take (numbersAfter t″) (drop headerWords t″)
+  all-body =
+      let n : r .field + 1 ≡ numbersAfter t″ = omega (arith, h .within, w .0, cells-kept t (r .field) v, subtypes-kept t (r .field) v) in
+      sym (take-more-past headerWords t (r .field) v body-place) ∙ ap (λ (j : ℕ). take j (drop headerWords t″)) n
 
-  pub cells-last : Configured r t l (b ∷ []) (atCall (r .nums)) t″ l []
-  unfolding cellsThen
-  cells-last =
+  pub body-last : Configured r t l (b ∷ []) (atCall (r .nums)) t″ l []
+  unfolding bodyThen
+  body-last =
       record {
         stage = ap callingAt e;
         reader = refl;
         good = record { small = small-start; within = omega arith; six = h .six; buffer = h .buffer; here = refl };
         size = length-set t (headerWords + r .field) v;
-        roomy = roomy-cell t (r .field) v (w .2);
-        cells = rw (cells-kept t (r .field) v) (w .1);
+        roomy = roomy-body t (r .field) v (w .2);
+        counts = rw (cells-kept t (r .field) v, subtypes-kept t (r .field) v) (w .1);
         same = λ ys.
-            number-last Cells r t l b e h (λ r t l s. refl) v ys f ge
-            ∙ ap (λ (ws : List ℕ). configured (accepted (took (take headerNumbers t ++ (0 ∷ 0 ∷ []) ++ ws) ys))) all-cells
-            ∙ ap (λ (vs : List ℕ). configured (accepted (took (vs ++ (0 ∷ 0 ∷ []) ++ take (cellWords * getD t″ 0 0) (drop headerWords t″)) ys)))
+            number-last Body r t l b e h (λ r t l s. refl) v ys f ge
+            ∙ ap (λ (ws : List ℕ). configured (accepted (took (take headerNumbers t ++ (0 ∷ []) ++ ws) ys))) all-body
+            ∙ ap (λ (vs : List ℕ). configured (accepted (took (vs ++ (0 ∷ []) ++ take (numbersAfter t″) (drop headerWords t″)) ys)))
             (sym (header-kept t (r .field) v))
-            ∙ ap (λ (c : List ℕ). configured (accepted (took c ys))) (whole t″ (roomy-cell t (r .field) v (w .2)));
+            ∙ ap (λ (c : List ℕ). configured (accepted (took c ys))) (whole t″ (roomy-body t (r .field) v (w .2)));
       }
 
 -- ---- the last number of a call
@@ -436,24 +434,23 @@ module _ (r : Reader) (t l : List ℕ) (b : ℕ) (h : Good r t l) where
           number-next Header r t l b e h (λ r t l s. refl) v f lt (take-more t (r .field) v (omega arith)) (λ x. refl)
           (w .0, roomy-header t (r .field) v (omega arith) (w .1)) (λ z. absurd (true≢false (sym z))) (length-set t (r .field) v) (h .six)
 
-  cells-told : r .stage ≡ Cells → ToldRead r t l b (numberRead r t l b)
-  unfolding cellsThen accepted
-  cells-told e =
-      number-told Cells e (λ r t l s. refl) refl
+  body-told : r .stage ≡ Body → ToldRead r t l b (numberRead r t l b)
+  unfolding bodyThen accepted
+  body-told e =
+      number-told Body e (λ r t l s. refl) refl
       (λ v f. split _ (ltb (r .field) (r .last))
       (λ x. rw x (refl, next v f (ltb-true (r .field) (r .last) x)))
-      (λ x. rw x (cells-last r t l b v e h (here-at Cells e) f (ltb-false (r .field) (r .last) x))))
+      (λ x. rw x (body-last r t l b v e h (here-at Body e) f (ltb-false (r .field) (r .last) x))))
     where
       next : (v : ℕ) → fedBy (r .part) b ≡ fed.Done v → r .field < r .last → Onward r t l (b ∷ []) (onward r (r .nums)) (set t (headerWords + r .field) v) l
       next v f lt =
-          let w = here-at Cells e in
-          let p = w .0 in
-          let m = w .1 in
-          let q = w .2 .room in
+          let w = here-at Body e in
           let c = cells-kept t (r .field) v in
-          number-next Cells r t l b e h (λ r t l s. refl) v f lt (take-more-past headerWords t (r .field) v (omega arith))
-          (λ x. ap (λ (vs : List ℕ). configured (accepted (cellsThen vs x))) (header-kept t (r .field) v))
-          (rw c p, rw c m, roomy-cell t (r .field) v (w .2)) (λ z. absurd (true≢false (sym z))) (length-set t (headerWords + r .field) v) (h .six)
+          let u = subtypes-kept t (r .field) v in
+          number-next Body r t l b e h (λ r t l s. refl) v f lt (take-more-past headerWords t (r .field) v (omega (arith, w .0, w .1 .few-cells, w .1 .few-subtypes, w .2 .room)))
+          (λ x. ap (λ (vs : List ℕ). configured (accepted (bodyThen vs x))) (header-kept t (r .field) v))
+          (rw (c, u) (w .0), rw (c, u) (w .1), roomy-body t (r .field) v (w .2)) (λ z. absurd (true≢false (sym z)))
+          (length-set t (headerWords + r .field) v) (h .six)
 
   numbers-told : r .stage ≡ Numbers → ToldRead r t l b (numberRead r t l b)
   unfolding callThen
@@ -476,6 +473,6 @@ module _ (r : Reader) (t l : List ℕ) (b : ℕ) (h : Good r t l) where
     where
       go : (g : Stage) → r .stage ≡ g → ToldRead r t l b (takeAt g r t l b)
       go Header e = header-told e
-      go Cells e = cells-told e
+      go Body e = body-told e
       go Numbers e = numbers-told e
       go Bytes e = bytes-told r t l b e h (here-at Bytes e)

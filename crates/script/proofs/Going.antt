@@ -2,13 +2,12 @@
 use mathlib.Core.Bool.{cond, _&&_}
 use mathlib.Core.List.{List, [], _∷_, _++_}
 use mathlib.Core.Path.{_≡_, refl, ap, _∙_}
-use Prim.Native.Nat.{ℕ, suc, _*_}
+use Prim.Native.Nat.{ℕ, suc}
 use lib.Dec.{leb}
 use lib.ListN.{length, getD, take, drop}
 use Rattle.rules.specs.Claim.{test}
-use Rattle.rules.specs.Layout.{cellWords}
 use Rattle.rules.specs.Step.{Call}
-use Rattle.rules.specs.Replay.{Taken, took, bad, number, numbersFrom, numbers, headerNumbers, configurationIn, replayable, callNumbers, maxBuffer, callOf, callIn}
+use Rattle.rules.specs.Replay.{Taken, took, bad, number, numbersFrom, numbers, headerNumbers, numbersAfter, configurationIn, replayable, callNumbers, maxBuffer, callOf, callIn}
 use Rattle.numerals.specs.declared.Part.{Part}
 use Rattle.numerals.specs.declared.Fed.{Fed}
 use Rattle.numerals.specs.declared.Fed.the-variants.{More, Done, Bad}
@@ -49,32 +48,32 @@ going-byte p vs k b s h = ap (thenNumbers vs k) (read-byte p b s h) ∙ go (fedB
     go (Done v) = refl
     go Bad = refl
 
--- ---- the configuration: its cells' numbers, then the whole
-unfoldable pub cellsThen : List ℕ → Taken (List ℕ) → Taken (List ℕ)
-cellsThen vs (took ws after) = took (vs ++ (0 ∷ 0 ∷ []) ++ ws) after
-cellsThen vs bad = bad
+-- ---- the configuration: its body's numbers, then the whole
+unfoldable pub bodyThen : List ℕ → Taken (List ℕ) → Taken (List ℕ)
+bodyThen vs (took ws after) = took (vs ++ (0 ∷ []) ++ ws) after
+bodyThen vs bad = bad
 
 unfoldable pub headerThen : Taken (List ℕ) → Taken (List ℕ)
-headerThen (took vs rest) = cellsThen vs (numbers (cellWords * getD vs 0 0) rest)
+headerThen (took vs rest) = bodyThen vs (numbers (numbersAfter vs) rest)
 headerThen bad = bad
 
 pub configuration-in : (s : List ℕ) → configurationIn s ≡ headerThen (numbers headerNumbers s)
-unfolding configurationIn headerThen cellsThen
+unfolding configurationIn headerThen bodyThen
 configuration-in s = go (numbers headerNumbers s)
   where
-    inner : (vs : List ℕ) (x : Taken (List ℕ)) → elim x as (λ y. Taken (List ℕ)) [ took ws after ↦ took (vs ++ (0 ∷ 0 ∷ []) ++ ws) after | bad ↦ bad ] ≡ cellsThen vs x
+    inner : (vs : List ℕ) (x : Taken (List ℕ)) → elim x as (λ y. Taken (List ℕ)) [ took ws after ↦ took (vs ++ (0 ∷ []) ++ ws) after | bad ↦ bad ] ≡ bodyThen vs x
     inner vs (took ws after) = refl
     inner vs bad = refl
 
     go : (x : Taken (List ℕ)) → elim x as (λ y. Taken (List ℕ)) [
       | took vs rest ↦
-          elim (numbers (cellWords * getD vs 0 0) rest) as (λ y. Taken (List ℕ)) [
-            | took ws after ↦ took (vs ++ (0 ∷ 0 ∷ []) ++ ws) after
+          elim (numbers (numbersAfter vs) rest) as (λ y. Taken (List ℕ)) [
+            | took ws after ↦ took (vs ++ (0 ∷ []) ++ ws) after
             | bad ↦ bad
           ]
       | bad ↦ bad
     ] ≡ headerThen x
-    go (took vs rest) = inner vs (numbers (cellWords * getD vs 0 0) rest)
+    go (took vs rest) = inner vs (numbers (numbersAfter vs) rest)
     go bad = refl
 
 -- a configuration that replay takes

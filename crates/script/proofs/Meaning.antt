@@ -4,17 +4,17 @@ use mathlib.Core.List.{List, [], _∷_, _++_}
 use mathlib.Core.Path.{_≡_}
 use Prim.Native.Nat.{ℕ, suc, _+_, _-_, _*_, _≤_}
 use lib.ListN.{length, getD, take, drop}
-use Rattle.rules.specs.Layout.{maxCells, headerWords, cellWords, configuration}
+use Rattle.rules.specs.Layout.{maxCells, maxSubtypes, headerWords, cellWords, subtypeWords, configuration}
 use Rattle.rules.specs.Step.{Call}
-use Rattle.rules.specs.Replay.{Taken, took, bad, headerNumbers, callNumbers, maxBuffer, callOf}
+use Rattle.rules.specs.Replay.{Taken, took, bad, headerNumbers, numbersAfter, callNumbers, maxBuffer, callOf}
 use Rattle.numerals.proofs.Read.{Small}
 use Rattle.script.specs.declared.Stage.{Stage}
-use Rattle.script.specs.declared.Stage.the-variants.{Header, Cells, Numbers, Bytes}
+use Rattle.script.specs.declared.Stage.the-variants.{Header, Body, Numbers, Bytes}
 use Rattle.script.specs.declared.Reader.{Reader}
 use Rattle.script.specs.declared.What.{What}
 use Rattle.script.specs.declared.What.the-variants as what
 use Rattle.script.specs.Take.{callingAt, isBetween, atCall}
-use Rattle.script.proofs.Going.{going, cellsThen, headerThen, accepted, callThen, bytesThen}
+use Rattle.script.proofs.Going.{going, bodyThen, headerThen, accepted, callThen, bytesThen}
 
 -- the configuration that is being read, or the call
 pub data Meaning : Type 0 where
@@ -24,14 +24,14 @@ pub data Meaning : Type 0 where
 -- what the numbers of a stage come to
 abbrev pub outer : Stage → List ℕ → Taken (List ℕ) → Meaning
 outer Header t x = configured (accepted (headerThen x))
-outer Cells t x = configured (accepted (cellsThen (take headerNumbers t) x))
+outer Body t x = configured (accepted (bodyThen (take headerNumbers t) x))
 outer Numbers t x = called (callThen x)
 outer Bytes t x = called bad
 
 -- those that are read
 abbrev pub soFar : Stage → ℕ → List ℕ → List ℕ → List ℕ
 soFar Header f nums t = take f t
-soFar Cells f nums t = take f (drop headerWords t)
+soFar Body f nums t = take f (drop headerWords t)
 soFar Numbers f nums t = take f nums
 soFar Bytes f nums t = []
 
@@ -40,7 +40,7 @@ ofNumbers g r t s = outer g t (going (r .part) (soFar g (r .field) (r .nums) t) 
 
 abbrev pub meaningAt : Stage → Reader → List ℕ → List ℕ → List ℕ → Meaning
 meaningAt Header r t l s = ofNumbers Header r t s
-meaningAt Cells r t l s = ofNumbers Cells r t s
+meaningAt Body r t l s = ofNumbers Body r t s
 meaningAt Numbers r t l s = ofNumbers Numbers r t s
 meaningAt Bytes r t l s = called (bytesThen (r .nums) (take (r .field) l) (suc (r .last - r .field)) s)
 
@@ -58,15 +58,20 @@ faultAt g = faultOf (callingAt g)
 
 -- ---- a reader that can come up
 
--- room for every configuration, and the header's two zeros
+-- room for every configuration, and the header's last zero
 pub record Roomy (t : List ℕ) : Type 0 where
-  pub room : headerWords + cellWords * maxCells ≤ length t
-  pub zero6 : getD t 6 0 ≡ 0
+  pub room : headerWords + cellWords * maxCells + subtypeWords * maxSubtypes ≤ length t
   pub zero7 : getD t 7 0 ≡ 0
 
+-- c cells and u subtypes, as a configuration can have them
+pub record Fits (c u : ℕ) : Type 0 where
+  pub some-cells : 1 ≤ c
+  pub few-cells : c ≤ maxCells
+  pub few-subtypes : u ≤ maxSubtypes
+
 abbrev pub GoodAt : Stage → Reader → List ℕ → Type 0
-GoodAt Header r t = (r .last ≡ 5) × Roomy t
-GoodAt Cells r t = (suc (r .last) ≡ cellWords * getD t 0 0) × (getD t 0 0 ≤ maxCells) × Roomy t
+GoodAt Header r t = (r .last ≡ 6) × Roomy t
+GoodAt Body r t = (suc (r .last) ≡ numbersAfter t) × Fits (getD t 0 0) (getD t 6 0) × Roomy t
 GoodAt Numbers r t = r .last ≡ 5
 GoodAt Bytes r t = (suc (r .last) ≡ getD (r .nums) 5 0) × (getD (r .nums) 5 0 ≤ maxBuffer)
 
@@ -100,7 +105,7 @@ pub record Configured (r : Reader) (t l s : List ℕ) (r′ : Reader) (t′ l′
   pub good : Good r′ t′ l′
   pub size : length t′ ≡ length t
   pub roomy : Roomy t′
-  pub cells : getD t′ 0 0 ≤ maxCells
+  pub counts : Fits (getD t′ 0 0) (getD t′ 6 0)
   pub same : (ys : List ℕ) → meaning r t l (s ++ ys) ≡ configured (accepted (took (configuration t′) (rest ++ ys)))
 
 -- a call is whole

@@ -12,14 +12,14 @@ use Rattle.rules.specs.Replay.{Taken, took, bad, headerNumbers, configurationIn
 use Rattle.laws.proofs.Tests.{split, and-left, and-right}
 use Rattle.numerals.specs.Fed.{start}
 use Rattle.script.specs.declared.Stage.{Stage}
-use Rattle.script.specs.declared.Stage.the-variants.{Header, Cells, Numbers, Bytes}
+use Rattle.script.specs.declared.Stage.the-variants.{Header, Body, Numbers, Bytes}
 use Rattle.script.specs.declared.Reader.{Reader}
 use Rattle.script.specs.declared.What.{What}
 use Rattle.script.specs.declared.What.the-variants as what
 use Rattle.script.specs.Take.{isMore, newReader, betweenAt, isBetween, take as takeOne}
 use Rattle.script.specs.Advance.{Advanced, advance}
 use Rattle.script.proofs.Piece.{goes-on, stops, ends}
-use Rattle.script.proofs.Going.{going, going-start, going-end, configuration-in, headerThen, cellsThen, accepted, call-in, callThen, bytesThen}
+use Rattle.script.proofs.Going.{going, going-start, going-end, configuration-in, headerThen, bodyThen, accepted, call-in, callThen, bytesThen}
 use Rattle.script.proofs.Meaning.{configured, called, meaningAt, meaning, faultOf, faultAt, GoodAt, Good, fresh, Onward, Told}
 use Rattle.script.proofs.Byte.{at-stage, byte-told}
 
@@ -49,7 +49,7 @@ join what.Configuration r t l b r₁ t₁ l₁ s r′ t′ l′ rest o p =
       size = p .size
           ∙ o .size;
       roomy = p .roomy;
-      cells = p .cells;
+      counts = p .counts;
       same = λ ys. o .same (s ++ ys) ∙ p .same ys;
     }
 join what.Call r t l b r₁ t₁ l₁ s r′ t′ l′ rest o p =
@@ -68,7 +68,7 @@ halt : (w : What) (r : Reader) (t l : List ℕ) (b : ℕ) (s : List ℕ) (r′ :
     → Told w r t l (b ∷ []) r′ t′ l′ [] → Told w r t l (b ∷ s) r′ t′ l′ s
 halt what.More r t l b s r′ t′ l′ n p = absurd (true≢false n)
 halt what.Configuration r t l b s r′ t′ l′ n p =
-    record { stage = p .stage; reader = p .reader; good = p .good; size = p .size; roomy = p .roomy; cells = p .cells; same = λ ys. p .same (s ++ ys) }
+    record { stage = p .stage; reader = p .reader; good = p .good; size = p .size; roomy = p .roomy; counts = p .counts; same = λ ys. p .same (s ++ ys) }
 halt what.Call r t l b s r′ t′ l′ n p =
     record { stage = p .stage; reader = p .reader; good = p .good; table = p .table; short = p .short; same = λ ys. p .same (s ++ ys) }
 halt what.Fault r t l b s r′ t′ l′ n p = record { same = λ ys. p .same (s ++ ys) }
@@ -99,7 +99,7 @@ piece-told r t l (b ∷ s) i h =
 -- a new reader reads a configuration
 pub at-start : (t l s : List ℕ) → meaning newReader t l s ≡ configured (accepted (configurationIn s))
 unfolding meaning
-at-start t l s = ap (λ (x : Taken (List ℕ)). configured (accepted x)) (sym (configuration-in s ∙ ap headerThen (going-start [] 5 s)))
+at-start t l s = ap (λ (x : Taken (List ℕ)). configured (accepted x)) (sym (configuration-in s ∙ ap headerThen (going-start [] 6 s)))
 
 -- a reader between calls reads a call
 between-is : (r : Reader) (t l : List ℕ) → Good r t l → isBetween r ≡ true → (r .stage ≡ Numbers) × (r .field ≡ 0) × (r .part ≡ start) × (r .last ≡ 5)
@@ -110,7 +110,7 @@ between-is r t l h e = go (r .stage) refl e (h .here)
 
     go : (g : Stage) → r .stage ≡ g → betweenAt g r ≡ true → GoodAt g r t → (r .stage ≡ Numbers) × (r .field ≡ 0) × (r .part ≡ start) × (r .last ≡ 5)
     go Header q z w = absurd (true≢false (sym z))
-    go Cells q z w = absurd (true≢false (sym z))
+    go Body q z w = absurd (true≢false (sym z))
     go Bytes q z w = absurd (true≢false (sym z))
     go Numbers q z w =
         let c : r .part .count ≡ 0 = eqb-true _ _ (and-right (eqb (r .field) 0) (eqb (r .part .count) 0) z) in
@@ -125,7 +125,7 @@ at-call r t l s h e =
 
 -- where the input ends, what is read in part is a fault
 pub at-end : (r : Reader) (t l : List ℕ) → meaning r t l [] ≡ faultAt (r .stage)
-unfolding meaning headerThen cellsThen accepted callThen bytesThen
+unfolding meaning headerThen bodyThen accepted callThen bytesThen
 at-end r t l = go (r .stage)
   where
     none : (vs : List ℕ) → going (r .part) vs (r .last - r .field) [] ≡ bad
@@ -133,6 +133,6 @@ at-end r t l = go (r .stage)
 
     go : (g : Stage) → meaningAt g r t l [] ≡ faultAt g
     go Header = ap (λ (x : Taken (List ℕ)). configured (accepted (headerThen x))) (none (take (r .field) t))
-    go Cells = ap (λ (x : Taken (List ℕ)). configured (accepted (cellsThen (take headerNumbers t) x))) (none (take (r .field) (drop headerWords t)))
+    go Body = ap (λ (x : Taken (List ℕ)). configured (accepted (bodyThen (take headerNumbers t) x))) (none (take (r .field) (drop headerWords t)))
     go Numbers = ap (λ (x : Taken (List ℕ)). called (callThen x)) (none (take (r .field) (r .nums)))
     go Bytes = rw (lt-leb (suc (r .last - r .field)) 0 (omega arith))

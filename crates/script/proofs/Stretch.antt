@@ -16,7 +16,7 @@ use Rattle.numerals.specs.declared.Scan.{Scan}
 use Rattle.numerals.specs.Fed.{start, fedBy, scan, scanOf}
 use Rattle.numerals.proofs.Scanning.{scan-more, scan-done, scan-bad, scan-end, scan-past}
 use Rattle.script.specs.declared.Stage.{Stage}
-use Rattle.script.specs.declared.Stage.the-variants.{Header, Cells, Numbers, Bytes}
+use Rattle.script.specs.declared.Stage.the-variants.{Header, Body, Numbers, Bytes}
 use Rattle.script.specs.declared.Reader.{Reader}
 use Rattle.script.specs.declared.Took.{Took}
 use Rattle.script.specs.declared.Moved.{Moved}
@@ -35,7 +35,7 @@ one-byte r t l b s i =
 -- ---- the bytes of a number
 number-taken : (g : Stage) (r : Reader) (t l : List ℕ) (b : ℕ) → isBytes g ≡ false → takeAt g r t l b ≡ numberRead r t l b
 number-taken Header r t l b e = refl
-number-taken Cells r t l b e = refl
+number-taken Body r t l b e = refl
 number-taken Numbers r t l b e = refl
 number-taken Bytes r t l b e = let z : _≡_ {A = ℕ} 0 1 = cc in absurd (omega arith)
 
@@ -91,7 +91,7 @@ code-number r t l s i x z y t′ n h e w p q =
 byte-taken : (g : Stage) (r : Reader) (t l : List ℕ) (b : ℕ) → isBytes g ≡ true → takeAt g r t l b ≡ read (byteTook r) t (set l (r .field) b)
 byte-taken Bytes r t l b e = refl
 byte-taken Header r t l b e = let z : _≡_ {A = ℕ} 0 1 = cc in absurd (omega arith)
-byte-taken Cells r t l b e = let z : _≡_ {A = ℕ} 0 1 = cc in absurd (omega arith)
+byte-taken Body r t l b e = let z : _≡_ {A = ℕ} 0 1 = cc in absurd (omega arith)
 byte-taken Numbers r t l b e = let z : _≡_ {A = ℕ} 0 1 = cc in absurd (omega arith)
 
 module _ (r : Reader) (t l : List ℕ) (b : ℕ) (s : List ℕ) (i : ℕ) (n : isBytes (r .stage) ≡ true) where

@@ -2,17 +2,17 @@
 -- (That this is what the rules read is proved in proofs/.)
 use mathlib.Core.Bool.{Bool, true, false, cond, _&&_}
 use mathlib.Core.List.{List}
-use Prim.Native.Nat.{ℕ, _+_, _-_, _*_}
-use lib.Dec.{ltb, eqb}
+use Prim.Native.Nat.{ℕ, _+_, _-_}
+use lib.Dec.{ltb, leb, eqb}
 use lib.ListN.{getD, set, replicate}
-use Rattle.rules.specs.Layout.{maxCells, headerWords, cellWords}
-use Rattle.rules.specs.Replay.{headerNumbers, callNumbers, maxBuffer}
+use Rattle.rules.specs.Layout.{maxCells, maxSubtypes, headerWords}
+use Rattle.rules.specs.Replay.{headerNumbers, numbersAfter, callNumbers, maxBuffer}
 use Rattle.numerals.specs.declared.Part.{Part}
 use Rattle.numerals.specs.declared.Fed.{Fed}
 use Rattle.numerals.specs.declared.Fed.the-variants as fed
 use Rattle.numerals.specs.Fed.{start, fedBy}
 use Rattle.script.specs.declared.Stage.{Stage}
-use Rattle.script.specs.declared.Stage.the-variants.{Header, Cells, Numbers, Bytes}
+use Rattle.script.specs.declared.Stage.the-variants.{Header, Body, Numbers, Bytes}
 use Rattle.script.specs.declared.Reader.{Reader}
 use Rattle.script.specs.declared.What.{What}
 use Rattle.script.specs.declared.What.the-variants.{More, Configuration, Call, Fault}
@@ -41,14 +41,14 @@ atCall nums = awaiting Numbers (callNumbers - 1) nums
 -- in a call's buffer
 abbrev pub isBytes : Stage → Bool
 isBytes Header = false
-isBytes Cells = false
+isBytes Body = false
 isBytes Numbers = false
 isBytes Bytes = true
 
 -- past the configuration
 abbrev pub callingAt : Stage → Bool
 callingAt Header = false
-callingAt Cells = false
+callingAt Body = false
 callingAt Numbers = true
 callingAt Bytes = true
 
@@ -58,7 +58,7 @@ isCalling r = callingAt (r .stage)
 -- no call is read in part
 abbrev pub betweenAt : Stage → Reader → Bool
 betweenAt Header r = false
-betweenAt Cells r = false
+betweenAt Body r = false
 betweenAt Numbers r = eqb (r .field) 0 && eqb (r .part .count) 0
 betweenAt Bytes r = false
 
@@ -82,10 +82,10 @@ withPart r p = record { stage = r .stage; part = p; field = r .field; last = r .
 
 -- ---- a number is whole: v, number `field` of the stage
 
--- the configuration's numbers are kept in the table, past the header's two zeros where they are the cells'
+-- the configuration's numbers are kept in the table, past the header's last zero where they are the body's
 abbrev pub keptTableAt : Stage → ℕ → ℕ → List ℕ → List ℕ
 keptTableAt Header f v t = set t f v
-keptTableAt Cells f v t = set t (headerWords + f) v
+keptTableAt Body f v t = set t (headerWords + f) v
 keptTableAt Numbers f v t = t
 keptTableAt Bytes f v t = t
 
@@ -95,25 +95,27 @@ keptTable r v t = keptTableAt (r .stage) (r .field) v t
 -- a call's numbers are kept by the reader
 abbrev pub keptNumsAt : Stage → ℕ → ℕ → List ℕ → List ℕ
 keptNumsAt Header f v ns = ns
-keptNumsAt Cells f v ns = ns
+keptNumsAt Body f v ns = ns
 keptNumsAt Numbers f v ns = set ns f v
 keptNumsAt Bytes f v ns = ns
 
 abbrev pub keptNums : Reader → ℕ → List ℕ
 keptNums r v = keptNumsAt (r .stage) (r .field) v (r .nums)
 
+-- the numbers of cells and of subtypes that a configuration can have: with others it is bad, whatever follows
+unfoldable pub countsFit : ℕ → ℕ → Bool
+countsFit c u = leb 1 c && (leb c maxCells && leb u maxSubtypes)
+
 -- it is the stage's last; nums and table have it already
 unfoldable pub headerEnded : Reader → List ℕ → List ℕ → Took
-headerEnded r nums t =
-    cond (eqb (getD t 0 0) 0) (took Fault r)
-    (cond (ltb maxCells (getD t 0 0)) (took Fault r) (took More (awaiting Cells (cellWords * getD t 0 0 - 1) nums)))
+headerEnded r nums t = cond (countsFit (getD t 0 0) (getD t 6 0)) (took More (awaiting Body (numbersAfter t - 1) nums)) (took Fault r)
 
 unfoldable pub numbersEnded : Reader → List ℕ → ℕ → Took
 numbersEnded r nums v = cond (ltb maxBuffer v) (took Fault r) (cond (eqb v 0) (took Call (atCall nums)) (took More (awaiting Bytes (v - 1) nums)))
 
 abbrev pub endedAt : Stage → Reader → List ℕ → List ℕ → ℕ → Took
 endedAt Header r nums t v = headerEnded r nums t
-endedAt Cells r nums t v = took Configuration (atCall nums)
+endedAt Body r nums t v = took Configuration (atCall nums)
 endedAt Numbers r nums t v = numbersEnded r nums v
 endedAt Bytes r nums t v = took Fault r
 
@@ -154,7 +156,7 @@ byteTook r = cond (ltb (r .field) (r .last)) (took More (onward r (r .nums))) (t
 
 abbrev pub takeAt : Stage → Reader → List ℕ → List ℕ → ℕ → Read
 takeAt Header r t l b = numberRead r t l b
-takeAt Cells r t l b = numberRead r t l b
+takeAt Body r t l b = numberRead r t l b
 takeAt Numbers r t l b = numberRead r t l b
 takeAt Bytes r t l b = read (byteTook r) t (set l (r .field) b)
 

@@ -1,22 +1,25 @@
-// A replay script, read in pieces: the header's numbers, the cells' numbers, then calls, each of six numbers and its buffer's bytes. Any of these may lie across
-// any number of pieces of the input.
+// A replay script, read in pieces: the header's numbers, the body's (the cells' and then the subtypes'), then calls, each of six numbers and its buffer's bytes. Any of
+// these may lie across any number of pieces of the input.
 ghost use mathlib.Core.Bool.{true, false};
 ghost use mathlib.Core.List.{List};
 ghost use mathlib.Core.Path.{_≡_};
 ghost use Prim.Native.Nat.{ℕ, _+_, _<_, _≤_};
 ghost use lib.ListN.{drop, length, set};
-ghost use Rattle.script.specs.Take.{awaiting as awaitingAt, newReader, isMore, isBytes, isCalling, isBetween, onward, further, keptNums, keptTable, headerEnded, numbersEnded, ended, numbered, withPart, fedTook, fedTable, bytesLeft};
+ghost use Rattle.script.specs.Take.{awaiting as awaitingAt, newReader, isMore, isBytes, isCalling, isBetween, onward, further, keptNums, keptTable, countsFit, headerEnded, numbersEnded, ended, numbered, withPart, fedTook, fedTable, bytesLeft};
 ghost use Rattle.script.specs.Advance.{advance, Advances, Goes};
 use numerals::Fed;
 use numerals::Part;
 use rules::CELL_WORDS;
 use rules::HEADER_WORDS;
 use rules::MAX_CELLS;
+use rules::MAX_SUBTYPES;
+use rules::SUBTYPE_WORDS;
+use rules::SUBTYPES;
 
 // What is being read.
 pub enum Stage {
     Header,
-    Cells,
+    Body,
     Numbers,
     Bytes,
 }
@@ -51,7 +54,7 @@ pub struct Moved {
     pub next: usize,
 }
 
-const LAST_OF_HEADER: u32 = 5;
+const LAST_OF_HEADER: u32 = 6;
 
 const LAST_OF_CALL: u32 = 5;
 
@@ -81,6 +84,13 @@ fn awaiting(stage: Stage, last: u32, nums: [u32; 6]) -> Reader
     }
 }
 
+// As many cells and subtypes as a configuration can have.
+fn counts_fit(cells: usize, subtypes: usize) -> bool
+    ensures { λ r. ⌜ r ≡ countsFit cells subtypes ⌝ }
+{
+    (1 <= cells) & ((cells <= MAX_CELLS) & (subtypes <= MAX_SUBTYPES))
+}
+
 // The call's number at a place.
 fn set_num(nums: [u32; 6], at: usize, v: u32) -> [u32; 6]
     ensures { λ r. ⌜ r ≡ set nums at v ⌝ }
@@ -108,7 +118,7 @@ impl Reader {
         let stage = self.stage;
         match stage {
             Stage::Header => false,
-            Stage::Cells => false,
+            Stage::Body => false,
             Stage::Numbers => true,
             Stage::Bytes => true,
         }
@@ -122,7 +132,7 @@ impl Reader {
         let part = self.part;
         match stage {
             Stage::Header => false,
-            Stage::Cells => false,
+            Stage::Body => false,
             Stage::Numbers => (self.field == 0) & (part.count == 0),
             Stage::Bytes => false,
         }
@@ -171,7 +181,7 @@ impl Reader {
                 words::put(table, at, v);
                 nums
             }
-            Stage::Cells => {
+            Stage::Body => {
                 words::put(table, HEADER_WORDS + at, v);
                 nums
             }
@@ -180,24 +190,20 @@ impl Reader {
         }
     }
 
-    // The header is whole: 1..16 cells follow.
+    // The header is whole: its cells and subtypes follow. With too many of them, or no cell, the configuration is bad, whatever follows: so its body is not read.
     fn header_ended(self, nums: [u32; 6], table: &[u32]) -> Took
         ensures { λ r. ⌜ r ≡ headerEnded self nums (now (table .entry)) ⌝ }
     {
         let cells = words::wide(words::word(table, 0));
-        if cells == 0 {
+        let subtypes = words::wide(words::word(table, SUBTYPES));
+        if !counts_fit(cells, subtypes) {
             return Took {
                 what: What::Fault,
                 reader: self,
             };
         }
-        if MAX_CELLS < cells {
-            return Took {
-                what: What::Fault,
-                reader: self,
-            };
-        }
-        let reader = awaiting(Stage::Cells, (CELL_WORDS * cells - 1) as u32, nums);
+        let last = CELL_WORDS * cells + SUBTYPE_WORDS * subtypes - 1;
+        let reader = awaiting(Stage::Body, last as u32, nums);
         Took {
             what: What::More,
             reader,
@@ -235,7 +241,7 @@ impl Reader {
         let stage = self.stage;
         match stage {
             Stage::Header => self.header_ended(nums, table),
-            Stage::Cells => {
+            Stage::Body => {
                 let reader = awaiting(Stage::Numbers, LAST_OF_CALL, nums);
                 Took {
                     what: What::Configuration,
@@ -364,7 +370,7 @@ impl Reader {
         let stage = self.stage;
         match stage {
             Stage::Header => false,
-            Stage::Cells => false,
+            Stage::Body => false,
             Stage::Numbers => false,
             Stage::Bytes => true,
         }

@@ -5,13 +5,15 @@ use mathlib.Core.List.{List, []}
 use Prim.Native.Nat.{ℕ, zero, suc, _≤_, _<_}
 use native.Mathlib.Omega.{arith}
 use lib.Dec.{leb, eqb}
-use borrow.Author.Tests.{lt-leb, eqb-false}
+use borrow.Author.Tests.{lt-leb, eqb-false, ne-eqb}
 use Rattle.rules.specs.Layout.{Kind, process, segment, file, slots, cellOf, Addr, at, entries, heldAt, pagesAt}
+use Rattle.rules.specs.Seid.{class}
 use Rattle.rules.specs.Rule.{Word, over, sameAddr}
 use Rattle.rules.specs.Find.{freed, zeros, oneLess, pagesSet, pagesCleared, emptied, givenUp}
 use Rattle.rules.specs.Call02.{dropped, droppedTo, released, releaseProcess}
 use Rattle.laws.proofs.Tests.{tests, split, cond-true, cond-false}
 use Rattle.laws.proofs.Object.{Object, no-process}
+use Rattle.laws.proofs.Seids.{class-pos, class-some, is-formed}
 use Rattle.laws.proofs.Places.{same-addr}
 use Rattle.laws.proofs.Written.{AllOf, nil, also, all-if, all-append, all-tab, over-at}
 use Rattle.secrecy.proofs.Shown.{up-rules, alike-rules, Ups, WritesUp, Alike}
@@ -70,7 +72,8 @@ here-over {h} {p} {r} {ws} c v = record {
   shape = v .shape;
   there = v .there;
   reaching = λ p k d pp e l n.
-      let same : over r ws (at process p (heldAt k d)) ≡ r (at process p (heldAt k d)) = over-some (at process p (heldAt k d)) refl (held-low k d e l) c r n in
+      let some = ne-eqb _ 0 (class-some _ (class k) (class-pos k) (is-formed (class k) (slots h k) _ n .class-is)) in
+      let same : over r ws (at process p (heldAt k d)) ≡ r (at process p (heldAt k d)) = over-some (at process p (heldAt k d)) refl (held-low k d e l) c r some in
       rw same (v .reaching p k d pp e l (rw same at n));
 }
 
@@ -83,7 +86,7 @@ view-over {r = r} {q = q} {ws = ws} c v =
 module _ {h : List ℕ} {p : ℕ} where
   up-dropped : {r : Addr → ℕ} → View.Here h p r → (k : Kind) (d : ℕ) → Object k → leb entries d ≡ false → Ups h (cellOf h process p) (dropped h r k p d)
   unfolding dropped
-  up-dropped v k d e l = search (all-if, nil, up-given v, View.held-in v)
+  up-dropped v k d e l = search (all-if, nil, up-given v)
 
   up-to : {r : Addr → ℕ} → View.Here h p r → (k : Kind) (n : ℕ) → Object k → n ≤ entries → Ups h (cellOf h process p) (droppedTo h r k p n)
   unfolding droppedTo
@@ -103,7 +106,7 @@ module _ {h : List ℕ} {p : ℕ} where
   same-dropped {r = r} v k d e l = rw (View.same-held v k d e l)
       (split _ (eqb (r (at process p (heldAt k d))) 0)
       (λ z. rw z)
-      (λ z. rw (same-given v k d (r (at process p (heldAt k d))) e (View.held-in (v .here) k d e l z))))
+      (λ z. rw (same-given v k d (r (at process p (heldAt k d))) e)))
 
   same-to : {C : ℕ → Bool} {r q : Addr → ℕ} → View.View h p C r q → (k : Kind) (n : ℕ) → Object k → n ≤ entries
       → droppedTo h q k p n ≡ droppedTo h r k p n

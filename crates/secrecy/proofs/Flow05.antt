@@ -10,9 +10,9 @@ use Rattle.secrecy.proofs.Give.{up-given, same-given}
 
 pub up05 : {h : List ℕ} {p : ℕ} {r : Addr → ℕ} → View.Here h p r → (a : ℕ) (buffer : List ℕ) → WritesUp h (cellOf h process p) (releaseSegment h r p a buffer)
 unfolding releaseSegment
-up05 v a buffer = search (up-rules, up-given v, View.held-in v) depth 12
+up05 v a buffer = search (up-rules, up-given v) depth 12
 
 pub alike05 : {h : List ℕ} {p : ℕ} {C : ℕ → Bool} {r q : Addr → ℕ} → View.View h p C r q → (a : ℕ) (buffer : List ℕ)
     → Alike h C (releaseSegment h r p a buffer) (releaseSegment h q p a buffer)
 unfolding releaseSegment
-alike05 v a buffer = search (alike-rules, View.same-held v, same-given v, View.held-in (v .here)) depth 12
+alike05 v a buffer = search (alike-rules, View.same-held v, same-given v) depth 12

@@ -15,4 +15,4 @@ pub alike06 : {h : List ℕ} {p : ℕ} {C : ℕ → Bool} {r q : Addr → ℕ} �
     → Alike h C (setAccess h r p a b buffer) (setAccess h q p a b buffer)
 unfolding setAccess
 alike06 v a b buffer =
-    search (alike-rules, View.same-held v, View.same-present v, View.same-rights v, View.held-in (v .here), View.held-flows (v .here)) depth 12
+    search (alike-rules, View.same-held v, View.same-stale v, View.same-rights v, View.held-in (v .here), View.held-flows (v .here)) depth 12

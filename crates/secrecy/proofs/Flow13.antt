@@ -36,7 +36,7 @@ alike13 v s t e g a b buffer =
       View.same-held v,
       View.same-used v,
       View.same-below v,
-      View.same-present v,
+      View.same-stale v,
       View.same-rights v,
       same-block v s t e g,
       View.held-in (v .here),

@@ -6,31 +6,33 @@ use Prim.Native.Nat.{ℕ, _*_, _-_, _≤_, _<_}
 use native.Mathlib.Omega.{arith}
 use lib.Dec.{leb, eqb}
 use lib.ListN.{length, replicate, length-replicate}
-use borrow.Author.Tests.{eqb-false}
 use Rattle.rules.specs.Claim.{Holds}
 use Rattle.rules.specs.Layout.{process, file, blockBytes, slots, blocks, cellOf, flows, Addr, at, entries, heldAt, usedAt, size}
-use Rattle.rules.specs.Seid.{indexOf, present}
+use Rattle.rules.specs.Seid.{class, indexOf, formed, present}
+use Rattle.rules.specs.Find.{stale}
 use Rattle.rules.specs.Modes.{writes}
 use Rattle.rules.specs.Rule.{bytesAt}
 use Rattle.rules.specs.WellFormed.{recordsOk}
 use Rattle.rules.specs.Call14.{blockWritten, writeBlock}
-use Rattle.laws.proofs.Tests.{tests, passed}
-use Rattle.laws.proofs.Seids.{is-present}
-use Rattle.laws.proofs.Shape.{file-record}
+use Rattle.laws.proofs.Tests.{tests, and-right, passed}
+use Rattle.laws.proofs.Seids.{is-formed, is-present}
+use Rattle.laws.proofs.Shape.{formed-object, file-record}
 use Rattle.laws.proofs.Written.{AllOf, nil, also}
 use Rattle.secrecy.proofs.Shown.{up-rules, alike-rules, UpBytes, WritesUp, Alike}
 use Rattle.secrecy.proofs.View
 
 -- what is held for writing is of the own cell
 written-own : {h : List ℕ} {p : ℕ} {r : Addr → ℕ} → View.Here h p r → Holds (recordsOk h r) → (d : ℕ) → leb entries d ≡ false
-    → eqb (r (at process p (heldAt file d))) 0 ≡ false → not (writes (r (at process p (usedAt file d)))) ≡ false
+    → stale h r file (r (at process p (heldAt file d))) ≡ false → not (writes (r (at process p (usedAt file d)))) ≡ false
     → cellOf h file (indexOf (r (at process p (heldAt file d)))) ≡ cellOf h process p
 written-own {h} {p} {r} v w d l n m =
-    View.entry-at h r w p file d (v .there) tt l .writes-own (eqb-false (r (at process p (heldAt file d))) 0 n) (passed (writes (r (at process p (usedAt file d)))) m)
+    View.entry-at h r w p file d (v .there) tt l .writes-own (formed-object h file _ (View.unstale h r file _ n)) (passed (writes (r (at process p (usedAt file d)))) m)
 
-pub size-fits : {h : List ℕ} {p : ℕ} {r : Addr → ℕ} → View.Here h p r → Holds (recordsOk h r) → (s : ℕ) → indexOf s < slots h file → not (present r file s) ≡ false
+pub size-fits : {h : List ℕ} {p : ℕ} {r : Addr → ℕ} → View.Here h p r → Holds (recordsOk h r) → (s : ℕ) → stale h r file s ≡ false
     → r (at file (indexOf s) size) ≤ blocks h
-size-fits {h} {p} {r} v w s l e = file-record h r w (indexOf s) l .alive (is-present r file s (passed (present r file s) e) .is-live) .size-fits
+size-fits {h} {p} {r} v w s e =
+    let there = is-formed (class file) (slots h file) s (View.unstale h r file s e) .index-in in
+    file-record h r w (indexOf s) there .alive (is-present r file s (and-right (formed h file s) (present r file s) (passed _ e)) .is-live) .size-fits
 
 -- zeros up to block b, and block b
 up-block : {h : List ℕ} {p : ℕ} {r : Addr → ℕ} → View.Here h p r → (f n b : ℕ) (buffer : List ℕ) → f < slots h file → cellOf h file f ≡ cellOf h process p
@@ -59,7 +61,7 @@ alike14 v a b buffer =
       View.same-held v,
       View.same-used v,
       View.same-below v,
-      View.same-present v,
+      View.same-stale v,
       View.same-rights v,
       View.held-in (v .here),
       View.held-flows (v .here),

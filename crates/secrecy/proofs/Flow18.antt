@@ -18,7 +18,7 @@ alike18 v a buffer = search (
   alike-rules,
   View.same-held v,
   View.same-used v,
-  View.same-present v,
+  View.same-stale v,
   View.same-rights v,
   View.held-in (v .here),
   View.held-flows (v .here),

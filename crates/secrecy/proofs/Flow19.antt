@@ -11,7 +11,7 @@ use Rattle.rules.specs.Seid.{indexOf}
 use Rattle.rules.specs.Find.{stale, pageLeft, pagesSet}
 use Rattle.rules.specs.Rule.{Word, effect}
 use Rattle.rules.specs.Call19.{named, vacant, isMapped, pagesOf, conflict, pageTaken, remapped, remap}
-use Rattle.laws.proofs.Tests.{split, or-left}
+use Rattle.laws.proofs.Tests.{split}
 use Rattle.laws.proofs.Below.{some-same}
 use Rattle.secrecy.proofs.Shown.{up-rules, WritesUp, Alike, alike-test, alike-effect, same-effect}
 use Rattle.secrecy.proofs.View
@@ -44,23 +44,21 @@ module _ {h : List ℕ} {p : ℕ} {C : ℕ → Bool} {r q : Addr → ℕ} (v : V
             (λ i l. let in-map : b + i < pages = omega (arith, ltb-false pages (b + n) t) in rw (e (b + i) in-map)),
       ))
 
-  module _ (a b c : ℕ) (named-a : named a ≡ true) (filled : vacant r p a ≡ false) where
+  module _ (a b c : ℕ) (named-a : named a ≡ true) where
     held : q (at process p (heldAt segment a)) ≡ r (at process p (heldAt segment a))
     held = View.same-held v segment a tt (entry-in a named-a)
 
-    same-stale : stale q segment (q (at process p (heldAt segment a))) ≡ stale r segment (r (at process p (heldAt segment a)))
-    same-stale = rw (
-      held,
-      View.same-present v segment (r (at process p (heldAt segment a)))
-          (View.held-in (v .here) segment a tt (entry-in a named-a) filled) (View.held-flows (v .here) segment a tt (entry-in a named-a) filled),
-    )
+    same-stale : stale h q segment (q (at process p (heldAt segment a))) ≡ stale h r segment (r (at process p (heldAt segment a)))
+    same-stale = rw held (View.same-stale v segment a tt (entry-in a named-a))
 
+  -- an incoming one that isn't stale
+  module _ (a b c : ℕ) (named-a : named a ≡ true) (current : stale h r segment (r (at process p (heldAt segment a))) ≡ false) where
     same-run : pagesOf q (q (at process p (heldAt segment a))) ≡ pagesOf r (r (at process p (heldAt segment a)))
     unfolding pagesOf
     same-run = rw (
-      held,
+      held a b c named-a,
       View.same-below v segment (indexOf (r (at process p (heldAt segment a)))) size
-          (View.held-in (v .here) segment a tt (entry-in a named-a) filled) refl (View.held-flows (v .here) segment a tt (entry-in a named-a) filled),
+          (View.held-in (v .here) segment a tt (entry-in a named-a) current) refl (View.held-flows (v .here) segment a tt (entry-in a named-a) current),
     )
 
     same-taken : (g : ℕ) → g < pages → remapped q p a b c g ≡ remapped r p a b c g
@@ -72,25 +70,26 @@ module _ {h : List ℕ} {p : ℕ} {C : ℕ → Bool} {r q : Addr → ℕ} (v : V
   same-gone a b c t g l = rw (t, same-left v c g l)
 
   -- the same for an incoming one, or none
-  same-remapped : (a b c : ℕ) → (named a ≡ true → vacant r p a ≡ false) → (g : ℕ) → g < pages → remapped q p a b c g ≡ remapped r p a b c g
-  same-remapped a b c filled g l = split _ (named a) (λ t. same-taken a b c t (filled t) g l) (λ t. same-gone a b c t g l)
+  same-remapped : (a b c : ℕ) → (named a ≡ true → stale h r segment (r (at process p (heldAt segment a))) ≡ false) → (g : ℕ) → g < pages
+      → remapped q p a b c g ≡ remapped r p a b c g
+  same-remapped a b c current g l = split _ (named a) (λ t. same-taken a b c t (current t) g l) (λ t. same-gone a b c t g l)
 
 pub alike19 : {h : List ℕ} {p : ℕ} {C : ℕ → Bool} {r q : Addr → ℕ} → View.View h p C r q → (a b c : ℕ) (buffer : List ℕ)
     → Alike h C (remap h r p a b c buffer) (remap h q p a b c buffer)
 unfolding remap
 alike19 {h} {p} {C} {r} {q} v a b c buffer =
     let vacants : (named a && vacant r p a) || (named c && vacant r p c) ≡ (named a && vacant q p a) || (named c && vacant q p c) = rw (same-vacant v a, same-vacant v c) in
-    alike-test refl refl (λ x1. alike-test refl vacants (λ x2.
-    let filled : named a ≡ true → vacant r p a ≡ false = λ t. rw t at (or-left (named a && vacant r p a) (named c && vacant r p c) x2) in
-    let old : named a && stale r segment (r (at process p (heldAt segment a))) ≡ named a && stale q segment (q (at process p (heldAt segment a))) =
-    split _ (named a) (λ t. rw (t, same-stale v a b c t (filled t))) (λ t. rw t) in
+    let old : named a && stale h r segment (r (at process p (heldAt segment a))) ≡ named a && stale h q segment (q (at process p (heldAt segment a))) =
+    split _ (named a) (λ t. rw (t, same-stale v a b c t)) (λ t. rw t) in
+    alike-test refl refl (λ x1. alike-test refl vacants (λ x2. alike-test refl old (λ x3.
+    let current : named a ≡ true → stale h r segment (r (at process p (heldAt segment a))) ≡ false = λ t. rw t at x3 in
     let out : named c && not (isMapped (λ g. r (at process p (pageAt g))) c) ≡ named c && not (isMapped (λ g. q (at process p (pageAt g))) c) =
     rw (same-mapped v (λ g. q (at process p (pageAt g))) (λ g. r (at process p (pageAt g))) c (same-page v)) in
     let still : named a && isMapped (pageLeft r p c) a ≡ named a && isMapped (pageLeft q p c) a = rw (same-mapped v (pageLeft q p c) (pageLeft r p c) a (same-left v c)) in
     let meets : named a && conflict (pageLeft r p c) b (pagesOf r (r (at process p (heldAt segment a)))) ≡ named a && conflict (pageLeft q p c) b
     (pagesOf q (q (at process p (heldAt segment a)))) =
-    split _ (named a) (λ t. rw (t, same-run v a b c t (filled t), same-conflict v (pageLeft q p c) (pageLeft r p c) b _ (same-left v c))) (λ t. rw t) in
+    split _ (named a) (λ t. rw (t, same-run v a b c t (current t), same-conflict v (pageLeft q p c) (pageLeft r p c) b _ (same-left v c))) (λ t. rw t) in
     let pages-same : pagesSet p (remapped r p a b c) ≡ pagesSet p (remapped q p a b c) =
-    sym (same-pages v (remapped q p a b c) (remapped r p a b c) (same-remapped v a b c filled)) in
-    alike-test refl old (λ x3. alike-test refl out (λ x4. alike-test refl still (λ x5. alike-test refl meets (λ x6.
+    sym (same-pages v (remapped q p a b c) (remapped r p a b c) (same-remapped v a b c current)) in
+    alike-test refl out (λ x4. alike-test refl still (λ x5. alike-test refl meets (λ x6.
     alike-effect (same-effect (ap (λ (ws : List Word). effect 0 0 buffer ws []) pages-same))))))))

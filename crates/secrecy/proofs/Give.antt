@@ -1,15 +1,16 @@
 -- An entry given up with its pages, an object freed: the writes stay in the own cell, and are the same in both readings.
 use mathlib.Core.Path.{_≡_, refl}
-use mathlib.Core.Bool.{Bool, true, false}
+use mathlib.Core.Bool.{Bool, true, false, _&&_}
 use mathlib.Core.List.{List}
 use Prim.Native.Nat.{ℕ, _+_, _-_, _≤_, _<_}
 use native.Mathlib.Omega.{arith}
 use lib.Dec.{ltb, leb}
 use borrow.Author.Tests.{eqb-true, leb-false, lt-ltb}
 use Rattle.rules.specs.Layout.{Kind, process, segment, file, recordWords, slots, cellOf, Addr, at, live, entries, pages, pageAt, links, holders}
-use Rattle.rules.specs.Seid.{indexOf}
+use Rattle.rules.specs.Seid.{class, indexOf, formed}
 use Rattle.rules.specs.Find.{inOwnCell, freed, zeros, kept, oneLess, pageLeft, pagesSet, pagesCleared, emptied, givenUp}
-use Rattle.laws.proofs.Tests.{split}
+use Rattle.laws.proofs.Tests.{split, and-left, and-right}
+use Rattle.laws.proofs.Seids.{is-formed}
 use Rattle.laws.proofs.Object.{Object}
 use Rattle.laws.proofs.Written.{nil, also, all-if, all-append, all-tab}
 use Rattle.secrecy.proofs.Lists.{tab-same}
@@ -20,6 +21,13 @@ holders-fit : (k : Kind) → Object k → ltb (holders k) (recordWords k) ≡ tr
 holders-fit process e = absurd e
 holders-fit segment e = refl
 holders-fit file e = refl
+
+-- the entry holds an object of the own cell
+own-in : (h : List ℕ) (p : ℕ) (k : Kind) (s : ℕ) → formed h k s && inOwnCell h p k s ≡ true → indexOf s < slots h k
+own-in h p k s e = is-formed (class k) (slots h k) s (and-left (formed h k s) (inOwnCell h p k s) e) .index-in
+
+own-is : (h : List ℕ) (p : ℕ) (k : Kind) (s : ℕ) → formed h k s && inOwnCell h p k s ≡ true → cellOf h k (indexOf s) ≡ cellOf h process p
+own-is h p k s e = eqb-true _ _ (and-right (formed h k s) (inOwnCell h p k s) e)
 
 module _ {h : List ℕ} {p : ℕ} {r : Addr → ℕ} (v : Here h p r) where
   pub up-zeros : (k : Kind) (i j n : ℕ) → i < slots h k → cellOf h k i ≡ cellOf h process p → j + n ≤ recordWords k → Ups h (cellOf h process p) (zeros k i j n)
@@ -44,13 +52,13 @@ module _ {h : List ℕ} {p : ℕ} {r : Addr → ℕ} (v : Here h p r) where
   up-cleared segment d = up-pages (pageLeft r p d)
   up-cleared file d = nil
 
-  up-emptied : (k : Kind) (d s : ℕ) → Object k → leb entries d ≡ false → indexOf s < slots h k → Ups h (cellOf h process p) (emptied h r k p d s)
+  up-emptied : (k : Kind) (d s : ℕ) → Object k → leb entries d ≡ false → Ups h (cellOf h process p) (emptied h r k p d s)
   unfolding emptied oneLess
-  up-emptied k d s e m l = search (also, nil, all-if, eqb-true, up-held v, up-used v, up-own v, up-freed, holders-fit) depth 8
+  up-emptied k d s e m = search (also, nil, all-if, own-in, own-is, up-held v, up-used v, up-own v, up-freed, holders-fit) depth 8
 
-  pub up-given : (k : Kind) (d s : ℕ) → Object k → leb entries d ≡ false → indexOf s < slots h k → Ups h (cellOf h process p) (givenUp h r k p d s)
+  pub up-given : (k : Kind) (d s : ℕ) → Object k → leb entries d ≡ false → Ups h (cellOf h process p) (givenUp h r k p d s)
   unfolding givenUp
-  up-given k d s e m l = all-append _ (up-cleared k d) (up-emptied k d s e m l)
+  up-given k d s e m = all-append _ (up-cleared k d) (up-emptied k d s e m)
 
 module _ {h : List ℕ} {p : ℕ} {C : ℕ → Bool} {r q : Addr → ℕ} (v : View h p C r q) where
   same-kept : (k : Kind) (i : ℕ) → i < slots h k → cellOf h k i ≡ cellOf h process p → kept q k i ≡ kept r k i
@@ -82,12 +90,12 @@ module _ {h : List ℕ} {p : ℕ} {C : ℕ → Bool} {r q : Addr → ℕ} (v : V
   same-cleared segment d = same-pages (pageLeft q p d) (pageLeft r p d) (same-left d)
   same-cleared file d = refl
 
-  same-emptied : (k : Kind) (d s : ℕ) → Object k → indexOf s < slots h k → emptied h q k p d s ≡ emptied h r k p d s
+  same-emptied : (k : Kind) (d s : ℕ) → Object k → emptied h q k p d s ≡ emptied h r k p d s
   unfolding emptied
-  same-emptied k d s o l = split _ (inOwnCell h p k s)
-      (λ e. rw (same-less k (indexOf s) o l (eqb-true _ _ e)))
+  same-emptied k d s o = split _ (formed h k s && inOwnCell h p k s)
+      (λ e. rw (same-less k (indexOf s) o (own-in h p k s e) (own-is h p k s e)))
       (λ e. rw e)
 
-  pub same-given : (k : Kind) (d s : ℕ) → Object k → indexOf s < slots h k → givenUp h q k p d s ≡ givenUp h r k p d s
+  pub same-given : (k : Kind) (d s : ℕ) → Object k → givenUp h q k p d s ≡ givenUp h r k p d s
   unfolding givenUp
-  same-given k d s o l = rw (same-cleared k d, same-emptied k d s o l)
+  same-given k d s o = rw (same-cleared k d, same-emptied k d s o)

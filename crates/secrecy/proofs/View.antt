@@ -1,23 +1,24 @@
 -- What the calls share: the words that a caller may write, and the words that two readings alike for its cell have in common.
 use mathlib.Core.Path.{_≡_, refl, sym}
-use mathlib.Core.Bool.{Bool, true, false, _||_, not}
+use mathlib.Core.Bool.{Bool, true, false, _&&_, _||_, not}
 use mathlib.Core.List.{List}
-use Prim.Native.Nat.{ℕ, _+_, _*_, _<_}
+use Prim.Native.Nat.{ℕ, _+_, _*_, _-_, _<_}
 use native.Mathlib.Omega.{arith}
 use lib.Dec.{ltb, leb, eqb}
 use lib.ListN.{getD}
-use borrow.Author.Tests.{ltb-true, leb-false, eqb-true, eqb-false, lt-ltb, lt-leb}
+use borrow.Author.Tests.{ltb-true, ltb-false, leb-false, eqb-true, lt-ltb, lt-leb}
 use Rattle.rules.specs.Claim.{Holds}
 use Rattle.rules.specs.Layout.{Kind, process, segment, file, recordWords, slots, cells, cellOf, flows, Addr, at, Valid, live, serial, owner, group, entries, heldAt, usedAt, bits, stretch}
 use Rattle.rules.specs.Seid.{class, indexOf, formed, seidAt, orSelf, present}
 use Rattle.rules.specs.WellFormed.{recordsOk}
 use Rattle.rules.specs.Observer.{Closed}
-use Rattle.rules.specs.Find.{freeSlot, noSlot, freeEntry, rightsAt}
-use Rattle.laws.proofs.Tests.{tests, or-left, passed}
+use Rattle.rules.specs.Find.{stale, freeSlot, noSlot, freeEntry, rightsAt}
+use Rattle.rules.specs.Subtype.{heldBy, modesBy, noSubtype}
+use Rattle.laws.proofs.Tests.{tests, and-left, or-left, or-right, passed, split}
 use Rattle.laws.proofs.Search.{lowest-same}
 use Rattle.laws.proofs.Object.{Object}
 use Rattle.laws.proofs.Seids.{is-formed}
-use Rattle.laws.proofs.Shape.{Shape, in-run, Entry, descriptor, designator}
+use Rattle.laws.proofs.Shape.{Shape, in-run, Entry, formed-object, descriptor, designator}
 use Rattle.laws.proofs.Slots.{InRun, run-slot, run-cell, free-slot, same-slot}
 use Rattle.secrecy.proofs.CellFlow.{flows-refl}
 use Rattle.secrecy.proofs.Shown.{Up}
@@ -28,7 +29,7 @@ use Rattle.secrecy.proofs.Shown.{Up}
 pub common : (k : Kind) (j : ℕ) → ltb j 8 ≡ true → ltb j (recordWords k) ≡ true
 common process j l = lt-ltb j (recordWords process) (omega (arith, tests))
 common segment j l = l
-common file j l = l
+common file j l = lt-ltb j (recordWords file) (omega (arith, tests))
 
 bits-common : (k : Kind) → ltb (bits k) (recordWords k) ≡ true
 bits-common process = refl
@@ -50,11 +51,20 @@ used-fits file d e l = omega (arith, tests)
 pub formed-in : (h : List ℕ) (k : Kind) (s : ℕ) → not (formed h k s) ≡ false → indexOf s < slots h k
 formed-in h k s e = is-formed (class k) (slots h k) s (passed (formed h k s) e) .index-in
 
+-- what isn't stale is an object's
+pub unstale : (h : List ℕ) (r : Addr → ℕ) (k : Kind) (s : ℕ) → stale h r k s ≡ false → formed h k s ≡ true
+unstale h r k s e = and-left (formed h k s) (present r k s) (passed (formed h k s && present r k s) e)
+
 pub allowed : (a b : Bool) → not a || b ≡ false → a ≡ true
 allowed a b e = passed a (or-left (not a) b e)
 
 pub same-cell : (c d : ℕ) → not (eqb c d) ≡ false → c ≡ d
 same-cell c d e = eqb-true c d (passed (eqb c d) e)
+
+-- a descriptor that names a subtype is one of the record's
+pub names-within : (r : Addr → ℕ) (p c : ℕ) → noSubtype r p c ≡ false → ltb entries c ≡ false
+unfolding noSubtype
+names-within r p c e = or-left (ltb entries c) _ (or-right (eqb c 0) _ e)
 
 -- ---- a caller, and two readings of the table
 
@@ -63,9 +73,9 @@ pub record Reached (h : List ℕ) (k : Kind) (c i : ℕ) : Type 0 where
   pub there : i < slots h k
   pub flow : flows h (cellOf h k i) c ≡ true
 
--- every process reaches what it holds
+-- every process reaches the objects that it holds
 abbrev pub Reaching : List ℕ → (Addr → ℕ) → Type 0
-Reaching h r = (p : ℕ) (k : Kind) (d : ℕ) → p < slots h process → Object k → leb entries d ≡ false → eqb (r (at process p (heldAt k d))) 0 ≡ false
+Reaching h r = (p : ℕ) (k : Kind) (d : ℕ) → p < slots h process → Object k → leb entries d ≡ false → formed h k (r (at process p (heldAt k d))) ≡ true
     → Reached h k (cellOf h process p) (indexOf (r (at process p (heldAt k d))))
 
 -- process p has a slot
@@ -95,7 +105,7 @@ module _ (h : List ℕ) (r : Addr → ℕ) (w : Holds (recordsOk h r)) where
 
   pub is-reaching : Reaching h r
   is-reaching p k d pp e l n =
-      let x = entry-at p k d pp e l .held (eqb-false (r (at process p (heldAt k d))) 0 n) in
+      let x = entry-at p k d pp e l .held (formed-object h k (r (at process p (heldAt k d))) n) in
       record { there = is-formed (class k) (slots h k) (r (at process p (heldAt k d))) (x .form) .index-in; flow = x .flow }
 
 -- two readings alike for a set that holds the cell c have the same free slot there
@@ -117,13 +127,13 @@ module _ {h : List ℕ} {p : ℕ} {r : Addr → ℕ} (v : Here h p r) where
   pub own-flows : (c : ℕ) → c ≡ cellOf h process p → flows h c (cellOf h process p) ≡ true
   own-flows c e = rw e own-flow
 
-  pub held-in : (k : Kind) (d : ℕ) → Object k → leb entries d ≡ false → eqb (r (at process p (heldAt k d))) 0 ≡ false
+  pub held-in : (k : Kind) (d : ℕ) → Object k → leb entries d ≡ false → stale h r k (r (at process p (heldAt k d))) ≡ false
       → indexOf (r (at process p (heldAt k d))) < slots h k
-  held-in k d e l n = v .reaching p k d (v .there) e l n .there
+  held-in k d e l n = v .reaching p k d (v .there) e l (unstale h r k _ n) .there
 
-  pub held-flows : (k : Kind) (d : ℕ) → Object k → leb entries d ≡ false → eqb (r (at process p (heldAt k d))) 0 ≡ false
+  pub held-flows : (k : Kind) (d : ℕ) → Object k → leb entries d ≡ false → stale h r k (r (at process p (heldAt k d))) ≡ false
       → flows h (cellOf h k (indexOf (r (at process p (heldAt k d))))) (cellOf h process p) ≡ true
-  held-flows k d e l n = v .reaching p k d (v .there) e l n .flow
+  held-flows k d e l n = v .reaching p k d (v .there) e l (unstale h r k _ n) .flow
 
   -- ---- the slots of the own cell, and the free one
 
@@ -184,6 +194,15 @@ module _ {h : List ℕ} {p : ℕ} {C : ℕ → Bool} {r q : Addr → ℕ} (v : V
   unfolding present
   same-present k s l f = rw (same-below k (indexOf s) live l (common k live refl) f, same-below k (indexOf s) serial l (common k serial refl) f)
 
+  -- what is held: where it is no object's, no object is looked at
+  pub same-stale : (k : Kind) (d : ℕ) → Object k → leb entries d ≡ false
+      → stale h q k (r (at process p (heldAt k d))) ≡ stale h r k (r (at process p (heldAt k d)))
+  same-stale k d e l =
+      let s : ℕ = r (at process p (heldAt k d)) in
+      split _ (formed h k s)
+      (λ f. let x = v .here .reaching p k d (v .here .there) e l f in rw (same-present k s (x .there) (x .flow)))
+      (λ f. rw f)
+
   pub same-rights : (k : Kind) (i : ℕ) → i < slots h k → flows h (cellOf h k i) (cellOf h process p) ≡ true → rightsAt q p k i ≡ rightsAt r p k i
   unfolding rightsAt
   same-rights k i l f =
@@ -194,6 +213,21 @@ module _ {h : List ℕ} {p : ℕ} {C : ℕ → Bool} {r q : Addr → ℕ} (v : V
         same-below k i group l (common k group refl) f,
         same-below k i (bits k) l (bits-common k) f,
       )
+
+  -- ---- the descriptor that c names
+
+  named-fits : (c : ℕ) → ltb entries c ≡ false → leb entries (c - 1) ≡ false
+  named-fits c l = lt-leb entries (c - 1) (omega (arith, ltb-false entries c l))
+
+  pub same-by : (c : ℕ) → ltb entries c ≡ false → heldBy q p c ≡ heldBy r p c
+  same-by c l = same-held file (c - 1) tt (named-fits c l)
+
+  pub same-modes : (c : ℕ) → ltb entries c ≡ false → modesBy q p c ≡ modesBy r p c
+  same-modes c l = same-used file (c - 1) tt (named-fits c l)
+
+  pub same-no-subtype : (c : ℕ) → noSubtype q p c ≡ noSubtype r p c
+  unfolding noSubtype
+  same-no-subtype c = split _ (ltb entries c) (λ t. rw t) (λ t. rw (same-by c t))
 
   -- ---- searches
 

@@ -19,7 +19,7 @@ use Rattle.laws.proofs.Written.{length-write}
 use Rattle.laws.proofs.Stored.{length-store}
 use Rattle.output.proofs.Laws.{take-sets}
 use Rattle.script.specs.declared.Stage.{Stage}
-use Rattle.script.specs.declared.Stage.the-variants.{Header, Cells, Numbers, Bytes}
+use Rattle.script.specs.declared.Stage.the-variants.{Header, Body, Numbers, Bytes}
 use Rattle.script.specs.declared.Reader.{Reader}
 use Rattle.script.specs.declared.What.{What}
 use Rattle.script.specs.declared.What.the-variants as what
@@ -52,7 +52,7 @@ due-free n m st st′ r t l s e = go (r .stage) e
   where
     go : (g : Stage) → callingAt g ≡ false → due n st (meaningAt g r t l s) ≡ due m st′ (meaningAt g r t l s)
     go Header z = conf-free n m st st′ _
-    go Cells z = conf-free n m st st′ _
+    go Body z = conf-free n m st st′ _
     go Numbers z = absurd (true≢false z)
     go Bytes z = absurd (true≢false z)
 
@@ -212,14 +212,14 @@ module _ (x : Session) (t st l : List ℕ) (b : ℕ) (s ys : List ℕ) (going : 
   unfolding acted
   hands-configuration o =
       let long′ : mostWords ≤ length (p .table) = rw (o .size) (h .long) in
-      let same : accepts (p .table) st ≡ test (replayable (configuration (p .table))) = accepts-replayable (p .table) st (o .cells) long′ (h .wide) in
+      let same : accepts (p .table) st ≡ test (replayable (configuration (p .table))) = accepts-replayable (p .table) st (o .counts) long′ (h .wide) in
       record {
         text =
             due-now
             ∙ ap (due (x .lines) (stateOf x t st)) (o .same ys)
             ∙ split _ (accepts (p .table) st)
             (λ e. taken-due (x .lines) (stateOf x t st) (configuration (p .table)) (p .rest ++ ys) (sym same ∙ e)
-            ∙ ap (λ (z : State). heading ++ callsText 0 z (p .rest ++ ys)) (sym (begins (p .table) st (o .cells) long′ (h .wide) e))
+            ∙ ap (λ (z : State). heading ++ callsText 0 z (p .rest ++ ys)) (sym (begins (p .table) st (o .counts) long′ (h .wide) e))
             ∙ sym (ap₂ _++_ (cond-true (accepts (p .table) st) heading badConfiguration e)
             (between-toCome _ (tableReady (p .table) st) (storeReady st) (p .buffer) (ap not e) (p .rest ++ ys) (ap isBetween (o .reader)))))
             (λ e. refused-due (x .lines) (stateOf x t st) (configuration (p .table)) (p .rest ++ ys) (sym same ∙ e)

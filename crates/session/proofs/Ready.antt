@@ -8,16 +8,17 @@ use native.Mathlib.Nat.{mul-assoc}
 use lib.ListN.{length, getD, take, replicate, length-append, length-replicate, length-take}
 use lib.Seq.{getD-take, take-take, take-all, length-take-le, length-sets}
 use Rattle.rules.specs.Claim.{_&_, Holds, test}
-use Rattle.rules.specs.Layout.{maxCells, blockBytes, process, segment, file, headerWords, cellWords, cells, slots, blocks, configuration, tableWords, wordsAtMost, storeBytes, configurationWords}
+use Rattle.rules.specs.Layout.{maxCells, maxSubtypes, blockBytes, process, segment, file, headerWords, cellWords, subtypeWords, cells, subtypes, slots, blocks, configuration, tableWords, wordsAtMost, storeBytes, configurationWords}
 use Rattle.rules.specs.WellFormed.{configured, lengthsExact}
 use Rattle.rules.specs.SetUp.{canSetUp, firstProcesses, freshTable, setUpAnswer, setUpTable}
 use Rattle.rules.specs.Step.{State}
 use Rattle.rules.specs.Replay.{maxReplayBlocks, maxReplaySlots, replayable, startOf}
 use Rattle.laws.proofs.Tests.{split, same-test}
 use Rattle.laws.proofs.Claims.{holds, tested}
-use Rattle.laws.proofs.Places.{conf-cells, conf-slots, conf-blocks}
+use Rattle.laws.proofs.Places.{conf-cells, conf-subtypes, conf-slots, conf-blocks}
 use Rattle.laws.proofs.Written.{length-write}
 use Rattle.laws.proofs.Shape.{Shape, shape-of}
+use Rattle.script.proofs.Meaning.{Fits}
 use Rattle.output.proofs.Laws.{take-sets}
 use Rattle.session.specs.Turn.{wordsAsked, wordsOf, bytesOf, accepts, tableReady, storeReady}
 
@@ -34,26 +35,27 @@ take-replicate a (suc m) zero h = absurd (omega arith)
 take-replicate a (suc m) (suc n) h = ap (λ (l : List ℕ). a ∷ l) (take-replicate a m n (omega arith))
 
 -- the table t begins with its configuration; st is a store
-module _ (t st : List ℕ) (few : getD t 0 0 ≤ maxCells) (long : mostWords ≤ length t) (wide : mostBytes ≤ length st) where
+module _ (t st : List ℕ) (few : Fits (getD t 0 0) (getD t 6 0)) (long : mostWords ≤ length t) (wide : mostBytes ≤ length st) where
   abbrev h : List ℕ
   h = configuration t
 
   same-words : tableWords h ≡ tableWords t
-  same-words = rw (conf-cells t, conf-slots t process, conf-slots t segment, conf-slots t file)
+  same-words = rw (conf-cells t, conf-subtypes t, conf-slots t process, conf-slots t segment, conf-slots t file)
 
   same-bytes : storeBytes h ≡ storeBytes t
   same-bytes = rw (conf-slots t file, conf-blocks t)
 
   -- the words in use begin with it too
-  enough : headerWords + cellWords * getD t 0 0 ≤ wordsOf t
-  unfolding cells
-  enough = omega arith
+  enough : configurationWords t ≤ wordsOf t
+  unfolding cells subtypes
+  enough = omega (arith, few .few-cells, few .few-subtypes)
 
   same-configuration : configuration (take (wordsOf t) t) ≡ h
-  unfolding configuration cells
+  unfolding configuration cells subtypes
   same-configuration =
-      let n : getD (take (wordsOf t) t) 0 0 ≡ getD t 0 0 = getD-take (wordsOf t) t 0 0 (omega (arith, enough)) in
-      ap (λ (c : ℕ). take (headerWords + cellWords * c) (take (wordsOf t) t)) n ∙ take-take (headerWords + cellWords * getD t 0 0) (wordsOf t) t enough
+      let c : getD (take (wordsOf t) t) 0 0 ≡ getD t 0 0 = getD-take (wordsOf t) t 0 0 (omega (arith, enough)) in
+      let u : getD (take (wordsOf t) t) 6 0 ≡ getD t 6 0 = getD-take (wordsOf t) t 6 0 (omega (arith, enough)) in
+      rw (c, u) (take-take (headerWords + cellWords * getD t 0 0 + subtypeWords * getD t 6 0) (wordsOf t) t enough)
 
   -- replay's own limit
   pub record FewSlots : Type 0 where
@@ -65,6 +67,7 @@ module _ (t st : List ℕ) (few : getD t 0 0 ≤ maxCells) (long : mostWords ≤
   words-fit : Shape h → FewSlots → wordsOf t ≡ tableWords h
   words-fit s x =
       let c : cells t ≤ maxCells = rw (conf-cells t) at (s .few-cells) in
+      let u : subtypes t ≤ maxSubtypes = rw (conf-subtypes t) at (s .few-subtypes) in
       let p : slots t process ≤ maxReplaySlots = rw (conf-slots t process) at (x .processes) in
       let g : slots t segment ≤ maxReplaySlots = rw (conf-slots t segment) at (x .segments) in
       let f : slots t file ≤ maxReplaySlots = rw (conf-slots t file) at (x .files) in
@@ -132,7 +135,7 @@ module _ (t st : List ℕ) (few : getD t 0 0 ≤ maxCells) (long : mostWords ≤
   -- and then the table and the store are those that the rules begin with
   short : length h ≤ tableWords h
   unfolding configuration
-  short = let n = length-take (configurationWords t) t in let c = conf-cells t in omega arith
+  short = omega (arith, length-take (configurationWords t) t, conf-cells t, conf-subtypes t)
 
   length-fresh : length (freshTable h) ≡ tableWords h
   unfolding freshTable

@@ -5,8 +5,8 @@ use mathlib.Core.Path.{_≡_, refl, sym, ap, _∙_, subst}
 use Prim.Native.Nat.{ℕ, zero, suc, _+_, _-_, _^_, _<_, _≤_}
 use native.Mathlib.Omega.{arith}
 use native.Mathlib.Decide.{decLt}
-use lib.ListN.{length, set, take, drop, length-set, drop-of-length-le}
-use lib.Seq.{getD-set-same, getD-set-other, length-sets}
+use lib.ListN.{length, take, drop, length-set, drop-of-length-le}
+use lib.Seq.{getD-set-same}
 use Rattle.rules.specs.Replay.{headerNumbers, maxBuffer, listing}
 use Rattle.numerals.proofs.Read.{small-start}
 use Rattle.script.proofs.Meaning.{Roomy}
@@ -69,18 +69,13 @@ pub record Lent (t st l : List ℕ) : Type 0 where
 
 blank : (t : List ℕ) → mostWords ≤ length t → Roomy (blankTable t)
 blank t h =
-    let e = length-sets t headerNumbers (0 ∷ 0 ∷ []) in
-    record {
-      room = omega arith;
-      zero6 = getD-set-other (set t 6 0) 7 6 0 0 (λ z. omega arith) ∙ getD-set-same t 6 0 0 (omega arith);
-      zero7 = getD-set-same (set t 6 0) 7 0 0 (rw (length-set t 6 0) (omega arith));
-    }
+    record { room = rw (length-set t headerNumbers 0) (omega arith); zero7 = getD-set-same t headerNumbers 0 0 (omega arith) }
 
 -- a new session can come up. (The calls are counted in 64 bits: an input is shorter than 2^64 bytes.)
 pub fine-start : (t st l input : List ℕ) → Lent t st l → length input < 2 ^ 64 → Fine newSession (blankTable t) st l input
 fine-start t st l input m n = record {
   good = record { small = small-start; within = omega arith; six = refl; buffer = m .buffer; here = (refl, blank t (m .table)) };
-  long = rw (length-sets t headerNumbers (0 ∷ 0 ∷ [])) (m .table);
+  long = rw (length-set t headerNumbers 0) (m .table);
   wide = m .store;
   count = omega arith;
   words = λ c. omega arith;

@@ -1,11 +1,11 @@
 -- What a session does with a piece of the input: it reads up to the end of the configuration or of a call, a fault, or the piece's end, and writes the text that is due.
 -- (That all the text is the listing that the rules give is proved in proofs/Whole.antt.)
 use mathlib.Core.Bool.{Bool, true, false, cond, not}
-use mathlib.Core.List.{List, [], _∷_}
+use mathlib.Core.List.{List, []}
 use mathlib.Core.Path.{_≡_}
 use Prim.Native.Nat.{ℕ, _+_, _*_, _%_, _^_, _≤_, min}
 use lib.Dec.{eqb}
-use lib.ListN.{length, getD, take, replicate}
+use lib.ListN.{length, getD, set, take, replicate}
 use lib.Seq.{sets}
 use Rattle.rules.specs.Layout.{blockBytes, process, segment, file, recordWords, slots, blocks, configurationWords}
 use Rattle.rules.specs.Errors.{XOK}
@@ -32,9 +32,9 @@ newSession = record { reader = newReader; lines = 0; words = 0; bytes = 0; over 
 abbrev pub onward : Session → Reader → ℕ → Bool → Session
 onward x r n b = record { reader = r; lines = n; words = x .words; bytes = x .bytes; over = b }
 
--- the lent table at the start: the header's two zeros, which the input does not have, are written
+-- the lent table at the start: the header's last zero, which the input does not have, is written
 abbrev pub blankTable : List ℕ → List ℕ
-blankTable t = sets t headerNumbers (0 ∷ 0 ∷ [])
+blankTable t = set t headerNumbers 0
 
 -- "bad configuration" or "bad script"
 abbrev pub faultText : Bool → List ℕ

@@ -18,6 +18,8 @@ use rules::PROCESS_WORDS;
 use rules::PROCESSES;
 use rules::SEGMENT_WORDS;
 use rules::SEGMENTS;
+use rules::SUBTYPE_WORDS;
+use rules::SUBTYPES;
 use rules::XOK;
 use script::Moved;
 use script::Reader;
@@ -83,11 +85,10 @@ fn greatest(a: usize, b: usize) -> usize
     if a < b { b } else { a }
 }
 
-// A session at the start of an input. The header's two zeros, which the input does not have, are put into the table.
+// A session at the start of an input. The header's last zero, which the input does not have, is put into the table.
 pub fn start(table: &mut [u32]) -> Session
     ensures { λ r. ⌜ (r ≡ newSession) × (now (table .exit) ≡ blankTable (now (table .entry))) ⌝ }
 {
-    words::put(table, 6, 0);
     words::put(table, 7, 0);
     let reader = Reader::new();
     Session {
@@ -127,12 +128,13 @@ fn table_words(table: &[u32]) -> usize
     ensures { λ r. ⌜ r ≡ wordsAsked (now (table .entry)) ⌝ }
 {
     let cells = CELL_WORDS * words::wide(words::word(table, 0));
+    let subtypes = SUBTYPE_WORDS * words::wide(words::word(table, SUBTYPES));
     let processes = PROCESS_WORDS
         * least(words::wide(words::word(table, PROCESSES)), MAX_REPLAY_SLOTS);
     let segments = SEGMENT_WORDS
         * least(words::wide(words::word(table, SEGMENTS)), MAX_REPLAY_SLOTS);
     let files = FILE_WORDS * least(words::wide(words::word(table, FILES)), MAX_REPLAY_SLOTS);
-    HEADER_WORDS + cells + processes + segments + files
+    HEADER_WORDS + cells + subtypes + processes + segments + files
 }
 
 // How many blocks all its files have.

@@ -9,20 +9,20 @@ use lib.ListN.{length, getD, set, take, replicate, length-set, length-append, le
 use lib.Seq.{length-take-le, take-suc-set, take-length, take-at, getD-take}
 use Rattle.rules.specs.Words.{sumBelow}
 use Rattle.rules.specs.Claim.{Holds, test}
-use Rattle.rules.specs.Layout.{maxSlots, process, segment, file, headerWords, cellWords, recordWords, cells, cellWord, configuration, firstSlot, tableWords, live, serial, owner, group, bits, cellAt, configurationWords}
+use Rattle.rules.specs.Layout.{maxSlots, process, segment, file, headerWords, cellWords, subtypeWords, recordWords, cells, subtypes, cellWord, configuration, firstSlot, tableWords, live, serial, owner, group, bits, cellAt, configurationWords}
 use Rattle.rules.specs.Errors.{XOK, XbParam}
 use Rattle.rules.specs.Rule.{write}
 use Rattle.rules.specs.WellFormed.{configured}
 use Rattle.rules.specs.SetUp.{canSetUp, firstBits, firstProcesses, freshTable, setUpAnswer, setUpTable}
 use Rattle.laws.proofs.Claims.{holds}
 use Rattle.laws.proofs.Cells.{first-next, run-end}
-use Rattle.laws.proofs.Places.{conf-cells}
+use Rattle.laws.proofs.Places.{conf-cells, conf-subtypes}
 use Rattle.laws.proofs.Shape.{Shape, shape-of}
 use Rattle.laws.proofs.Written.{write-append, length-write, conf-write}
 use Rattle.layout.specs.declared.Header.{Header}
 use Rattle.layout.specs.Header.{baseOf}
 use Rattle.table.specs.Shape.{Framed}
-use Rattle.table.proofs.Config.{cell-word, cells-read, slots-read, base-read}
+use Rattle.table.proofs.Config.{cell-word, cells-read, subtypes-read, slots-read, base-read}
 
 -- ---- clearing
 
@@ -69,7 +69,7 @@ pub record Begun (t₀ : List ℕ) (base end : ℕ) (t : List ℕ) (slot c : ℕ
   pub right : Holds (configured (configuration t₀))
   pub exact : length t₀ ≡ tableWords (configuration t₀)
   pub count : end ≡ cells (configuration t₀)
-  pub base-is : base ≡ headerWords + cellWords * end
+  pub base-is : base ≡ configurationWords (configuration t₀)
   pub upto : c ≤ end
   pub next : slot ≡ firstSlot (configuration t₀) process c
   pub here : t ≡ write (configuration t₀) t₀ (firstProcesses (configuration t₀) c)
@@ -81,7 +81,7 @@ begun-none t₀ n base f w e =
       right = w;
       exact = rw (base-read t₀ n (f .header) file, slots-read t₀ n (f .header) file) (f .exact);
       count = sym (cells-read t₀ n (f .header));
-      base-is = e;
+      base-is = e ∙ sym (base-read t₀ n (f .header) process);
       upto = omega arith;
       next = refl;
       here = refl;
@@ -98,7 +98,7 @@ module _ (t₀ : List ℕ) (base end : ℕ) (t : List ℕ) (slot c : ℕ) (b : B
   begun-long = ap length (b .here) ∙ length-write (configuration t₀) t₀ (firstProcesses (configuration t₀) c)
 
   pub begun-low : length t < 65536
-  begun-low = omega (arith, begun-long, b .exact, shape .few-cells, shape .few process, shape .few segment, shape .few file)
+  begun-low = omega (arith, begun-long, b .exact, shape .few-cells, shape .few-subtypes, shape .few process, shape .few segment, shape .few file)
 
   module _ (l : c < end) where
     pub cell-in : cellAt c cellWords ≤ length t
@@ -137,7 +137,7 @@ module _ (t₀ : List ℕ) (base end : ℕ) (t : List ℕ) (slot c : ℕ) (b : B
           next = rw (add-one c) (ap₂ _+_ (b .next) (word-is 3 x (omega arith) ex) ∙ sym (first-next (configuration t₀) process c));
           here =
               rw (add-one c)
-              (e ∙ rw (b .base-is, b .count, b .next, word-is 6 first-owner (omega arith) eu, word-is 7 first-group (omega arith) ep, b .here)
+              (e ∙ rw (b .base-is, b .next, word-is 6 first-owner (omega arith) eu, word-is 7 first-group (omega arith) ep, b .here)
               (sym (write-append (configuration t₀) t₀ (firstProcesses (configuration t₀) c) _)));
         }
 
@@ -150,7 +150,9 @@ module _ (t₀ : List ℕ) (base end : ℕ) (t : List ℕ) (slot c : ℕ) (b : B
 
 module _ (t : List ℕ) (n : Header) (f : Framed t n) where
   from-is : configurationWords t ≡ baseOf n process
-  from-is = ap (λ (k : ℕ). headerWords + cellWords * k) (sym (conf-cells t) ∙ cells-read t n (f .header))
+  from-is =
+      ap₂ (λ (k m : ℕ). headerWords + cellWords * k + subtypeWords * m) (sym (conf-cells t) ∙ cells-read t n (f .header))
+      (sym (conf-subtypes t) ∙ subtypes-read t n (f .header))
 
   from-in : baseOf n process ≤ length t
   from-in = omega (arith, f .exact)
@@ -170,10 +172,10 @@ module _ (t : List ℕ) (n : Header) (f : Framed t n) where
         ∙ getD-take from t i 0 (omega arith)
 
     cleared-configuration : configuration (cleared t from) ≡ configuration t
-    unfolding configuration cells
+    unfolding configuration cells subtypes
     cleared-configuration =
-        ap (λ (k : ℕ). take (headerWords + cellWords * k) (cleared t from)) (word-kept 0 (omega arith))
-        ∙ take-at (take from t) (replicate (length t - from) 0) (headerWords + cellWords * getD t 0 0) (length-take-le from t clear-from ∙ e ∙ sym from-is)
+        ap₂ (λ (k m : ℕ). take (headerWords + cellWords * k + subtypeWords * m) (cleared t from)) (word-kept 0 (omega arith)) (word-kept 6 (omega arith))
+        ∙ take-at (take from t) (replicate (length t - from) 0) (configurationWords t) (length-take-le from t clear-from ∙ e ∙ sym from-is)
         ∙ sym configuration-is
 
     cleared-framed : Framed (cleared t from) n
@@ -187,6 +189,7 @@ module _ (t : List ℕ) (n : Header) (f : Framed t n) where
             files-is = h .files-is ∙ sym (word-kept 3 (omega arith));
             blocks-is = h .blocks-is ∙ sym (word-kept 4 (omega arith));
             guard-is = h .guard-is ∙ sym (word-kept 5 (omega arith));
+            subtypes-is = h .subtypes-is ∙ sym (word-kept 6 (omega arith));
           };
           small = f .small;
           exact =

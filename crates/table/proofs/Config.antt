@@ -2,18 +2,18 @@
 use mathlib.Core.Path.{_≡_, sym, ap, _∙_}
 use mathlib.Core.Bool.{Bool, true, false, _&&_, and-true, and-false}
 use mathlib.Core.List.{List}
-use Prim.Native.Nat.{ℕ, _≤_, _<_}
+use Prim.Native.Nat.{ℕ, _+_, _≤_, _<_}
 use native.Mathlib.Omega.{arith}
 use lib.ListN.{length, getD}
 use borrow.Author.Tests.{ne-eqb}
 use Rattle.rules.specs.Claim.{test, _&_, each}
-use Rattle.rules.specs.Layout.{maxSlots, headerWords, cellWords, Kind, process, segment, file, cells, slots, blocks, guard, cellWord, configuration, base, tableWords, cellAt}
-use Rattle.rules.specs.WellFormed.{headerOk, cellOk, levelsDistinct, sumsMatch, configured, lengthsExact}
+use Rattle.rules.specs.Layout.{maxSlots, headerWords, cellWords, subtypeWords, Kind, process, segment, file, cells, slots, blocks, guard, subtypes, cellWord, subtypeWord, configuration, base, tableWords, cellAt}
+use Rattle.rules.specs.WellFormed.{headerOk, cellOk, levelsDistinct, sumsMatch, subtypeOk, configured, lengthsExact}
 use Rattle.rules.specs.SetUp.{canSetUp}
 use Rattle.laws.proofs.Claims.{holds}
 use Rattle.laws.proofs.Places.{conf-word}
 use Rattle.layout.specs.declared.Header.{Header}
-use Rattle.layout.specs.Header.{headerOf, slotsOf, baseOf, recordOf}
+use Rattle.layout.specs.Header.{headerOf, slotsOf, subtypeOf, baseOf, recordOf}
 use Rattle.table.specs.Shape.{IsHeader, RecordAt, Small, Framed}
 
 -- a word of the header
@@ -27,7 +27,7 @@ cell-word t c k l m = conf-word t (cellAt c k) (omega arith)
 
 -- the header that layout reads has the table's words
 pub header-read : (t : List ℕ) (n : Header) → n ≡ headerOf t → IsHeader t n
-unfolding cells slots blocks guard
+unfolding cells slots blocks guard subtypes
 header-read t n e =
     record {
       cells-is = ap (λ (x : Header). x .cells) e;
@@ -36,6 +36,7 @@ header-read t n e =
       files-is = ap (λ (x : Header). x .files) e;
       blocks-is = ap (λ (x : Header). x .blocks) e;
       guard-is = ap (λ (x : Header). x .guard) e;
+      subtypes-is = ap (λ (x : Header). x .subtypes) e;
     }
 
 -- the header's numbers are the configuration's
@@ -50,10 +51,14 @@ module _ (t : List ℕ) (n : Header) (is : IsHeader t n) where
   slots-read segment = head-word t 2 (omega arith) ∙ sym (is .segments-is)
   slots-read file = head-word t 3 (omega arith) ∙ sym (is .files-is)
 
+  pub subtypes-read : subtypes (configuration t) ≡ n .subtypes
+  unfolding subtypes
+  subtypes-read = head-word t 6 (omega arith) ∙ sym (is .subtypes-is)
+
   pub base-read : (k : Kind) → base (configuration t) k ≡ baseOf n k
-  base-read process = rw cells-read
-  base-read segment = rw (cells-read, slots-read process)
-  base-read file = rw (cells-read, slots-read process, slots-read segment)
+  base-read process = rw (cells-read, subtypes-read)
+  base-read segment = rw (cells-read, subtypes-read, slots-read process)
+  base-read file = rw (cells-read, subtypes-read, slots-read process, slots-read segment)
 
   pub blocks-read : blocks (configuration t) ≡ n .blocks
   unfolding blocks
@@ -62,6 +67,12 @@ module _ (t : List ℕ) (n : Header) (is : IsHeader t n) where
   pub guard-read : guard (configuration t) ≡ n .guard
   unfolding guard
   guard-read = head-word t 5 (omega arith) ∙ sym (is .guard-is)
+
+  -- a word of a subtype
+  pub subtype-word : (i k : ℕ) → i < n .subtypes → k < subtypeWords → subtypeWord (configuration t) i k ≡ getD t (subtypeOf n i + k) 0
+  unfolding subtypeWord cells subtypes
+  subtype-word i k l m =
+      rw cells-read (conf-word t (subtypeOf n i + k) (omega (arith, is .cells-is, is .subtypes-is)))
 
   -- what a good header and exact lengths say of them
   pub small-of : test (headerOk (configuration t)) ≡ true → Small n
@@ -74,6 +85,7 @@ module _ (t : List ℕ) (n : Header) (is : IsHeader t n) where
         few-segments = rw (slots-read segment) at (h .1 .1 .0);
         few-files = rw (slots-read file) at (h .1 .1 .1 .0);
         few-blocks = rw blocks-read at (h .1 .1 .1 .1 .0 .1);
+        few-subtypes = rw subtypes-read at (h .1 .1 .1 .1 .1 .1 .0);
       }
 
   pub framed-of : (m : ℕ) → Small n → test (lengthsExact (configuration t) (length t) m) ≡ true → Framed t n
@@ -111,6 +123,7 @@ module _ (t : List ℕ) (m : ℕ) where
   wrong-header e = rw e
 
   pub right-frame : test (headerOk (configuration t)) ≡ true → test (lengthsExact (configuration t) (length t) m) ≡ true
-      → test (each (cells (configuration t)) (cellOk (configuration t)) & levelsDistinct (configuration t) & sumsMatch (configuration t)) ≡ test (canSetUp t m)
+      → test (each (cells (configuration t)) (cellOk (configuration t)) & levelsDistinct (configuration t) & sumsMatch (configuration t)
+      & each (subtypes (configuration t)) (subtypeOk (configuration t))) ≡ test (canSetUp t m)
   unfolding canSetUp configured
   right-frame a b = rw (a, b) (sym (and-true _))

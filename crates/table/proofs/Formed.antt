@@ -23,9 +23,11 @@ module _ (t : List ℕ) (m : ℕ) (right : test (canSetUp t m) ≡ true) where
   shaped-of n is =
       let whole = and-left (test (configured (configuration t))) (test (lengthsExact (configuration t) (length t) m)) right in
       let small = small-of t n is (and-left (test (headerOk (configuration t))) _ whole) in
+      let shape = shape-of (configuration t) (holds (configured (configuration t)) whole) in
       record {
         framed = framed-of t n is m small (and-right (test (configured (configuration t))) (test (lengthsExact (configuration t) (length t) m)) right);
-        sums = shape-of (configuration t) (holds (configured (configuration t)) whole) .sums;
+        sums = shape .sums;
+        subtype-cells = shape .subtype-cell;
       }
 
 -- ---- the table

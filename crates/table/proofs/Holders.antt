@@ -8,18 +8,19 @@ use borrow.Author.Tests.{lt-ltb, ltb-true, ltb-false, eq-eqb, ne-eqb, eqb-true, 
 use lib.Dec.{leb, ltb, eqb}
 use lib.ListN.{length, getD, set}
 use Rattle.rules.specs.Claim.{test}
-use Rattle.rules.specs.Layout.{maxCells, maxSlots, Kind, recordWords, cells, slots, cellOf, flows, flowMatrix, configuration, Addr, at, rd, live, serial}
-use Rattle.rules.specs.Seid.{class, classOf, indexOf, serialOf, isSeid}
-use Rattle.rules.specs.WellFormed.{heldOk, currentOk, validUse, writeUse, entryOk}
+use Rattle.rules.specs.Layout.{maxCells, maxSlots, Kind, process, segment, file, recordWords, cells, slots, cellOf, flows, flowMatrix, configuration, Addr, at, rd, live, serial}
+use Rattle.rules.specs.Seid.{class, classOf, indexOf, serialOf, isSeid, subtypeClass}
+use Rattle.rules.specs.WellFormed.{heldOk, currentOk, validUse, writeUse, objectEntryOk, subtypeEntryOk, holdsSubtype, entryOk}
 use Rattle.laws.proofs.Below.{one-le}
-use Rattle.laws.proofs.Tests.{and-left, and-right, and-both, refuted, split}
+use Rattle.laws.proofs.Tests.{and-left, and-right, and-both, refuted, both-ways, split}
 use Rattle.laws.proofs.Seids.{is-formed, class-some, class-pos}
+use Rattle.laws.proofs.Shape.{subtype-some}
 use Rattle.laws.proofs.Tab.{getD-tab2}
 use Rattle.laws.proofs.Cells.{cell-bounds}
 use Rattle.layout.specs.declared.Header.{Header}
 use Rattle.layout.specs.Header.{slotsOf}
 use Rattle.table.specs.Shape.{RecordAt, Shaped}
-use Rattle.table.specs.Entries.{Indexed, heldWord, usedWord, unused, names, Counts}
+use Rattle.table.specs.Entries.{Indexed, heldWord, usedWord, unused, holdsOwn, names, Counts}
 use Rattle.table.proofs.Config.{cells-read, slots-read, slots-small, base-read}
 use Rattle.table.proofs.Tally.{tally-add}
 
@@ -87,62 +88,82 @@ unfolding heldOk
 held-in h r k c s i index few l =
     rw (index-in (class k) (slots h k) s i index few l, index .right (omega arith) .1)
 
--- ---- an entry: empty, refused, or held
+-- ---- an entry: of an object or of a subtype; empty, refused, or held
+
+-- an entry that holds a subtype holds nothing of its kind's class
+subtype-other : (k : Kind) (s : ℕ) → holdsSubtype k s ≡ true → classOf s ≡ class k → ⊥
+subtype-other process s e q = both-ways false e refl
+subtype-other segment s e q = both-ways false e refl
+subtype-other file s e q = omega (arith, eqb-true (classOf s) subtypeClass e)
 
 module _ (h : List ℕ) (r : Addr → ℕ) (k : Kind) (c s u : ℕ) where
-  pub entry-empty : s ≡ 0 → eqb u 0 ≡ test (entryOk h r k c s u)
+  entry-object : holdsSubtype k s ≡ false → test (entryOk h r k c s u) ≡ test (objectEntryOk h r k c s u)
   unfolding entryOk
-  entry-empty e = rw (eq-eqb s 0 e) (sym (and-true (eqb u 0)))
+  entry-object e = rw e (and-true _)
 
-  pub entry-refused : (s ≡ 0 → ⊥) → test (heldOk h r k c s) ≡ false → test (entryOk h r k c s u) ≡ false
+  entry-subtype : holdsSubtype k s ≡ true → test (entryOk h r k c s u) ≡ test (subtypeEntryOk h c s u)
   unfolding entryOk
+  entry-subtype e = rw e
+
+  pub entry-empty : s ≡ 0 → eqb u 0 ≡ test (entryOk h r k c s u)
+  unfolding objectEntryOk
+  entry-empty e =
+      let object = entry-object (refuted (holdsSubtype k s) (λ q. subtype-some k s q e)) in
+      rw (object, eq-eqb s 0 e) (sym (and-true (eqb u 0)))
+
+  entry-refused : (s ≡ 0 → ⊥) → test (heldOk h r k c s) ≡ false → test (objectEntryOk h r k c s u) ≡ false
+  unfolding objectEntryOk
   entry-refused e f = rw (ne-eqb s 0 e, f)
 
--- a used entry whose index is no slot's
+-- a used entry whose index is no slot's: what is said of a subtype decides
 pub entry-out : (h : List ℕ) (r : Addr → ℕ) (k : Kind) (c s u i : ℕ) → (s ≡ 0 → u ≡ 0 → ⊥) → Indexed (class k) s i → slots h k ≤ 256 → slots h k ≤ i
-    → test (entryOk h r k c s u) ≡ false
+    → holdsSubtype k s && test (subtypeEntryOk h c s u) ≡ test (entryOk h r k c s u)
 entry-out h r k c s u i busy index few l =
-    split _ (eqb s 0)
-    (λ z. sym (entry-empty h r k c s u (eqb-true s 0 z)) ∙ ne-eqb u 0 (busy (eqb-true s 0 z)))
-    (λ z. entry-refused h r k c s u (eqb-false s 0 z) (held-out h r k c s i index few l))
+    split _ (holdsSubtype k s)
+    (λ q. rw q (sym (entry-subtype h r k c s u q)))
+    (λ q.
+    rw q
+    (split _ (eqb s 0)
+    (λ z. sym (ne-eqb u 0 (busy (eqb-true s 0 z))) ∙ entry-empty h r k c s u (eqb-true s 0 z))
+    (λ z. sym (entry-object h r k c s u q ∙ entry-refused h r k c s u (eqb-false s 0 z) (held-out h r k c s i index few l)))))
 
 -- and one whose index is: all its tests at once
 pub entry-in : (h : List ℕ) (r : Addr → ℕ) (k : Kind) (c s u i : ℕ) → classOf s ≡ class k → indexOf s ≡ i → i < slots h k
     → (ltb 0 (serialOf s) && (leb (serialOf s) (r (at k i serial)) && flows h (cellOf h k i) c))
     && ((not (eqb (cellOf h k i) c) || (eqb (r (at k i live)) 1 && eqb (r (at k i serial)) (serialOf s)))
     && (validUse k u && (not (writeUse k u) || eqb (cellOf h k i) c))) ≡ test (entryOk h r k c s u)
-unfolding entryOk heldOk currentOk isSeid
+unfolding objectEntryOk heldOk currentOk isSeid
 entry-in h r k c s u i e q l =
+    let object = entry-object h r k c s u (refuted (holdsSubtype k s) (λ o. subtype-other k s o e)) in
     rw (
+      object,
       ← q,
       ne-eqb s 0 (class-some s (class k) (class-pos k) e),
       eq-eqb (classOf s) (class k) e,
       lt-ltb (indexOf s) (slots h k) (omega arith),
     )
 
--- an entry that is right counts for the slot that it names, where that is of the holder's cell
-module _ (h : List ℕ) (r : Addr → ℕ) (k : Kind) (c s u : ℕ) (right : test (entryOk h r k c s u) ≡ true) where
-  empty-names-none : (i : ℕ) (same : Bool) → s ≡ 0 → same && (eqb (classOf s) (class k) && eqb (indexOf s) i) ≡ false
-  empty-names-none i same z = rw (ne-eqb (classOf s) (class k) (λ e. class-some s (class k) (class-pos k) e z)) (and-false same)
+-- a conjunction in another order
+turned : (a b d : Bool) → (a && b) && d ≡ b && (a && d)
+turned true true d = refl
+turned true false d = refl
+turned false true d = refl
+turned false false d = refl
 
-  right-class : (s ≡ 0 → ⊥) → eqb (classOf s) (class k) ≡ true
-  unfolding entryOk heldOk
-  right-class n = eq-eqb (classOf s) (class k) (is-formed (class k) (slots h k) s (and-left _ _ (and-left _ _ (rw (ne-eqb s 0 n) at right))) .class-is)
-
-  pub right-names : (i : ℕ) → names h k c s i ≡ eqb (cellOf h k i) c && (eqb (classOf s) (class k) && eqb (indexOf s) i)
-  right-names i =
-      split _ (eqb s 0)
-      (λ z. rw z (sym (empty-names-none i (eqb (cellOf h k i) c) (eqb-true s 0 z))))
-      (λ z.
-      rw (z, right-class (eqb-false s 0 z))
-      (split _ (eqb (indexOf s) i) (λ q. let e : indexOf s ≡ i = eqb-true (indexOf s) i q in rw e)
-      (λ q. rw q (and-false (eqb (cellOf h k (indexOf s)) c) ∙ sym (and-false (eqb (cellOf h k i) c))))))
+-- an entry counts for the slot that it names, where that is of the holder's cell
+pub names-own : (h : List ℕ) (k : Kind) (c s i : ℕ) → names h k c s i ≡ eqb (cellOf h k i) c && (eqb (classOf s) (class k) && eqb (indexOf s) i)
+names-own h k c s i =
+    let right-class = eqb (classOf s) (class k) in
+    let own = eqb (cellOf h k i) c in
+    split _ (eqb (indexOf s) i)
+    (λ q. let e : indexOf s ≡ i = eqb-true (indexOf s) i q in rw e (turned right-class own (eqb i i)))
+    (λ q. rw q (and-false (holdsOwn h k c s) ∙ sym (and-false (right-class && own)) ∙ turned right-class own false))
 
 -- ---- what a used entry counts for
 
 module _ (h : List ℕ) (k : Kind) (c s i cell : ℕ) (e : classOf s ≡ class k) (q : indexOf s ≡ i) (of : cell ≡ cellOf h k i) where
   hit : (j : ℕ) → eqb cell c && eqb i j ≡ names h k c s j
-  hit j = rw (of, ← q, ne-eqb s 0 (class-some s (class k) (class-pos k) e))
+  hit j = rw (of, ← q, eq-eqb (classOf s) (class k) e)
 
   one-of : (a b : Bool) → _≡_ {A = ℕ} (cond b (cond a 1 0) 0) (cond (a && b) 1 0)
   one-of true true = refl
@@ -157,9 +178,17 @@ module _ (h : List ℕ) (k : Kind) (c s i cell : ℕ) (e : classOf s ≡ class k
       tally-add before i j (cond (eqb cell c) 1 0) l ∙ ap (λ (x : ℕ). getD before j 0 + x) (one-of (eqb cell c) (eqb i j) ∙ ap (λ (b : Bool). cond b 1 0) (hit j)) in
       record { exact = λ r j m. rose j; few = λ j m. omega (arith, rose j, one-le (names h k c s j)) }
 
--- none, where all is not right
-pub counted-none : (f : ℕ → ℕ) (before : List ℕ) → Counts f 1 false before before
-counted-none f before = record { exact = λ e. absurd (true≢false (sym e)); few = λ j m. omega arith }
+-- nothing, where it is right only if it holds a subtype: that has no slot
+module _ (h : List ℕ) (k : Kind) (c s : ℕ) where
+  subtype-names-none : (i : ℕ) → holdsSubtype k s ≡ true → names h k c s i ≡ false
+  subtype-names-none i e = rw (ne-eqb (classOf s) (class k) (subtype-other k s e))
+
+  pub counted-none : (right fits : Bool) (before : List ℕ) → right ≡ holdsSubtype k s && fits
+      → Counts (λ j. cond (names h k c s j) 1 0) 1 right before before
+  counted-none right fits before e =
+      let none : (j : ℕ) → right ≡ true → _≡_ {A = ℕ} (cond (names h k c s j) 1 0) 0 = λ j q.
+      ap (λ (b : Bool). cond b 1 0) (subtype-names-none j (and-left (holdsSubtype k s) fits (sym e ∙ q))) in
+      record { exact = λ q j m. omega (arith, none j q); few = λ j m. omega arith }
 
 -- ---- an entry that is not used is right and counts for nothing
 
@@ -167,7 +196,9 @@ pub entry-idle : (h : List ℕ) (r : Addr → ℕ) (k : Kind) (c s u : ℕ) → 
 entry-idle h r k c s u e = sym (entry-empty h r k c s u (eqb-true s 0 (and-left (eqb s 0) (eqb u 0) e))) ∙ and-right (eqb s 0) (eqb u 0) e
 
 pub names-idle : (h : List ℕ) (k : Kind) (c s u i : ℕ) → eqb s 0 && eqb u 0 ≡ true → names h k c s i ≡ false
-names-idle h k c s u i e = rw (and-left (eqb s 0) (eqb u 0) e)
+names-idle h k c s u i e =
+    let none : s ≡ 0 = eqb-true s 0 (and-left (eqb s 0) (eqb u 0) e) in
+    rw (ne-eqb (classOf s) (class k) (λ q. class-some s (class k) (class-pos k) q none))
 
 -- the words of a used entry are not both 0
 pub busy-word : (t : List ℕ) (from d s u : ℕ) → unused t from d ≡ false → s ≡ heldWord t from d → u ≡ usedWord t from d → s ≡ 0 → u ≡ 0 → ⊥

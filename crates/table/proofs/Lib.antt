@@ -5,6 +5,7 @@ pub mod Filled
 pub mod Tally
 pub mod Listed
 pub mod Holders
+pub mod Named
 pub mod Record
 pub mod Alive
 pub mod Owned

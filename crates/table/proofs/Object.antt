@@ -8,8 +8,8 @@ use lib.Dec.{leb, eqb}
 use lib.ListN.{length, getD, replicate}
 use Rattle.rules.specs.Words.{allBelow, sumBelow, countBelow}
 use Rattle.rules.specs.Claim.{test, is}
-use Rattle.rules.specs.Layout.{maxSlots, maxBits, maxLinks, entries, Kind, segment, file, blocks, configuration, Addr, at, rd, bits, sharable, size, references, links, opens}
-use Rattle.rules.specs.WellFormed.{recordOk, segmentSize, segmentOk, fileOk, ownEntry, ownEntries}
+use Rattle.rules.specs.Layout.{maxSlots, maxBits, maxLinks, entries, Kind, segment, file, blocks, configuration, Addr, at, rd, bits, sharable, size, references, links, opens, subtype}
+use Rattle.rules.specs.WellFormed.{recordOk, segmentSize, segmentOk, fileSubtypeOk, fileOk, ownEntry, ownEntries}
 use Rattle.laws.proofs.Tests.{refuted}
 use Rattle.laws.proofs.Below.{all-at, sum-more}
 use Rattle.layout.specs.declared.Header.{Header}
@@ -38,18 +38,22 @@ module _ (t : List ℕ) (n : Header) (shaped : Shaped t n) (i place held : ℕ) 
       (ap (λ (b : Bool). b && eqb (rd (configuration t) t (at segment i references)) (ownEntries (configuration t) (rd (configuration t) t) segment i))
       (record-claim t n shaped segment i place _ lies))
 
-  pub file-claim : RecordAt n file i place → held ≡ ownEntries (configuration t) (rd (configuration t) t) file i
+  pub file-claim : RecordAt n file i place → (typed : Bool) → typed ≡ test (fileSubtypeOk (configuration t) i (getD t (place + subtype) 0))
+      → held ≡ ownEntries (configuration t) (rd (configuration t) t) file i
       → test (recordOk (recordAt t place) file 0 (is (leb (getD t (place + bits file) 0) maxBits &&
-      (leb (getD t (place + links) 0) maxLinks && (leb (getD t (place + size) 0) (n .blocks) && leb 1 (getD t (place + links) 0 + getD t (place + opens) 0))))))
+      (leb (getD t (place + links) 0) maxLinks && (leb (getD t (place + size) 0) (n .blocks) &&
+      (leb 1 (getD t (place + links) 0 + getD t (place + opens) 0) && typed))))))
       && eqb (getD t (place + opens) 0) held
       ≡ test (fileOk (configuration t) (rd (configuration t) t) i)
   unfolding fileOk
-  file-claim lies e =
+  file-claim lies typed fits e =
       rw (
+        fits,
         record-word t n shaped file i (bits file) place lies,
         record-word t n shaped file i links place lies,
         record-word t n shaped file i size place lies,
         record-word t n shaped file i opens place lies,
+        record-word t n shaped file i subtype place lies,
         ← blocks-read t n (shaped .framed .header),
         e,
       )

@@ -13,7 +13,7 @@ use Rattle.rules.specs.Claim.{test}
 use Rattle.rules.specs.Layout.{entries, Kind, process, segment, recordWords, cellOf, configuration, Addr, at, rd, live, heldAt, usedAt}
 use Rattle.rules.specs.Seid.{class, classOf, indexOf}
 use Rattle.rules.specs.WellFormed.{entryOk, heldOnce, processOk, ownEntry}
-use Rattle.laws.proofs.Below.{all-at, count-same, count-none}
+use Rattle.laws.proofs.Below.{count-same, count-none}
 use Rattle.laws.proofs.Claims.{holds}
 use Rattle.laws.proofs.Seids.{class-some, class-pos}
 use Rattle.laws.proofs.Shape.{record-of}
@@ -22,7 +22,7 @@ use Rattle.layout.specs.Header.{recordOf}
 use Rattle.table.specs.Shape.{Shaped}
 use Rattle.table.specs.Entries.{heldWord, usedWord, names, fresh, Counts, Counted}
 use Rattle.table.proofs.Config.{base-read, slots-read, slots-small}
-use Rattle.table.proofs.Holders.{right-names}
+use Rattle.table.proofs.Holders.{names-own}
 use Rattle.table.proofs.Alive.{entriesOk}
 
 -- entries that follow one another, two words each
@@ -47,22 +47,21 @@ module _ (t : List ℕ) (n : Header) (shaped : Shaped t n) (p mine : ℕ) (own :
       ∙ ap₂ (λ (w v : ℕ → ℕ). allBelow entries (λ d. test (entryOk (configuration t) (rd (configuration t) t) k (cellOf (configuration t) process p) (w d) (v d))))
       (fun-ext held-read) (fun-ext used-read)
 
-  -- an entry that is right counts for the rule where it counted for the code
-  same-entry : (d i : ℕ) → test (entryOk (configuration t) (rd (configuration t) t) k mine (heldWord t from d) (usedWord t from d)) ≡ true
-      → names (configuration t) k mine (heldWord t from d) i ≡ ownEntry (configuration t) (rd (configuration t) t) k i p d
+  -- an entry counts for the rule where it counted for the code
+  same-entry : (d i : ℕ) → names (configuration t) k mine (heldWord t from d) i ≡ ownEntry (configuration t) (rd (configuration t) t) k i p d
   unfolding ownEntry
-  same-entry d i right =
-      right-names (configuration t) (rd (configuration t) t) k mine (heldWord t from d) (usedWord t from d) right i
+  same-entry d i =
+      names-own (configuration t) k mine (heldWord t from d) i
       ∙ ap₂ (λ (m s : ℕ). eqb (cellOf (configuration t) k i) m && (eqb (classOf s) (class k) && eqb (indexOf s) i)) own (held-read d)
 
   pub live-counted : (right : Bool) (before after : List ℕ)
       → Counts (λ i. countBelow entries (λ d. names (configuration t) k mine (heldWord t from d) i)) entries right before after → right ≡ true
-      → test (entriesOk (configuration t) (rd (configuration t) t) k p) ≡ true → Counted (configuration t) (rd (configuration t) t) k p before after
-  live-counted right before after counts said good =
+      → Counted (configuration t) (rd (configuration t) t) k p before after
+  live-counted right before after counts said =
       record {
         own = λ i l.
             counts .exact said i (omega (arith, slots-read t n (shaped .framed .header) k, slots-small n (shaped .framed .small) k))
-            ∙ ap (λ (x : ℕ). getD before i 0 + x) (count-same entries _ _ (λ d m. same-entry d i (all-at entries _ (entries-read ∙ good) d m)));
+            ∙ ap (λ (x : ℕ). getD before i 0 + x) (count-same entries _ _ (λ d m. same-entry d i));
         few = counts .few;
       }
 

@@ -8,7 +8,7 @@ use lib.ListN.{length, getD}
 use Rattle.rules.specs.Words.{allBelow, sumBelow, countBelow}
 use Rattle.rules.specs.Claim.{Claim, is}
 use Rattle.rules.specs.Layout.{maxSlots, entries, Kind, process, segment, file, slots, cellOf, Addr}
-use Rattle.rules.specs.Seid.{classOf, indexOf, serialOf}
+use Rattle.rules.specs.Seid.{class, classOf, indexOf, serialOf}
 use Rattle.rules.specs.WellFormed.{ownEntry, segmentOk, fileOk}
 
 -- the record at a place of the table
@@ -49,9 +49,9 @@ pub record Squeezed (t : List ℕ) (from : ℕ) (l : List ℕ) (n m : ℕ) : Typ
   pub held-is : (j : ℕ) → j < n → getD l (2 * j) 0 ≡ heldWord t from (getD numbers j 0)
   pub used-is : (j : ℕ) → j < n → getD l (1 + 2 * j) 0 ≡ usedWord t from (getD numbers j 0)
 
--- s names an object of kind k, and one of the cell mine
+-- s names an object of kind k (and no subtype, which a descriptor may hold too), and one of the cell mine
 abbrev pub holdsOwn : List ℕ → Kind → ℕ → ℕ → Bool
-holdsOwn h k mine s = not (eqb s 0) && eqb (cellOf h k (indexOf s)) mine
+holdsOwn h k mine s = eqb (classOf s) (class k) && eqb (cellOf h k (indexOf s)) mine
 
 -- and it is the one in slot i
 abbrev pub names : List ℕ → Kind → ℕ → ℕ → ℕ → Bool

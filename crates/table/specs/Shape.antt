@@ -1,9 +1,9 @@
--- What the code counts on once the header, the lengths and the cells have been judged.
+-- What the code counts on once the header, the lengths, the cells and the subtypes have been judged.
 use mathlib.Core.Path.{_≡_}
 use mathlib.Core.List.{List}
 use Prim.Native.Nat.{ℕ, _+_, _≤_, _<_}
 use lib.ListN.{length, getD}
-use Rattle.rules.specs.Layout.{maxCells, maxSlots, maxBlocks, Kind, file, recordWords, cells, slots, configuration, firstSlot, cellOf}
+use Rattle.rules.specs.Layout.{maxCells, maxSlots, maxBlocks, maxSubtypes, Kind, file, recordWords, cells, slots, subtypes, subtypeCell, configuration, firstSlot, cellOf}
 use Rattle.layout.specs.declared.Header.{Header}
 use Rattle.layout.specs.Header.{recordOf}
 
@@ -15,6 +15,7 @@ pub record IsHeader (t : List ℕ) (n : Header) : Type 0 where
   pub files-is : n .files ≡ getD t 3 0
   pub blocks-is : n .blocks ≡ getD t 4 0
   pub guard-is : n .guard ≡ getD t 5 0
+  pub subtypes-is : n .subtypes ≡ getD t 6 0
 
 -- where a record begins by them, and that it ends within the table
 pub record RecordAt (n : Header) (k : Kind) (i at : ℕ) : Type 0 where
@@ -29,6 +30,7 @@ pub record Small (n : Header) : Type 0 where
   pub few-segments : n .segments ≤ maxSlots
   pub few-files : n .files ≤ maxSlots
   pub few-blocks : n .blocks ≤ maxBlocks
+  pub few-subtypes : n .subtypes ≤ maxSubtypes
 
 -- and the table is as long as they say
 pub record Framed (t : List ℕ) (n : Header) : Type 0 where
@@ -36,10 +38,11 @@ pub record Framed (t : List ℕ) (n : Header) : Type 0 where
   pub small : Small n
   pub exact : length t ≡ recordOf n file (n .files)
 
--- and the cells have as many slots of each kind as the header says
+-- and the cells have as many slots of each kind as the header says, and every subtype is of one of them
 pub record Shaped (t : List ℕ) (n : Header) : Type 0 where
   pub framed : Framed t n
   pub sums : (k : Kind) → firstSlot (configuration t) k (cells (configuration t)) ≡ slots (configuration t) k
+  pub subtype-cells : (i : ℕ) → i < subtypes (configuration t) → subtypeCell (configuration t) i < cells (configuration t)
 
 -- l has the cell of every slot of a kind
 abbrev pub CellsOf : List ℕ → Kind → List ℕ → Type 0

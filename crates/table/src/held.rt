@@ -1,13 +1,13 @@
-// What a process holds: identifiers of messages' senders, and entries for files and segments.
+// What a process holds: identifiers of messages' senders, and entries for files and segments. A descriptor may hold a subtype in a file's place.
 ghost use mathlib.Core.Path.{_≡_};
-ghost use mathlib.Core.Bool.{true, cond};
+ghost use mathlib.Core.Bool.{true, cond, _&&_};
 ghost use Prim.Native.Nat.{ℕ, _+_, _*_, _≤_, _<_};
 ghost use lib.ListN.{length, getD};
 ghost use Rattle.rules.specs.Words.{allBelow, countBelow};
 ghost use Rattle.rules.specs.Claim.{test};
 ghost use Rattle.rules.specs.Layout.{maxCells, maxSlots, entries, slots, cellOf, configuration, flowMatrix, rd};
 ghost use Rattle.rules.specs.Seid.{class, classOf, indexOf};
-ghost use Rattle.rules.specs.WellFormed.{validUse, writeUse, heldOk, entryOk};
+ghost use Rattle.rules.specs.WellFormed.{validUse, writeUse, heldOk, subtypeEntryOk, holdsSubtype, entryOk};
 ghost use Rattle.layout.specs.Kinds.{kindOf};
 ghost use Rattle.modes.specs.Valid.{validTable};
 ghost use Rattle.table.specs.Shape.{Shaped, CellsOf};
@@ -15,6 +15,7 @@ ghost use Rattle.table.specs.Entries.{heldWord, usedWord, Squeezed, name
 use crate::places;
 use crate::records;
 use crate::runs;
+use crate::subtypes;
 use layout::Header;
 use layout::Kind;
 use modes::NUMBERS;
@@ -117,7 +118,48 @@ fn entry_ok(
     held & (current & (valid_use(kind, valid, u) & (!write_use(kind, u) | own)))
 }
 
-// A used entry, judged, and counted for its slot if the object is of the own cell.
+// A descriptor that holds a subtype. It is held as a file is, but that no record is asked: a subtype has none, and is there for good.
+fn held_subtype_ok(
+    t: &[u32],
+    n: Header,
+    flow: &[[bool; MAX_CELLS]; MAX_CELLS],
+    valid: &[bool; NUMBERS],
+    mine: usize,
+    s: u32,
+    u: u32,
+) -> bool
+    requires { ⌜ Shaped (now t) n × (now flow ≡ flowMatrix (configuration (now t))) × (mine < maxCells) × (now valid ≡ validTable) ⌝ }
+    ensures { λ r. ⌜ r ≡ test (subtypeEntryOk (configuration (now (t .entry))) mine s u) ⌝ }
+{
+    if !subtypes::named(n, s) {
+        return false;
+    }
+    let cell = subtypes::cell_of(t, n, layout::index_of(s));
+    flow[cell][mine] & (valid_use(Kind::File, valid, u) & (!modes::writes(u) | (cell == mine)))
+}
+
+// An entry that holds no object of the kind. Only a descriptor may be right then, where it holds a subtype. This lies off the way that most entries go.
+fn subtype_entry_ok(
+    t: &[u32],
+    n: Header,
+    kind: Kind,
+    flow: &[[bool; MAX_CELLS]; MAX_CELLS],
+    valid: &[bool; NUMBERS],
+    mine: usize,
+    s: u32,
+    u: u32,
+) -> bool
+    requires { ⌜ Shaped (now t) n × (now flow ≡ flowMatrix (configuration (now t))) × (mine < maxCells) × (now valid ≡ validTable) ⌝ }
+    ensures { λ r. ⌜ r ≡ holdsSubtype (kindOf kind) s && test (subtypeEntryOk (configuration (now (t .entry))) mine s u) ⌝ }
+{
+    match kind {
+        Kind::Process => false,
+        Kind::Segment => false,
+        Kind::File => held_subtype_ok(t, n, flow, valid, mine, s, u),
+    }
+}
+
+// A used entry, judged, and counted for its slot if the object is of the own cell. A subtype has no slot, and is counted for none.
 fn judge_entry(
     t: &[u32],
     n: Header,
@@ -137,7 +179,7 @@ fn judge_entry(
 {
     let i = places::index_in(kind, s);
     if places::slots(n, kind) <= i {
-        return false;
+        return subtype_entry_ok(t, n, kind, flow, valid, mine, s, u);
     }
     let cell = runs::index(cells[i]);
     let own = first(cell == mine, 1, 0);

@@ -10,6 +10,7 @@ mod records;
 mod runs;
 mod setup;
 mod shape;
+mod subtypes;
 
 ghost use mathlib.Core.Path.{_≡_};
 ghost use mathlib.Core.Bool.{cond};
@@ -53,8 +54,8 @@ fn records_ok(
     ) {
         return false;
     }
-    objects::objects_ok(t, n, Kind::Segment, &references)
-        & objects::objects_ok(t, n, Kind::File, &opens)
+    objects::objects_ok(t, n, Kind::Segment, segment_cells, &references)
+        & objects::objects_ok(t, n, Kind::File, file_cells, &opens)
 }
 
 // Judges the records, once the shape is right. The cell of every slot and which cell may flow to which are found once: they serve the judging, and where all is right

@@ -1,13 +1,14 @@
-// The table's shape: its header, its lengths and its cells. Set-up judges this much and no more.
+// The table's shape: its header, its lengths, its cells and its subtypes. Set-up judges this much and no more.
 ghost use mathlib.Core.Path.{_≡_};
-ghost use Prim.Native.Nat.{_+_, _*_, _≤_, _<_};
+ghost use Prim.Native.Nat.{_+_, _*_, _-_, _≤_, _<_};
 ghost use lib.ListN.{length, getD};
 ghost use Rattle.rules.specs.Words.{sumBelow};
 ghost use Rattle.rules.specs.Claim.{test, each, _&_};
-ghost use Rattle.rules.specs.Layout.{headerWords, cellWords, cells, cellWord, configuration, cellAt};
-ghost use Rattle.rules.specs.WellFormed.{headerOk, cellOk, levelsDistinct, sumsMatch, lengthsExact};
+ghost use Rattle.rules.specs.Layout.{headerWords, cellWords, cells, cellWord, subtypes, configuration, cellAt};
+ghost use Rattle.rules.specs.WellFormed.{headerOk, cellOk, levelsDistinct, sumsMatch, subtypeOk, lengthsExact};
 ghost use Rattle.rules.specs.SetUp.{canSetUp};
 ghost use Rattle.table.specs.Shape.{IsHeader, Small, Framed};
+use crate::subtypes;
 use layout::Header;
 use rules::BLOCK_BYTES;
 use rules::CELL_FILES;
@@ -17,11 +18,16 @@ use rules::CELL_PROCESSES;
 use rules::CELL_SEGMENTS;
 use rules::CELL_WORDS;
 use rules::HEADER_WORDS;
+use rules::MAX_BITS;
 use rules::MAX_BLOCKS;
 use rules::MAX_CATEGORY;
 use rules::MAX_CELLS;
 use rules::MAX_OWNER;
 use rules::MAX_SLOTS;
+use rules::MAX_SUBTYPES;
+use rules::SUBTYPE_BITS;
+use rules::SUBTYPE_GROUP;
+use rules::SUBTYPE_OWNER;
 use words::wide;
 
 // The two categories of a cell's level.
@@ -38,7 +44,8 @@ fn header_ok(t: &[u32], n: Header) -> bool
             & ((n.segments <= MAX_SLOTS as u32)
                 & ((n.files <= MAX_SLOTS as u32)
                     & (((1 <= n.blocks) & (n.blocks <= MAX_BLOCKS))
-                        & ((n.guard <= n.cells) & ((t[6] == 0) & (t[7] == 0)))))))
+                        & ((n.guard <= n.cells)
+                            & ((n.subtypes <= MAX_SUBTYPES as u32) & (t[7] == 0)))))))
 }
 
 fn lengths_exact(t: &[u32], n: Header, store_bytes: usize) -> bool
@@ -108,14 +115,46 @@ fn sums_match(t: &[u32], n: Header) -> bool
             & (slots_owned(t, n, CELL_FILES) == wide(n.files)))
 }
 
-fn cells_right(t: &[u32], n: Header) -> bool
-    requires { ⌜ Framed (now t) n ⌝ }
-    ensures { λ r. ⌜ r ≡ test (each (cells (configuration (now (t .entry)))) (cellOk (configuration (now (t .entry)))) & levelsDistinct (configuration (now (t .entry))) & sumsMatch (configuration (now (t .entry)))) ⌝ }
+// The subtype before; the first has none, and is compared with itself.
+fn previous(i: u32) -> u32
+    ensures { λ r. ⌜ r ≡ i - 1 ⌝ }
 {
-    cells_ok(t, n) & (levels_distinct(t, n) & sums_match(t, n))
+    if i == 0 { 0 } else { i - 1 }
 }
 
-// Cells are looked at only once the header and the lengths are right: then every index is in range.
+// A subtype is of a cell that there is, and of none before that of the subtype before it.
+fn subtype_ok(t: &[u32], n: Header, i: u32) -> bool
+    requires { ⌜ Framed (now t) n × (i < n .subtypes) ⌝ }
+    ensures { λ r. ⌜ r ≡ test (subtypeOk (configuration (now (t .entry))) i) ⌝ }
+{
+    let at = n.subtype_at(i);
+    let cell = subtypes::cell_of(t, n, i);
+    let last = subtypes::cell_of(t, n, previous(i));
+    (cell < wide(n.cells))
+        & ((last <= cell)
+            & ((t[at + SUBTYPE_OWNER] <= MAX_OWNER)
+                & ((t[at + SUBTYPE_GROUP] <= MAX_OWNER) & (t[at + SUBTYPE_BITS] <= MAX_BITS))))
+}
+
+fn subtypes_ok(t: &[u32], n: Header) -> bool
+    requires { ⌜ Framed (now t) n ⌝ }
+    ensures { λ r. ⌜ r ≡ test (each (subtypes (configuration (now (t .entry)))) (subtypeOk (configuration (now (t .entry))))) ⌝ }
+{
+    let mut ok = true;
+    for i in 0..n.subtypes {
+        ok = ok & subtype_ok(t, n, i);
+    }
+    ok
+}
+
+fn configuration_right(t: &[u32], n: Header) -> bool
+    requires { ⌜ Framed (now t) n ⌝ }
+    ensures { λ r. ⌜ r ≡ test (each (cells (configuration (now (t .entry)))) (cellOk (configuration (now (t .entry)))) & levelsDistinct (configuration (now (t .entry))) & sumsMatch (configuration (now (t .entry))) & each (subtypes (configuration (now (t .entry)))) (subtypeOk (configuration (now (t .entry))))) ⌝ }
+{
+    cells_ok(t, n) & (levels_distinct(t, n) & (sums_match(t, n) & subtypes_ok(t, n)))
+}
+
+// Cells and subtypes are looked at only once the header and the lengths are right: then every index is in range.
 pub(crate) fn can_set_up(t: &[u32], store_bytes: usize) -> bool
     ensures { λ r. ⌜ r ≡ test (canSetUp (now (t .entry)) «store_bytes») ⌝ }
 {
@@ -129,5 +168,5 @@ pub(crate) fn can_set_up(t: &[u32], store_bytes: usize) -> bool
     if !lengths_exact(t, n, store_bytes) {
         return false;
     }
-    cells_right(t, n)
+    configuration_right(t, n)
 }

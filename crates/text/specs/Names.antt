@@ -4,7 +4,7 @@ use Prim.Native.Nat.{ℕ}
 use lib.ListN.{take, replicate}
 
 abbrev pub errors : ℕ
-errors = 35
+errors = 37
 
 -- the width of a row
 abbrev pub rowBytes : ℕ

@@ -14,7 +14,7 @@ use rules::RECEIVE_CODE;
 use rules::STATUS_CODE;
 use rules::XOK;
 
-const ERRORS: usize = 35;
+const ERRORS: usize = 37;
 
 // The names of the errors, by number, each filled up with spaces.
 const NAMES: [[u8; 16]; ERRORS] = [
@@ -53,6 +53,8 @@ const NAMES: [[u8; 16]; ERRORS] = [
     *b"XvrtMmCfl       ",
     *b"XshSg           ",
     *b"XnoSPriv        ",
+    *b"XbadStCap       ",
+    *b"XbadSubtypeMatch",
 ];
 
 // How long each name is.
@@ -92,6 +94,8 @@ const LENGTHS: [usize; ERRORS] = [
     9,
     5,
     8,
+    9,
+    16,
 ];
 
 fn name_row(n: u32) -> [u8; 16]

@@ -1,7 +1,7 @@
 //! The calls. Each looks for its refusals first, in the documents' order, and writes only after the last of them.
 
 use crate::errors::Error::{self, *};
-use crate::seid::{Kind, Seid};
+use crate::seid::{Kind, SUBTYPE_SERIAL, Seid};
 use crate::table::*;
 use std::ops::{Deref, Range};
 
@@ -70,8 +70,8 @@ fn outcome(
         4 => caller.rendezvous(a, b),
         5 => caller.release_segment(a),
         6 => caller.set_access(a, b),
-        7 => caller.create(a, b),
-        8 => caller.open(a, b),
+        7 => caller.create(a, b, c),
+        8 => caller.open(a, b, c),
         9 => caller.close(a),
         10 => caller.link(a),
         11 => caller.unlink(a),
@@ -135,6 +135,17 @@ fn unmap(map: &mut [u32], designator: u32) {
     for page in map.iter_mut().filter(|page| **page == designator + 1) {
         *page = 0;
     }
+}
+
+/// Read and write among the modes; the exclusive ones ask for nothing.
+const READS: u32 = 1;
+const WRITES: u32 = 2;
+
+/// The bits that modes ask for.
+fn bits_asked(modes: u32) -> u32 {
+    let read = if modes & READS != 0 { READ } else { 0 };
+    let write = if modes & WRITES != 0 { WRITE } else { 0 };
+    read | write
 }
 
 /// Only five mode numbers are valid.
@@ -219,6 +230,12 @@ impl<'a, T: Deref<Target = [u32]>, S> Caller<'a, T, S> {
         self.shape.flow[cell][self.cell]
     }
 
+    /// Whether the level lets the caller open something of a cell: reading needs flow to the caller, writing its own cell.
+    fn may_open(&self, cell: usize, modes: u32) -> bool {
+        let (reads, writes) = (modes & READS != 0, modes & WRITES != 0);
+        (!reads || self.flows_here(cell)) && (!writes || cell == self.cell)
+    }
+
     /// What today's bits of an object grant to the caller.
     fn granted(&self, object: Object) -> u32 {
         let same_owner = self.word(object, OWNER) == self.owner;
@@ -268,6 +285,12 @@ impl<'a, T: Deref<Target = [u32]>, S> Caller<'a, T, S> {
         self.entry(DESCRIPTORS, place).ok_or(XbadOd)
     }
 
+    /// The subtype that the caller holds at the descriptor which c names, as descriptor + 1, and in which modes.
+    fn held_subtype(&self, c: u32) -> Result<(u32, u32), Error> {
+        let descriptor = c.checked_sub(1).ok_or(XbadStCap)?;
+        self.entry(DESCRIPTORS, descriptor).filter(|&(seid, _)| Seid::of(seid).of_subtype()).ok_or(XbadStCap)
+    }
+
     /// The object of an entry, or None where the entry is stale. The table is well formed, so the slot is there.
     fn object(&self, kind: Kind, word: u32) -> Option<Object> {
         let seid = Seid::of(word);
@@ -279,6 +302,7 @@ impl<'a, T: Deref<Target = [u32]>, S> Caller<'a, T, S> {
     fn opened(&self, descriptor: u32, mode: u32, wrong_mode: Error, access: u32) -> Result<Object, Error> {
         let (seid, modes) = self.descriptor(descriptor)?;
         refuse_if(modes & mode == 0, wrong_mode)?;
+        refuse_if(Seid::of(seid).of_subtype(), XnoObj)?; // it has no blocks
         let file = self.object(Kind::File, seid).ok_or(XnoObj)?;
         refuse_if(self.lacks(file, access), XdapViol)?;
         Ok(file)
@@ -286,7 +310,7 @@ impl<'a, T: Deref<Target = [u32]>, S> Caller<'a, T, S> {
 
     /// The bytes of the store that a read of a block copies.
     fn readable(&self, descriptor: u32, block: u32) -> Result<Range<usize>, Error> {
-        let file = self.opened(descriptor, 1, XnotReadable, READ)?;
+        let file = self.opened(descriptor, READS, XnotReadable, READ)?;
         refuse_if(block as usize >= self.shape.blocks, XbadBlockNo)?;
         refuse_if(block >= self.word(file, SIZE), XendOfFile)?;
         let start = self.shape.stretch(file.index).start + block as usize * BLOCK_BYTES;
@@ -323,6 +347,9 @@ impl Caller<'_, &mut [u32], &mut [u8]> {
             return;
         }
         self.table[entry_at..entry_at + ENTRY_WORDS].fill(0);
+        if Seid::of(seid).of_subtype() {
+            return; // nobody counts who has it open
+        }
         let index = Seid::of(seid).index;
         if self.shape.cell(kind, index) == self.cell {
             self.table[self.shape.at(kind, index) + HOLDS] -= 1;
@@ -456,39 +483,73 @@ impl Caller<'_, &mut [u32], &mut [u8]> {
 
     // Files.
 
-    fn create(&mut self, bits: u32, modes: u32) -> Outcome {
+    fn create(&mut self, bits: u32, modes: u32, c: u32) -> Outcome {
         refuse_if(bits > MAX_BITS, XbParam)?;
         refuse_if(!valid_modes(modes), XbadModes)?;
+        let subtype = if c == 0 { 0 } else { self.subtype_for_a_file(c)? };
         let place = self.empty_place(DESCRIPTORS).ok_or(XodSpace)?;
         let slot = self.free_slot(Kind::File, self.cell).ok_or(XnoSpace)?;
         let seid = self.occupy(Kind::File, slot, self.owner, self.group);
-        self.table[slot.at + BITS..=slot.at + HOLDS].copy_from_slice(&[bits, 0, 0, 1]);
+        self.table[slot.at + BITS..=slot.at + SUBTYPE].copy_from_slice(&[bits, 0, 0, 1, subtype]);
         self.put_entry(DESCRIPTORS, place, seid, modes);
         Ok((seid, place as u32))
     }
 
-    fn open(&mut self, file: u32, modes: u32) -> Outcome {
+    /// The subtype that c names for a new file: one of the caller's cell, held for reading and writing.
+    fn subtype_for_a_file(&self, c: u32) -> Result<u32, Error> {
+        let (seid, modes) = self.held_subtype(c)?;
+        let own = self.shape.subtype(Seid::of(seid)).is_some_and(|subtype| subtype.cell == self.cell);
+        refuse_if(!own || modes & READS == 0 || modes & WRITES == 0, XbadSubtypeMatch)?;
+        Ok(seid)
+    }
+
+    fn open(&mut self, seid: u32, modes: u32, c: u32) -> Outcome {
         refuse_if(!valid_modes(modes), XbadModes)?;
-        let (reads, writes) = (modes & 1 != 0, modes & 2 != 0);
-        let object =
-            self.find(Kind::File, file, |cell| (!reads || self.flows_here(cell)) && (!writes || cell == self.cell))?;
-        let asked = if reads { READ } else { 0 } | if writes { WRITE } else { 0 };
-        refuse_if(self.lacks(object, asked), XdapViol)?;
-        refuse_if(object.cell == self.cell && self.clashes(file, modes), Xbusy)?;
-        let place = self.empty_place(DESCRIPTORS).ok_or(XodSpace)?;
-        self.put_entry(DESCRIPTORS, place, file, modes);
-        if object.cell == self.cell {
-            self.table[object.at + HOLDS] += 1;
+        if Seid::of(seid).of_subtype() { self.open_subtype(seid, modes) } else { self.open_file(seid, modes, c) }
+    }
+
+    fn open_file(&mut self, seid: u32, modes: u32, c: u32) -> Outcome {
+        let file = self.find(Kind::File, seid, |cell| self.may_open(cell, modes))?;
+        refuse_if(self.lacks(file, bits_asked(modes)), XdapViol)?;
+        if self.word(file, SUBTYPE) != 0 {
+            let (subtype, held) = self.held_subtype(c)?;
+            let lacking = modes & !held & (READS | WRITES);
+            refuse_if(subtype != self.word(file, SUBTYPE) || lacking != 0, XbadSubtypeMatch)?;
+        }
+        let place = self.place_to_open(file.cell, seid, modes)?;
+        self.put_entry(DESCRIPTORS, place, seid, modes);
+        if file.cell == self.cell {
+            self.table[file.at + HOLDS] += 1;
         }
         Ok((place as u32, 0))
     }
 
-    /// Whether a descriptor held in the file's own cell, the caller's, clashes with an open of it.
-    fn clashes(&self, file: u32, modes: u32) -> bool {
+    /// Form, level and serial of a subtype in the order of any object; but it is always there, and nobody counts who has it open.
+    fn open_subtype(&mut self, word: u32, modes: u32) -> Outcome {
+        let seid = Seid::of(word);
+        refuse_if(seid.serial == 0, XnoObj)?;
+        let &Subtype { cell, owner, group, bits } = self.shape.subtypes().get(seid.index).ok_or(XnoObj)?;
+        refuse_if(!self.may_open(cell, modes), XnoAcc)?;
+        refuse_if(seid.serial != SUBTYPE_SERIAL, XnoObj)?;
+        let granted = granted(bits, owner == self.owner, group == self.group);
+        refuse_if(bits_asked(modes) & !granted != 0, XdapViol)?;
+        let place = self.place_to_open(cell, word, modes)?;
+        self.put_entry(DESCRIPTORS, place, word, modes);
+        Ok((place as u32, 0))
+    }
+
+    /// The place for an open that nothing in its own cell clashes with.
+    fn place_to_open(&self, cell: usize, seid: u32, modes: u32) -> Result<usize, Error> {
+        refuse_if(cell == self.cell && self.clashes(seid, modes), Xbusy)?;
+        self.empty_place(DESCRIPTORS).ok_or(XodSpace)
+    }
+
+    /// Whether a descriptor held in the own cell of a file or subtype, the caller's, clashes with an open of it.
+    fn clashes(&self, object: u32, modes: u32) -> bool {
         self.shape.run(Kind::Process, self.cell).any(|process| {
             let at = self.shape.at(Kind::Process, process);
             let (descriptors, _) = self.table[at + DESCRIPTORS..at + DESIGNATORS].as_chunks();
-            descriptors.iter().any(|&[seid, held]| seid == file && clash(modes, held))
+            descriptors.iter().any(|&[seid, held]| seid == object && clash(modes, held))
         })
     }
 
@@ -533,7 +594,7 @@ impl Caller<'_, &mut [u32], &mut [u8]> {
 
     fn write_block(&mut self, descriptor: u32, block: u32, buffer: &[u8]) -> Outcome {
         refuse_if(buffer.len() != BLOCK_BYTES, XbSz)?;
-        let file = self.opened(descriptor, 2, XnotWritable, WRITE)?;
+        let file = self.opened(descriptor, WRITES, XnotWritable, WRITE)?;
         refuse_if(block as usize >= self.shape.blocks, XbadBlockNo)?;
         let stretch = &mut self.store[self.shape.stretch(file.index)];
         let size = &mut self.table[file.at + SIZE];
@@ -555,7 +616,7 @@ impl Caller<'_, &mut [u32], &mut [u8]> {
             return Err(XbSz);
         };
         refuse_if(cell as usize >= self.shape.cells || bits > MAX_BITS, XbParam)?;
-        let source = self.opened(descriptor, 1, XnotReadable, READ)?;
+        let source = self.opened(descriptor, READS, XnotReadable, READ)?;
         let slot = self.free_slot(Kind::File, cell as usize).ok_or(XnoSpace)?;
         let size = self.word(source, SIZE);
         let [owner, group] = [[o1, o0], [g1, g0]].map(|bytes| u32::from(u16::from_be_bytes(bytes)));

@@ -38,4 +38,6 @@ pub enum Error {
     XvrtMmCfl = 32,
     XshSg = 33,
     XnoSPriv = 34,
+    XbadStCap = 35,
+    XbadSubtypeMatch = 36,
 }

@@ -16,6 +16,6 @@ pub use calls::{Answer, Request, call, clash, granted, valid_modes, view};
 pub use errors::Error;
 pub use image::{image, image_length, reload};
 pub use replay::{HEADER_NUMBERS, number, replay};
-pub use seid::{Kind, Seid};
-pub use table::{Level, Shape, check, setup};
+pub use seid::{Kind, SUBTYPE_CLASS, Seid, subtype_seid};
+pub use table::{Level, Shape, Subtype, check, setup};
 pub use tray::{MOST_RECORDS, Record, tray};

@@ -2,15 +2,15 @@
 
 use crate::calls::{Request, call};
 use crate::errors::Error::XOK;
-use crate::table::{BLOCK_BYTES, CELL_WORDS, FILE_WORDS, HEADER_WORDS, MAX_CELLS, PROCESS_WORDS, SEGMENT_WORDS, setup};
+use crate::table::*;
 use std::io::Write;
 
 /// Replay's own limits: slots of each kind in all, and blocks of the whole store.
 const MAX_REPLAY_SLOTS: u32 = 64;
 const MAX_STORE_BLOCKS: u32 = 64;
 const MAX_BUFFER: usize = 512;
-/// The words of the header that stand in the input: all but its zeros.
-pub const HEADER_NUMBERS: usize = 6;
+/// The words of the header that stand in the input: all but its zero.
+pub const HEADER_NUMBERS: usize = 7;
 
 /// One number in seven-bit groups, low group first, in its shortest form and below 2^32. None if it is cut or bad.
 pub fn number(input: &mut &[u8]) -> Option<u32> {
@@ -37,15 +37,19 @@ fn configure(input: &mut &[u8]) -> Option<(Vec<u32>, Vec<u8>)> {
     for word in &mut table[..HEADER_NUMBERS] {
         *word = number(input)?;
     }
-    let [cells, processes, segments, files, blocks, ..] = table[..] else {
+    let [cells, processes, segments, files, blocks, _, subtypes, _] = table[..] else {
         return None;
     };
     let small = |count| count <= MAX_REPLAY_SLOTS;
-    let sizes_good = cells as usize <= MAX_CELLS && small(processes) && small(segments) && small(files);
+    let sizes_good = cells as usize <= MAX_CELLS
+        && subtypes as usize <= MAX_SUBTYPES
+        && small(processes)
+        && small(segments)
+        && small(files);
     if !sizes_good || files.checked_mul(blocks).is_none_or(|all| all > MAX_STORE_BLOCKS) {
         return None;
     }
-    for _ in 0..CELL_WORDS * cells as usize {
+    for _ in 0..CELL_WORDS * cells as usize + SUBTYPE_WORDS * subtypes as usize {
         table.push(number(input)?);
     }
     let records = PROCESS_WORDS * processes as usize + SEGMENT_WORDS * segments as usize + FILE_WORDS * files as usize;

@@ -39,6 +39,15 @@ impl Kind {
     }
 }
 
+/// The class of subtypes. They are configuration and no kind of object: they have no slots, and their serial is always 1.
+pub const SUBTYPE_CLASS: u32 = 6;
+pub const SUBTYPE_SERIAL: u32 = 1;
+
+/// The seid of a subtype.
+pub fn subtype_seid(index: usize) -> u32 {
+    SUBTYPE_CLASS << 24 | (index as u32) << 16 | SUBTYPE_SERIAL
+}
+
 /// A seid word taken apart. Whether it names anything is another matter.
 #[derive(Clone, Copy, Debug, PartialEq, Eq)]
 pub struct Seid {
@@ -55,5 +64,10 @@ impl Seid {
     /// The form: right class, index below the table's size, serial 1..65535.
     pub fn fits(self, kind: Kind, slots: usize) -> bool {
         self.class == kind.class() && self.index < slots && self.serial != 0
+    }
+
+    /// Whether its class is that of subtypes.
+    pub fn of_subtype(self) -> bool {
+        self.class == SUBTYPE_CLASS
     }
 }

@@ -1,12 +1,13 @@
 //! The table: its layout, whether it is well formed, and set-up.
 
 use crate::errors::Error;
-use crate::seid::{Kind, Seid};
+use crate::seid::{Kind, SUBTYPE_SERIAL, Seid};
 use std::ops::Range;
 
 pub const MAX_CELLS: usize = 16;
 pub const MAX_SLOTS: usize = 256;
 pub const MAX_BLOCKS: u32 = 64;
+pub const MAX_SUBTYPES: usize = 16;
 pub const MAX_SERIAL: u32 = 65535;
 pub const MAX_ID: u32 = 65535;
 pub const MAX_BITS: u32 = 511;
@@ -14,9 +15,10 @@ pub const MAX_LINKS: u32 = 255;
 
 pub const HEADER_WORDS: usize = 8;
 pub const CELL_WORDS: usize = 8;
+pub const SUBTYPE_WORDS: usize = 4;
 pub const PROCESS_WORDS: usize = 112;
 pub const SEGMENT_WORDS: usize = 8;
-pub const FILE_WORDS: usize = 8;
+pub const FILE_WORDS: usize = 9;
 pub const BLOCK_BYTES: usize = 512;
 
 /// Descriptors, and designators, of a process; and the messages that it can have waiting.
@@ -51,6 +53,8 @@ pub const LINKS: usize = 5;
 pub const SIZE: usize = 6;
 /// References of a segment, opens of a file: the own-cell entries that hold it.
 pub const HOLDS: usize = 7;
+/// Files: 0, or the seid of the subtype that an open must name.
+pub const SUBTYPE: usize = 8;
 
 /// Owner bits and accesses: read and write at the owner's place.
 pub const READ: u32 = 256;
@@ -82,7 +86,16 @@ pub struct Slots {
     starts: [u16; MAX_CELLS + 1],
 }
 
-/// What the header and the cell words say: sizes, places, and which cell may flow to which.
+/// A subtype: its cell, and what judges who may open it.
+#[derive(Clone, Copy, Debug, Default, PartialEq, Eq)]
+pub struct Subtype {
+    pub cell: usize,
+    pub owner: u32,
+    pub group: u32,
+    pub bits: u32,
+}
+
+/// What the configuration says, header, cells and subtypes: sizes, places, and which cell may flow to which.
 #[derive(Clone)]
 pub struct Shape {
     pub cells: usize,
@@ -92,13 +105,15 @@ pub struct Shape {
     pub levels: [Level; MAX_CELLS],
     pub flow: [[bool; MAX_CELLS]; MAX_CELLS],
     slots: [Slots; 3],
+    subtype_count: usize,
+    subtypes: [Subtype; MAX_SUBTYPES],
 }
 
 impl Shape {
-    /// None if the header, a cell or one of the two lengths is bad.
+    /// None if the header, a cell, a subtype or one of the two lengths is bad.
     pub fn read(table: &[u32], store_bytes: usize) -> Option<Shape> {
         let (header, rest) = table.split_first_chunk::<HEADER_WORDS>()?;
-        let [cells, processes, segments, files, blocks, guard, zeros @ ..] = *header;
+        let [cells, processes, segments, files, blocks, guard, subtypes, zero] = *header;
         let max = MAX_SLOTS as u32;
         let good = (1..=MAX_CELLS as u32).contains(&cells)
             && (1..=max).contains(&processes)
@@ -106,12 +121,13 @@ impl Shape {
             && files <= max
             && (1..=MAX_BLOCKS).contains(&blocks)
             && guard <= cells
-            && zeros == [0; 2];
+            && subtypes <= MAX_SUBTYPES as u32
+            && zero == 0;
         if !good {
             return None;
         }
-        let (cells, blocks) = (cells as usize, blocks as usize);
-        let processes_at = HEADER_WORDS + CELL_WORDS * cells;
+        let (cells, blocks, subtypes) = (cells as usize, blocks as usize, subtypes as usize);
+        let processes_at = HEADER_WORDS + CELL_WORDS * cells + SUBTYPE_WORDS * subtypes;
         let segments_at = processes_at + PROCESS_WORDS * processes as usize;
         let files_at = segments_at + SEGMENT_WORDS * segments as usize;
         let words = files_at + FILE_WORDS * files as usize;
@@ -136,12 +152,18 @@ impl Shape {
                 slots(segments, segments_at, SEGMENT_WORDS),
                 slots(files, files_at, FILE_WORDS),
             ],
+            subtype_count: 0,
+            subtypes: [Subtype::default(); MAX_SUBTYPES],
         };
-        for (c, cell) in rest.as_chunks().0[..cells].iter().enumerate() {
+        let (cell_words, rest) = rest.split_at(CELL_WORDS * cells);
+        for (c, cell) in cell_words.as_chunks().0.iter().enumerate() {
             shape.add_cell(c, cell)?;
         }
         if shape.slots.iter().any(|s| s.starts[cells] as usize != s.count) {
             return None;
+        }
+        for &words in &rest.as_chunks().0[..subtypes] {
+            shape.add_subtype(words)?;
         }
         for from in 0..cells {
             for to in 0..cells {
@@ -176,6 +198,29 @@ impl Shape {
         Some(())
     }
 
+    /// The next subtype: its cell is no lower than that of the one before.
+    fn add_subtype(&mut self, [cell, owner, group, bits]: [u32; SUBTYPE_WORDS]) -> Option<()> {
+        let least = self.subtypes().last().map_or(0, |before| before.cell);
+        let good =
+            (least..self.cells).contains(&(cell as usize)) && owner <= MAX_ID && group <= MAX_ID && bits <= MAX_BITS;
+        if !good {
+            return None;
+        }
+        self.subtypes[self.subtype_count] = Subtype { cell: cell as usize, owner, group, bits };
+        self.subtype_count += 1;
+        Some(())
+    }
+
+    pub fn subtypes(&self) -> &[Subtype] {
+        &self.subtypes[..self.subtype_count]
+    }
+
+    /// The subtype that a seid names, if it names one.
+    pub fn subtype(&self, seid: Seid) -> Option<&Subtype> {
+        let named = seid.of_subtype() && seid.serial == SUBTYPE_SERIAL;
+        self.subtypes().get(seid.index).filter(|_| named)
+    }
+
     pub fn count(&self, kind: Kind) -> usize {
         self.slots[kind as usize].count
     }
@@ -208,7 +253,7 @@ impl Shape {
     }
 }
 
-/// Set-up: reads the header and the cells, and writes every record.
+/// Set-up: reads the configuration, and writes every record.
 pub fn setup(table: &mut [u32], store_bytes: usize) -> Error {
     let Some(shape) = Shape::read(table, store_bytes) else {
         return Error::XbParam;
@@ -303,13 +348,22 @@ impl Pass<'_> {
         Some(held)
     }
 
+    /// Whether what a descriptor holds is of the holder's own cell; None where no process of the cell may hold it.
+    fn opened(&mut self, word: u32, cell: usize) -> Option<bool> {
+        let seid = Seid::of(word);
+        if !seid.of_subtype() {
+            return self.held_object(Kind::File, word, cell).map(|held| held.own);
+        }
+        let subtype = self.shape.subtype(seid)?;
+        self.shape.flow[subtype.cell][cell].then_some(subtype.cell == cell)
+    }
+
     fn descriptors(&mut self, words: &[u32], cell: usize) -> bool {
         words.as_chunks().0.iter().all(|&[seid, modes]| {
             if seid == 0 {
                 return modes == 0;
             }
-            let held = self.held_object(Kind::File, seid, cell);
-            held.is_some_and(|held| crate::valid_modes(modes) && (held.own || modes & 2 == 0))
+            self.opened(seid, cell).is_some_and(|own| crate::valid_modes(modes) && (own || modes & 2 == 0))
         })
     }
 
@@ -358,6 +412,12 @@ impl Pass<'_> {
             && record[SIZE] as usize <= self.shape.blocks
             && record[HOLDS] == self.holds[Kind::File as usize][f]
             && record[LINKS] + record[HOLDS] >= 1
+            && self.file_subtype(record[SUBTYPE], self.shape.cell(Kind::File, f))
+    }
+
+    /// A file's subtype is one of its own cell.
+    fn file_subtype(&self, word: u32, cell: usize) -> bool {
+        word == 0 || self.shape.subtype(Seid::of(word)).is_some_and(|subtype| subtype.cell == cell)
     }
 }
 

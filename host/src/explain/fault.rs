@@ -7,8 +7,8 @@ use crate::seid::{Kind, Seid};
 use std::fmt::Display;
 
 /// The first clause of "well formed" that a table fails beside a store of that length, and where; None if it is well formed. For a
-/// host that finds its table refused with XbTab, or its configuration with XbParam: the header, the cells and the two lengths are looked
-/// at first, then the records in their order.
+/// host that finds its table refused with XbTab, or its configuration with XbParam: the header, the cells, the subtypes and the two
+/// lengths are looked at first, then the records in their order.
 ///
 /// ```
 /// use monitor::{Cell, Hall, explain};
@@ -48,12 +48,16 @@ const MOST_SEGMENT: u32 = 65024;
 /// The last word of a process's head: always 0.
 const ZERO: usize = process::BITS + 1;
 
-/// A table whose header, cells and lengths are good.
+/// The kinds that have slots, in the order of their records.
+const SLOTTED: [Kind; 3] = [Kind::Process, Kind::Segment, Kind::File];
+
+/// A table whose header, cells, subtypes and lengths are good.
 struct Shape<'a> {
     words: &'a [u32],
     cells: usize,
     blocks: u32,
-    counts: [usize; 3],
+    /// By kind: slots, and subtypes.
+    counts: [usize; 4],
 }
 
 impl<'a> Shape<'a> {
@@ -68,18 +72,22 @@ impl<'a> Shape<'a> {
             (header::FILES, "file slots", 0, MAX_SLOTS),
             (header::BLOCKS, "blocks of a file", 1, MAX_BLOCKS),
             (header::GUARD, "guard cell and 1, or 0", 0, words[header::CELLS] as usize),
-            (header::GUARD + 1, "a zero", 0, 0),
-            (header::GUARD + 2, "a zero", 0, 0),
+            (header::SUBTYPES, "subtypes", 0, MAX_SUBTYPES),
+            (header::SUBTYPES + 1, "a zero", 0, 0),
         ];
         for (word, name, low, high) in ranges {
             within(words, word, low as u32, high as u32, || format!("header, {name}"))?;
         }
         let cells = words[header::CELLS] as usize;
-        let counts = [header::PROCESSES, header::SEGMENTS, header::FILES].map(|word| words[word] as usize);
+        let counts = [header::PROCESSES, header::SEGMENTS, header::FILES, header::SUBTYPES];
+        let counts @ [processes, segments, files, subtypes] = counts.map(|word| words[word] as usize);
         let shape = Shape { words, cells, blocks: words[header::BLOCKS], counts };
-        let configuration = table_words(cells, 0, 0, 0);
+        let configuration = configuration_words(cells, subtypes);
         must(words.len() >= configuration, || {
-            format!("the table has {} words, and its header and {cells} cells have {configuration}", words.len())
+            let words = words.len();
+            format!(
+                "the table has {words} words, and its header, {cells} cells and {subtypes} subtypes have {configuration}"
+            )
         })?;
         (0..cells).try_for_each(|cell| shape.cell_words(cell))?;
         for later in 0..cells {
@@ -89,15 +97,16 @@ impl<'a> Shape<'a> {
                 })?;
             }
         }
-        for kind in Kind::ALL {
+        for kind in SLOTTED {
             let (sum, count) = (shape.starts(kind, cells), shape.count(kind) as u64);
             must(sum == count, || format!("the cells have {sum} {kind} slots, and the header {count}"))?;
         }
-        let words_due = table_words(cells, counts[0], counts[1], counts[2]);
+        (0..subtypes).try_for_each(|subtype| shape.subtype_words(subtype))?;
+        let words_due = table_words(cells, processes, segments, files, subtypes);
         must(words.len() == words_due, || {
             format!("the table has {} words, and its header asks for {words_due}", words.len())
         })?;
-        let bytes_due = layout::store_bytes(counts[2], shape.blocks as usize);
+        let bytes_due = layout::store_bytes(files, shape.blocks as usize);
         must(store_bytes == bytes_due, || {
             format!("the store has {store_bytes} bytes, and its header asks for {bytes_due}")
         })?;
@@ -114,6 +123,22 @@ impl<'a> Shape<'a> {
             (GROUP, "group", 0, WORD_16),
         ] {
             within(self.words, HEADER_WORDS + CELL_WORDS * cell + word, low, high, || format!("cell {cell}, {name}"))?;
+        }
+        Ok(())
+    }
+
+    /// Only where those before are good: the cells never fall.
+    fn subtype_words(&self, subtype: usize) -> Looked {
+        use crate::layout::subtype::*;
+        let least = if subtype == 0 { 0 } else { self.cell_of(Kind::Subtype, subtype - 1) };
+        for (word, name, low, high) in [
+            (CELL, "cell", least as u32, self.cells as u32 - 1),
+            (OWNER, "owner", 0, WORD_16),
+            (GROUP, "group", 0, WORD_16),
+            (BITS, "bits", 0, MOST_BITS),
+        ] {
+            let at = self.at(Kind::Subtype, subtype) + word;
+            within(self.words, at, low, high, || format!("subtype {subtype}, {name}"))?;
         }
         Ok(())
     }
@@ -138,17 +163,21 @@ impl<'a> Shape<'a> {
         (0..cell).map(|cell| u64::from(self.cell_word(cell, word))).sum()
     }
 
-    /// The cell of a slot.
+    /// The cell of a slot, or of a subtype.
     fn cell_of(&self, kind: Kind, slot: usize) -> usize {
+        if kind == Kind::Subtype {
+            return self.words[self.at(kind, slot) + subtype::CELL] as usize;
+        }
         (0..self.cells).rfind(|&cell| self.starts(kind, cell) <= slot as u64).expect("the first cell starts at slot 0")
     }
 
     fn at(&self, kind: Kind, slot: usize) -> usize {
-        let [processes, segments, _] = self.counts;
+        let [processes, segments, _, subtypes] = self.counts;
         match kind {
-            Kind::Process => table_words(self.cells, slot, 0, 0),
-            Kind::Segment => table_words(self.cells, processes, slot, 0),
-            Kind::File => table_words(self.cells, processes, segments, slot),
+            Kind::Process => table_words(self.cells, slot, 0, 0, subtypes),
+            Kind::Segment => table_words(self.cells, processes, slot, 0, subtypes),
+            Kind::File => table_words(self.cells, processes, segments, slot, subtypes),
+            Kind::Subtype => configuration_words(self.cells, slot),
         }
     }
 }
@@ -158,7 +187,7 @@ fn within(words: &[u32], at: usize, low: u32, high: u32, place: impl FnOnce() ->
     let value = words[at];
     must((low..=high).contains(&value), || {
         let range = match (low, high) {
-            (0, 0) => "not 0".to_string(),
+            _ if low == high => format!("not {low}"),
             (_, u32::MAX) => format!("not at least {low}"),
             _ => format!("not {low} to {high}"),
         };
@@ -179,7 +208,7 @@ struct Pass<'a> {
 impl<'a> Pass<'a> {
     fn over(shape: &'a Shape<'a>) -> Looked {
         let mut pass = Pass { shape, held: [[0; MAX_SLOTS]; 3] };
-        for kind in Kind::ALL {
+        for kind in SLOTTED {
             for slot in 0..shape.count(kind) {
                 pass.record(kind, slot)?;
             }
@@ -218,7 +247,7 @@ impl<'a> Pass<'a> {
                 range(segment::REFERENCES, "references", 1, u32::MAX)?;
                 self.counted(kind, slot, at + segment::REFERENCES, "references")
             }
-            Kind::File => {
+            _ => {
                 range(file::BITS, "bits", 0, MOST_BITS)?;
                 range(file::LINKS, "links", 0, MOST_LINKS)?;
                 range(file::SIZE, "size in blocks", 0, self.shape.blocks)?;
@@ -230,9 +259,23 @@ impl<'a> Pass<'a> {
                         "and its opens are 0 too, though it is live",
                     )
                 })?;
-                self.counted(kind, slot, at + file::OPENS, "opens")
+                self.counted(kind, slot, at + file::OPENS, "opens")?;
+                self.file_subtype(slot, at + file::SUBTYPE)
             }
         }
+    }
+
+    /// A file's subtype, if it has one, is of the file's cell.
+    fn file_subtype(&self, slot: usize, at: usize) -> Looked {
+        let word = self.shape.words[at];
+        if word == 0 {
+            return Ok(());
+        }
+        let place = || format!("file {slot}, subtype");
+        let (from, cell) = (self.formed(Kind::Subtype, at, place)?, self.shape.cell_of(Kind::File, slot));
+        must(from == cell, || {
+            fault(place(), at, Seid::from(word), format!("which is of cell {from}, and the file of cell {cell}"))
+        })
     }
 
     /// A count of entries, against those met.
@@ -298,16 +341,22 @@ impl<'a> Pass<'a> {
         Ok(())
     }
 
-    /// A word that is a seid of this kind; gives the cell of its slot.
+    /// A word that is a seid of this kind; gives the cell of its slot, or the subtype's. Where a file's is wanted, which is at descriptors,
+    /// a subtype's would do.
     fn formed(&self, kind: Kind, at: usize, place: impl Fn() -> String) -> Result<usize, String> {
         let word = self.shape.words[at];
         let seid = Seid::from(word);
-        must(seid.kind() == Some(kind), || fault(place(), at, word, format!("not the seid of a {kind}")))?;
+        must(seid.kind() == Some(kind), || {
+            let wanted = if kind == Kind::File { "file or subtype".to_string() } else { kind.to_string() };
+            fault(place(), at, word, format!("not the seid of a {wanted}"))
+        })?;
         let count = self.shape.count(kind);
         must((seid.slot() as usize) < count, || {
-            fault(place(), at, seid, format!("and there are {count} {kind} slots"))
+            let many = if kind == Kind::Subtype { "subtypes".to_string() } else { format!("{kind} slots") };
+            fault(place(), at, seid, format!("and there are {count} {many}"))
         })?;
         must(seid.serial() != 0, || fault(place(), at, seid, "and uses count from 1"))?;
+        must(kind != Kind::Subtype || seid.serial() == 1, || fault(place(), at, seid, "and a subtype's serial is 1"))?;
         Ok(self.shape.cell_of(kind, seid.slot() as usize))
     }
 
@@ -315,15 +364,17 @@ impl<'a> Pass<'a> {
     fn seid(&self, kind: Kind, cell: usize, at: usize, place: impl Fn() -> String) -> Result<usize, String> {
         let from = self.formed(kind, at, &place)?;
         let seid = Seid::from(self.shape.words[at]);
-        let serial = self.shape.words[self.shape.at(kind, seid.slot() as usize) + record::SERIAL];
-        must(seid.serial() <= serial, || fault(place(), at, seid, format!("and its slot is at use {serial}")))?;
+        if kind != Kind::Subtype {
+            let serial = self.shape.words[self.shape.at(kind, seid.slot() as usize) + record::SERIAL];
+            must(seid.serial() <= serial, || fault(place(), at, seid, format!("and its slot is at use {serial}")))?;
+        }
         must(self.shape.level(from).flows_to(self.shape.level(cell)), || {
             fault(place(), at, seid, format!("which is of cell {from}, and that does not flow to cell {cell}"))
         })?;
         Ok(from)
     }
 
-    /// A descriptor or a designator: a seid and how it is held.
+    /// A descriptor or a designator: a seid and how it is held. A descriptor may hold a subtype in a file's place.
     fn entry(&mut self, kind: Kind, process: usize, cell: usize, number: usize, at: usize) -> Looked {
         let words = self.shape.words;
         let (held, used) = (words[at], words[at + 1]);
@@ -332,10 +383,11 @@ impl<'a> Pass<'a> {
         if held == 0 {
             return within(words, at + 1, 0, 0, || format!("{}, {modes} of an empty one", place()));
         }
-        let from = self.seid(kind, cell, at, place)?;
         let seid = Seid::from(held);
+        let subtype = kind == Kind::File && seid.kind() == Some(Kind::Subtype);
+        let from = self.seid(if subtype { Kind::Subtype } else { kind }, cell, at, place)?;
         let own = from == cell;
-        if own {
+        if own && !subtype {
             let object = self.shape.at(kind, seid.slot() as usize);
             let (live, serial) = (words[object + record::LIVE], words[object + record::SERIAL]);
             must(live == 1, || fault(place(), at, seid, "which is of its own cell and not live"))?;
@@ -400,7 +452,7 @@ impl<'a> Pass<'a> {
 /// for cells in 16..=17 {
 ///     let cell = |at| Cell { level: Level::new(0, 0, at as u32), processes: 1, ..Cell::default() };
 ///     let mut table = Hall { blocks: 1, cells: (0..cells).map(cell).collect(), ..Hall::default() }.table();
-///     table.resize(layout::table_words(cells, cells, 0, 0), 0);
+///     table.resize(layout::table_words(cells, cells, 0, 0, 0), 0);
 ///     assert_eq!(agree(&tables::World { table, store: Vec::new() }, "cells"), cells == 16);
 /// }
 /// println!("{well} well formed, {} named damages, {random} random ones", named.len());

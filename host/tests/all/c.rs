@@ -56,7 +56,7 @@ create a file: XOK, seid 2164260865
 #[test]
 fn sunday_in_c99_and_cpp() {
     let source = here().join("c/sunday.c");
-    let length = table_words(1, 1, 0, 1) + store_bytes(1, 1) + 1; // every word of this hall is below 128, but 438, the first process's bits
+    let length = table_words(1, 1, 0, 1, 0) + store_bytes(1, 1) + 1; // every word of this hall is below 128, but 438, the first process's bits
     let expected = format!("the image has {length} bytes\n{SUNDAY}");
     assert_eq!(run("gcc", &["-std=c99"], &source, "sunday"), expected);
     assert_eq!(run("g++", &["-std=c++11", "-x", "c++"], &source, "sunday_cpp"), expected);
@@ -94,6 +94,24 @@ the clerk reads: XOK, \"all clear\"
 fn the_desk_in_c99_and_cpp() {
     assert_eq!(run("gcc", &["-std=c99"], &here().join("c/desk.c"), "desk"), DESK);
     assert_eq!(run("g++", &["-std=c++11", "-x", "c++"], &here().join("c/desk.c"), "desk_cpp"), DESK);
+}
+
+const DIRECTORY: &str = "set-up: XOK
+the manager spawns a clerk: XOK
+the manager opens the subtype: XOK
+the clerk opens the subtype: XdapViol
+the manager makes a directory: XOK
+the clerk opens it: XbadStCap
+the manager opens it: XbadStCap
+the manager opens it with its subtype: XOK
+the manager closes the subtype: XOK
+the directory is seid 2164260865, in slot 0
+";
+
+#[test]
+fn the_directory_in_c99_and_cpp() {
+    assert_eq!(run("gcc", &["-std=c99"], &here().join("c/directory.c"), "directory"), DIRECTORY);
+    assert_eq!(run("g++", &["-std=c++11", "-x", "c++"], &here().join("c/directory.c"), "directory_cpp"), DIRECTORY);
 }
 
 /// A name in capitals with words parted: `CreateFile` is CREATE_FILE.
@@ -141,8 +159,10 @@ fn the_header_says_what_the_crate_says() {
         ("MAX_CELLS", MAX_CELLS),
         ("MAX_SLOTS", MAX_SLOTS),
         ("MAX_BLOCKS", MAX_BLOCKS),
+        ("MAX_SUBTYPES", MAX_SUBTYPES),
         ("HEADER_WORDS", HEADER_WORDS),
         ("CELL_WORDS", CELL_WORDS),
+        ("SUBTYPE_WORDS", SUBTYPE_WORDS),
         ("PROCESS_WORDS", PROCESS_WORDS),
         ("SEGMENT_WORDS", SEGMENT_WORDS),
         ("FILE_WORDS", FILE_WORDS),
@@ -152,11 +172,13 @@ fn the_header_says_what_the_crate_says() {
         ("STATUS_BYTES", STATUS_BYTES),
         ("IDENTITY_BYTES", IDENTITY_BYTES),
         ("HEADER_GUARD", header::GUARD),
+        ("HEADER_SUBTYPES", header::SUBTYPES),
         ("PAGES", PAGES),
         ("PAGE_BYTES", PAGE_BYTES),
         ("CLASS_PROCESS", class(Kind::Process)),
         ("CLASS_SEGMENT", class(Kind::Segment)),
         ("CLASS_FILE", class(Kind::File)),
+        ("CLASS_SUBTYPE", class(Kind::Subtype)),
         ("TRAY_RECORDS", monitor::TRAY_RECORDS),
         ("MODE_READ", Modes::Read as usize),
         ("MODE_WRITE", Modes::Write as usize),
@@ -176,11 +198,12 @@ fn the_header_says_what_the_crate_says() {
         ("BITS_ALL_EXECUTE", 0o1),
         ("BITS_FIRST", usize::from(Bits::FIRST.0)),
         ("NO_DESIGNATOR", ENTRIES),
+        ("NO_SUBTYPE", 0),
     ]);
     assert_eq!(sizes, expected);
 }
 
-/// What the header computes: the names of errors, the lengths, a seid and its slot, modes and an access.
+/// What the header computes: the names of errors, the lengths, seids and a slot, what names a descriptor, modes and an access.
 #[test]
 fn the_header_computes_what_the_crate_computes() {
     let source = PathBuf::from(env!("CARGO_TARGET_TMPDIR")).join("computes.c");
@@ -191,8 +214,10 @@ int main(void)
     uint32_t error;
     for (error = 0; error < 64; error++)
         printf(\"%s\\n\", monitor_error_name(error));
-    printf(\"%zu %zu\\n\", MONITOR_TABLE_WORDS(3, 5, 7, 11), MONITOR_STORE_BYTES(11, 13));
+    printf(\"%zu %zu\\n\", MONITOR_TABLE_WORDS(3, 5, 7, 11, 13), MONITOR_STORE_BYTES(11, 13));
     printf(\"%lu\\n\", (unsigned long)MONITOR_SEID(MONITOR_CLASS_FILE, 2, 65535));
+    printf(\"%lu\\n\", (unsigned long)MONITOR_SEID_SUBTYPE(15));
+    printf(\"%lu\\n\", (unsigned long)MONITOR_SUBTYPE_AT(15));
     printf(\"%zu\\n\", MONITOR_IMAGE_BYTES(7, 11));
     printf(\"%lu\\n\", (unsigned long)MONITOR_SEID_SLOT(MONITOR_SEID(MONITOR_CLASS_FILE, 255, 65535)));
     printf(\"%d %d %d\\n\", MONITOR_MODES_READ_WRITE, MONITOR_MODES_SOLE_WRITER, MONITOR_MODES_ALONE);
@@ -207,8 +232,9 @@ int main(void)
         _ => Error::of(number).map_or("?", Error::name),
     };
     let mut expected: String = (0..64).map(|number| name(number).to_string() + "\n").collect();
-    expected += &format!("{} {}\n", table_words(3, 5, 7, 11), store_bytes(11, 13));
+    expected += &format!("{} {}\n", table_words(3, 5, 7, 11, 13), store_bytes(11, 13));
     expected += &format!("{}\n", u32::from(monitor::Seid::new(Kind::File, 2, 65535)));
+    expected += &format!("{}\n16\n", u32::from(monitor::Seid::subtype(15)));
     expected += &format!("{}\n", image_bytes(7, 11));
     expected += "255\n";
     let modes = [Modes::ReadWrite, Modes::SoleWriter, Modes::Alone].map(Modes::number);

@@ -36,8 +36,8 @@ fn history_is_taken_back() {
 /// A table longer than the largest is refused, whatever the image; so is one of no words.
 #[test]
 fn other_lengths() {
-    use monitor::layout::{MAX_CELLS, MAX_SLOTS, table_words};
-    let most = table_words(MAX_CELLS, MAX_SLOTS, MAX_SLOTS, MAX_SLOTS);
+    use monitor::layout::{MAX_CELLS, MAX_SLOTS, MAX_SUBTYPES, table_words};
+    let most = table_words(MAX_CELLS, MAX_SLOTS, MAX_SLOTS, MAX_SLOTS, MAX_SUBTYPES);
     for words in [0, 1, most, most + 1, 2 * most] {
         let (mut table, mut store, image) = (vec![7; words], vec![7; 512], vec![0; words + 512]);
         assert_eq!(monitor::reload(&mut table, &mut store, &image), Err(Error::XbParam));

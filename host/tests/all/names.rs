@@ -12,7 +12,7 @@ const TABLE: &str = "
 | 24 XbadLink | 25 XodSpace | 26 XnoSpace | 27 XnoProc |
 | 28 XpostEh | 29 XbNoMes | | |
 | 30 XoutSgAldUmp | 31 XinSgAldMap | 32 XvrtMmCfl | 33 XshSg |
-| 34 XnoSPriv | | | |
+| 34 XnoSPriv | 35 XbadStCap | 36 XbadSubtypeMatch | |
 ";
 
 #[test]
@@ -53,6 +53,8 @@ fn numbers_and_words() {
         (67305479, "process 3 (use 7)"),
         (0x05ff_ffff, "segment 255 (use 65535)"),
         (2164260865, "file 0 (use 1)"),
+        (0x060f_0001, "subtype 15"),
+        (0x0600_0002, "subtype 0 (use 2)"),
         (0, "itself"),
         (1, "an object of class 0 (word 1)"),
         (u32::MAX, "an object of class 255 (word 4294967295)"),
@@ -63,7 +65,8 @@ fn numbers_and_words() {
             assert_eq!(Seid::new(kind, seid.slot() as u8, seid.serial() as u16), seid);
         }
     }
-    assert_eq!(Kind::ALL.map(Kind::class), [4, 5, 129]);
+    assert_eq!(Kind::ALL.map(Kind::class), [4, 5, 129, 6]);
+    assert_eq!(u32::from(Seid::subtype(15)), 0x060f_0001);
     assert_eq!(monitor::Bits(0o644).to_string(), "rw-r--r--");
     assert_eq!(monitor::Bits(0o137).to_string(), "--x-wxrwx");
 }

@@ -57,6 +57,7 @@ fn typed(monitor: &mut Monitor, call: &Call, buffer: &mut [u8]) -> Option<Number
     let (by, code) = (Caller(caller), Code::of(code)?);
     let (seid, descriptor, designator) = (Seid::from(a), Descriptor(a), Designator(a));
     let bits = |number: u32| u16::try_from(number).ok().map(Bits);
+    let subtype = c.checked_sub(1).map(Descriptor);
     let sharable = match c {
         0 => Some(false),
         1 => Some(true),
@@ -72,8 +73,16 @@ fn typed(monitor: &mut Monitor, call: &Call, buffer: &mut [u8]) -> Option<Number
         Code::Rendezvous => monitor.rendezvous(by, seid, Access::of(b)?).map(|d| (d.0, 0)),
         Code::ReleaseSegment => none(monitor.release_segment(by, designator)),
         Code::SetAccess => none(monitor.set_access(by, designator, Access::of(b)?)),
-        Code::CreateFile => monitor.create_file(by, bits(a)?, Modes::of(b)?).map(|(seid, d)| (seid.into(), d.0)),
-        Code::Open => monitor.open(by, seid, Modes::of(b)?).map(|d| (d.0, 0)),
+        Code::CreateFile => match subtype {
+            None => monitor.create_file(by, bits(a)?, Modes::of(b)?),
+            Some(subtype) => monitor.create_subtyped(by, bits(a)?, Modes::of(b)?, subtype),
+        }
+        .map(|(seid, d)| (seid.into(), d.0)),
+        Code::Open => match subtype {
+            None => monitor.open(by, seid, Modes::of(b)?),
+            Some(subtype) => monitor.open_subtyped(by, seid, Modes::of(b)?, subtype),
+        }
+        .map(|d| (d.0, 0)),
         Code::Close => none(monitor.close(by, descriptor)),
         Code::Link => none(monitor.link(by, seid)),
         Code::Unlink => none(monitor.unlink(by, seid)),
@@ -123,6 +132,7 @@ fn status_bytes(status: Status) -> [u8; STATUS_BYTES] {
 fn methods_do_what_the_raw_call_does() {
     let mut rng = Rng::for_trial("methods_do_what_the_raw_call_does", 15);
     let mut met = vec![[0u32; 2]; Code::ALL.len()]; // done and refused, by code
+    let mut subtyped = [[0u32; 2]; 2]; // of create and open, those that name a subtype
     for _ in 0..150 {
         let limits = tables::limits(&mut rng);
         let world = tables::well_formed(&mut rng, limits);
@@ -148,6 +158,9 @@ fn methods_do_what_the_raw_call_does() {
             assert!(one == other, "{call:?} left another table or store");
             let at = Code::ALL.iter().position(|known| known.number() == code).expect("typed calls have codes");
             met[at][usize::from(result.is_err())] += 1;
+            if let (Some(Code::CreateFile | Code::Open), 1..) = (Code::of(code), c) {
+                subtyped[usize::from(code == Code::Open.number())][usize::from(result.is_err())] += 1;
+            }
             if result.is_ok() {
                 (one, other) = (start.clone(), start.clone());
             }
@@ -157,6 +170,7 @@ fn methods_do_what_the_raw_call_does() {
         println!("{code}: done {}, refused {}", met[0], met[1]);
         assert!(met[0] > 0 && met[1] > 0, "{code}: done or refused never met");
     }
+    assert!(subtyped.as_flattened().iter().all(|&count| count > 0), "with a subtype, create and open: {subtyped:?}");
 }
 
 #[test]

@@ -1,15 +1,18 @@
 //! Seids that a call does not take, by what is wrong with them: they name nothing, or something that the level forbids.
 
-use crate::tables::World;
+use crate::tables::{World, is_subtype};
 use plain::table::SERIAL;
 use plain::{Kind, Request, Seid, Shape};
 use std::fmt;
+
+/// The call that takes subtypes too.
+const OPEN: u32 = 8;
 
 /// The calls that take a seid, and whether a level can forbid them an object in a lower cell, in a higher one, and beside.
 const TAKING: [(u32, [bool; 3]); 8] = [
     (2, [true, true, true]),
     (4, [true, true, true]),
-    (8, [true, true, true]),
+    (OPEN, [true, true, true]),
     (10, [true, true, true]),
     (11, [true, true, true]),
     (12, [true, true, true]),
@@ -17,7 +20,8 @@ const TAKING: [(u32, [bool; 3]); 8] = [
     (17, [false, true, true]),
 ];
 
-const CAUSES: [&str; 6] = ["class", "index", "serial 0", "not live", "older", "newer"];
+const CAUSES: [&str; 7] = ["class", "index", "serial 0", "not live", "older", "newer", "a subtype"];
+const SUBTYPE: usize = CAUSES.len() - 1;
 const DIRECTIONS: [&str; 3] = ["lower", "higher", "beside"];
 
 /// By the call's place in TAKING, and by cause or direction.
@@ -31,6 +35,9 @@ impl Absences {
     /// Notes a refusal from the call's own list, to a live caller.
     pub fn note(&mut self, before: &World, shape: &Shape, request: &Request, error: u32) {
         let Some(call) = TAKING.iter().position(|&(code, _)| code == request.code) else { return };
+        if request.code == OPEN && is_subtype(request.a) {
+            return; // open takes subtypes: the tally has its refusals of them
+        }
         let seid = match request.a {
             0 => before.seid(shape, Kind::Process, request.caller as usize),
             named => named,
@@ -45,8 +52,11 @@ impl Absences {
     pub fn missing(&self) -> Vec<String> {
         let mut missing = Vec::new();
         for (call, (code, forbids)) in TAKING.into_iter().enumerate() {
-            let unmet = CAUSES.iter().zip(self.absent[call]).filter(|(_, count)| *count == 0);
-            missing.extend(unmet.map(|(cause, _)| format!("call {code} of a seid that names nothing: {cause}")));
+            for (at, cause) in CAUSES.iter().enumerate() {
+                if self.absent[call][at] == 0 && !(code == OPEN && at == SUBTYPE) {
+                    missing.push(format!("call {code} of a seid that names nothing: {cause}"));
+                }
+            }
             for (at, direction) in DIRECTIONS.iter().enumerate() {
                 assert!(forbids[at] || self.forbidden[call][at] == 0, "call {code} with 13: {direction}");
                 if forbids[at] && self.forbidden[call][at] == 0 {
@@ -63,9 +73,12 @@ fn cause(before: &World, shape: &Shape, code: u32, seid: Seid) -> usize {
     let taken: &[Kind] = match code {
         2 | 15 => &[Kind::Process],
         4 => &[Kind::Segment],
-        8 | 10 | 11 => &[Kind::File],
+        OPEN | 10 | 11 => &[Kind::File],
         _ => &Kind::ALL,
     };
+    if shape.subtype(seid).is_some() {
+        return SUBTYPE;
+    }
     let Some(&kind) = taken.iter().find(|kind| kind.class() == seid.class) else { return 0 };
     match () {
         _ if seid.index >= shape.count(kind) => 1,

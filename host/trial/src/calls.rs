@@ -1,9 +1,9 @@
 //! Random calls: mostly of a kind that may succeed on the table at hand, often just beside it, now and then quite wild.
 
 use crate::rng::Rng;
-use crate::tables::{VALID_MODES, World, bits, identity};
+use crate::tables::{VALID_MODES, World, bits, identity, is_subtype, subtypes};
 use plain::table::*;
-use plain::{Kind, Request, Seid, Shape};
+use plain::{Kind, Request, Seid, Shape, subtype_seid};
 
 #[derive(Clone, Debug, PartialEq, Eq)]
 pub struct Call {
@@ -57,7 +57,7 @@ pub fn readable(world: &World, shape: &Shape, process: usize) -> Vec<usize> {
     let own = &world.table[shape.record(Kind::Process, process)];
     let reads = |&place: &usize| {
         let (seid, modes) = world.entry(shape, process, DESCRIPTORS, place);
-        if seid == 0 || modes & 1 == 0 || world.stale(shape, Kind::File, seid) {
+        if seid == 0 || is_subtype(seid) || modes & 1 == 0 || world.stale(shape, Kind::File, seid) {
             return false;
         }
         let file = &world.table[shape.record(Kind::File, Seid::of(seid).index)];
@@ -79,11 +79,32 @@ pub fn any(rng: &mut Rng, world: &World, shape: &Shape) -> Call {
     {
         return with_code(rng, world, shape, caller, REGRADE);
     }
+    if !shape.subtypes().is_empty() && rng.chance(1, 20) {
+        let caller = who_holds_a_subtype(rng, world, shape, |_| true).expect("there is a process slot");
+        let code = rng.pick(&[7, 8, 8, 8]);
+        return with_code(rng, world, shape, caller, code);
+    }
     let caller = match rng.chance(1, 200) {
         true => no_caller(rng, shape),
         false => caller(rng, world, shape, |_| true).expect("there is a process slot"),
     };
     by(rng, world, shape, caller)
+}
+
+/// A process of the cells allowed, mostly one that holds a subtype. None if there is no such cell.
+pub fn who_holds_a_subtype(
+    rng: &mut Rng,
+    world: &World,
+    shape: &Shape,
+    allowed: impl Fn(usize) -> bool,
+) -> Option<u32> {
+    for _ in 0..4 {
+        let process = caller(rng, world, shape, &allowed)?;
+        if !world.held_subtypes(shape, process as usize).is_empty() {
+            return Some(process);
+        }
+    }
+    caller(rng, world, shape, allowed)
 }
 
 /// A call that makes or uses the last slot of a kind that has as many as there can be, by a process of its cell.
@@ -174,11 +195,8 @@ impl Draw<'_> {
             4 => (Some(self.seid_or_held(Kind::Segment)), Some(self.access()), None),
             5 | 18 => (Some(self.place(DESIGNATORS)), None, None),
             6 => (Some(self.place(DESIGNATORS)), Some(self.access()), None),
-            7 => (Some(self.bits()), Some(self.modes()), None),
-            8 => match self.rng.chance(1, 6).then(|| self.quiet_file()).flatten() {
-                Some(file) => (Some(file), Some(self.rng.pick(&[15, 15, 11, 3])), None),
-                None => (Some(self.seid_or_held(Kind::File)), Some(self.modes()), None),
-            },
+            7 => (Some(self.bits()), Some(self.modes()), Some(self.subtype_for_a_file())),
+            8 => self.open(),
             9 => (Some(self.place(DESCRIPTORS)), None, None),
             10 | 11 => (Some(self.seid_or_held(Kind::File)), None, None),
             12 => {
@@ -189,7 +207,7 @@ impl Draw<'_> {
                 };
                 (Some(object), Some(self.bits()), None)
             }
-            13 | 14 => (Some(self.place(DESCRIPTORS)), Some(self.block()), None),
+            13 | 14 => (Some(self.descriptor_to_use()), Some(self.block()), None),
             15 => (Some(self.receiver()), None, None),
             17 => {
                 let kind = self.rng.pick(&Kind::ALL);
@@ -275,8 +293,132 @@ impl Draw<'_> {
         }
     }
 
+    /// A place among the caller's descriptors, for a call that wants a file there: a subtype less often.
+    fn descriptor_to_use(&mut self) -> u32 {
+        let place = self.place(DESCRIPTORS);
+        let held = self.world.held_subtypes(self.shape, self.process);
+        let subtype = held.iter().any(|&(at, _, _)| at as u32 == place);
+        if subtype && self.rng.chance(7, 8) { self.place(DESCRIPTORS) } else { place }
+    }
+
     fn used(&self, entries: usize) -> Vec<usize> {
         (0..ENTRIES).filter(|&place| self.world.entry(self.shape, self.process, entries, place).0 != 0).collect()
+    }
+
+    /// What is opened, in which modes, and by which subtype.
+    fn open(&mut self) -> (Option<u32>, Option<u32>, Option<u32>) {
+        let any = !self.shape.subtypes().is_empty();
+        if any && self.rng.chance(1, 5) {
+            let (subtype, modes) = match self.rng.chance(1, 6).then(|| self.quiet_subtype()).flatten() {
+                Some(subtype) => (subtype, self.rng.pick(&[15, 15, 11, 3])),
+                None => (self.subtype(), self.modes()),
+            };
+            return (Some(subtype), Some(modes), None);
+        }
+        let (file, modes) = match self.rng.chance(1, 6).then(|| self.quiet_file()).flatten() {
+            Some(file) => (file, self.rng.pick(&[15, 15, 11, 3])),
+            None if any && self.rng.chance(1, 2) => self.subtyped_file(),
+            None => (self.seid_or_held(Kind::File), self.modes()),
+        };
+        let by = match self.subtype_of(file) {
+            None if any && self.rng.chance(1, 4) => Some(self.descriptor_of(None)),
+            None => None,
+            due => Some(self.descriptor_of(due)),
+        };
+        (Some(file), Some(modes), by)
+    }
+
+    /// A subtype's seid, mostly one that the caller's level lets it open; or something beside it.
+    fn subtype(&mut self) -> u32 {
+        let cell = self.shape.cell(Kind::Process, self.process);
+        let count = self.shape.subtypes().len();
+        let near = subtypes(self.shape, |from| self.shape.flow[from][cell]);
+        let seid = match near.is_empty() || self.rng.chance(1, 4) {
+            true => subtype_seid(self.rng.below(count)),
+            false => self.rng.pick(&near),
+        };
+        match self.rng.below(20) {
+            0 => subtype_seid(self.rng.pick(&[count, count + 1, 255])),
+            1 => seid & !65535,
+            2 => seid & !65535 | self.rng.pick(&[2, 3, 65535]),
+            _ => seid,
+        }
+    }
+
+    /// The subtype of the file that a seid names, if it has one.
+    fn subtype_of(&self, word: u32) -> Option<u32> {
+        let seid = Seid::of(word);
+        let fits = seid.fits(Kind::File, self.shape.count(Kind::File));
+        let word = fits.then(|| self.world.table[self.shape.at(Kind::File, seid.index) + SUBTYPE])?;
+        (word != 0).then_some(word)
+    }
+
+    /// A subtyped file and modes. Mostly it is one that the caller may read by level, and by its bits, and whose subtype it holds, as far
+    /// as there are some.
+    fn subtyped_file(&mut self) -> (u32, u32) {
+        let cell = self.shape.cell(Kind::Process, self.process);
+        let held = self.world.held_subtypes(self.shape, self.process);
+        let files = (0..self.shape.count(Kind::File)).map(|file| self.world.seid(self.shape, Kind::File, file));
+        let all: Vec<u32> = files.filter(|&file| self.subtype_of(file).is_some()).collect();
+        let from = |file: u32| self.shape.cell(Kind::File, Seid::of(file).index);
+        let reads = |file: u32| {
+            let record = &self.world.table[self.shape.record(Kind::File, Seid::of(file).index)];
+            self.shape.flow[from(file)][cell] && self.granted(record) & READ != 0
+        };
+        let read: Vec<u32> = all.iter().copied().filter(|&file| reads(file)).collect();
+        let holds = |file: u32| held.iter().any(|&(_, seid, _)| self.subtype_of(file) == Some(seid));
+        let open: Vec<u32> = read.iter().copied().filter(|&file| holds(file)).collect();
+        let skipped = self.rng.pick(&[0, 0, 0, 0, 0, 1, 1, 2]);
+        let file = match [open, read, all].iter().skip(skipped).find(|files| !files.is_empty()) {
+            Some(files) => self.rng.pick(files),
+            None => return (self.seid_or_held(Kind::File), self.modes()),
+        };
+        (file, if from(file) == cell { self.rng.pick(&VALID_MODES) } else { self.modes() })
+    }
+
+    /// A subtype of the caller's cell that nobody of it has open; one that a higher process has, if there is one.
+    fn quiet_subtype(&mut self) -> Option<u32> {
+        let cell = self.shape.cell(Kind::Process, self.process);
+        let opened = |process: usize, subtype: u32| {
+            self.world.held_subtypes(self.shape, process).iter().any(|&(_, seid, _)| seid == subtype)
+        };
+        let mut quiet = subtypes(self.shape, |from| from == cell);
+        quiet.retain(|&seid| !self.shape.run(Kind::Process, cell).any(|process| opened(process, seid)));
+        let processes = 0..self.shape.count(Kind::Process);
+        let read = |seid: u32| processes.clone().any(|process| opened(process, seid));
+        let read: Vec<u32> = quiet.iter().copied().filter(|&seid| read(seid)).collect();
+        [read, quiet].iter().find(|subtypes| !subtypes.is_empty()).map(|subtypes| self.rng.pick(subtypes))
+    }
+
+    /// What the bits of a segment's or file's record grant to the caller.
+    fn granted(&self, record: &[u32]) -> u32 {
+        let same = |word: usize| record[word] == self.own_word(word);
+        plain::granted(record[BITS], same(OWNER), same(GROUP))
+    }
+
+    /// A descriptor and 1: mostly one that holds the subtype asked for, or any where none is; else one that does not, or none.
+    fn descriptor_of(&mut self, subtype: Option<u32>) -> u32 {
+        let held = self.world.held_subtypes(self.shape, self.process);
+        let right: Vec<_> =
+            held.iter().copied().filter(|&(_, seid, _)| subtype.is_none_or(|due| seid == due)).collect();
+        match self.rng.below(16) {
+            0 => 0,
+            1 => self.rng.pick(&[17, 18, 256, 65536 + 1, u32::MAX]),
+            2 | 3 => 1 + self.rng.below(ENTRIES) as u32,
+            4 | 5 if !held.is_empty() => 1 + self.rng.pick(&held).0 as u32,
+            _ if !right.is_empty() => 1 + self.rng.pick(&right).0 as u32,
+            _ => 0,
+        }
+    }
+
+    /// What create takes as c: mostly none. Where there are no subtypes it is drawn as an unused argument is, so that the calls of the
+    /// benchmark, whose tables have none, stay what they were before there were any.
+    fn subtype_for_a_file(&mut self) -> u32 {
+        if self.shape.subtypes().is_empty() {
+            let wild = self.unused();
+            return if wild.is_multiple_of(256) { wild >> 8 } else { 0 };
+        }
+        if self.rng.chance(3, 8) { self.descriptor_of(None) } else { 0 }
     }
 
     /// An incoming designator, a first page, an outgoing designator.
@@ -326,7 +468,7 @@ impl Draw<'_> {
     fn source(&mut self) -> u32 {
         let readable = readable(self.world, self.shape, self.process);
         if readable.is_empty() || self.rng.chance(1, 4) {
-            return self.place(DESCRIPTORS);
+            return self.descriptor_to_use();
         }
         self.rng.pick(&readable) as u32
     }
@@ -387,19 +529,21 @@ impl Draw<'_> {
             6 => seid & !65535 | (seid & 65535).saturating_sub(1).max(1),
             7 => seid & !65535 | ((seid & 65535) + 1).min(65535),
             8 => self.world.seid(self.shape, Kind::Process, self.process),
+            9 if !self.shape.subtypes().is_empty() => subtype_seid(self.rng.below(self.shape.subtypes().len())),
             _ => seid,
         }
     }
 
-    /// A file of the caller's cell that nobody of it has open and that the caller may write; one that a higher process reads, if
-    /// there is one.
+    /// A file of the caller's cell that nobody of it has open and that the caller may write, by its bits and by a subtype that it
+    /// holds; one that a higher process reads, if there is one.
     fn quiet_file(&mut self) -> Option<u32> {
         let files = self.shape.run(Kind::File, self.shape.cell(Kind::Process, self.process));
+        let held = self.world.held_subtypes(self.shape, self.process);
+        let writes = |subtype: u32| held.iter().any(|&(_, seid, modes)| seid == subtype && modes & 2 != 0);
         let quiet = files.filter(|&file| {
             let record = &self.world.table[self.shape.record(Kind::File, file)];
-            let same = |word: usize| record[word] == self.own_word(word);
-            let granted = plain::granted(record[BITS], same(OWNER), same(GROUP));
-            record[LIVE] == 1 && record[HOLDS] == 0 && granted == READ | WRITE
+            let granted = self.granted(record) == READ | WRITE && (record[SUBTYPE] == 0 || writes(record[SUBTYPE]));
+            record[LIVE] == 1 && record[HOLDS] == 0 && granted
         });
         let quiet: Vec<u32> = quiet.map(|file| self.world.seid(self.shape, Kind::File, file)).collect();
         let read = |seid: u32| {

@@ -2,9 +2,9 @@
 //! check that forgets the clause is caught; the random ones change words and lengths anywhere.
 
 use crate::rng::Rng;
-use crate::tables::World;
+use crate::tables::{World, is_subtype, subtypes};
 use plain::table::*;
-use plain::{Kind, Seid, Shape};
+use plain::{Kind, SUBTYPE_CLASS, Seid, Shape, subtype_seid};
 
 /// Does the damage where the table has a place for it; None where it has none.
 type Apply = Box<dyn Fn(&mut Rng, &mut World, &Shape) -> Option<()>>;
@@ -27,12 +27,17 @@ pub fn random(rng: &mut Rng, world: &mut World, shape: &Shape) {
     }
     for _ in 0..1 + rng.below(3) {
         let at = match rng.below(4) {
-            0 => rng.below(shape.at(Kind::Process, 0)), // header and cells
+            0 => rng.below(shape.at(Kind::Process, 0)), // header, cells and subtypes
             1 => rng.below(world.table.len()),
             _ => {
                 let kind = rng.pick(&Kind::ALL);
                 let count = shape.count(kind);
-                if count == 0 { rng.below(world.table.len()) } else { shape.at(kind, rng.below(count)) + rng.below(8) }
+                if count == 0 {
+                    rng.below(world.table.len())
+                } else {
+                    let record = shape.record(kind, rng.below(count));
+                    record.start + rng.below(record.len().min(FILE_WORDS))
+                }
             }
         };
         let old = world.table[at];
@@ -53,6 +58,7 @@ pub fn random(rng: &mut Rng, world: &mut World, shape: &Shape) {
 pub fn named() -> Vec<Damage> {
     let mut all = Vec::new();
     header(&mut all);
+    configured_subtypes(&mut all);
     heads(&mut all);
     processes(&mut all);
     for (kind, entries) in [(Kind::File, DESCRIPTORS), (Kind::Segment, DESIGNATORS)] {
@@ -60,6 +66,8 @@ pub fn named() -> Vec<Damage> {
     }
     messages(&mut all);
     objects(&mut all);
+    held_subtypes(&mut all);
+    files_of_subtypes(&mut all);
     all
 }
 
@@ -106,7 +114,7 @@ fn header(all: &mut All) {
         Some(())
     });
     put(all, "blocks out of range", &[0, 65, u32::MAX], |_, _, _| Some(4));
-    put(all, "header zeros", &[1, 65536, u32::MAX], |rng, _, _| Some(6 + rng.below(2)));
+    put(all, "header zero", &[1, 65536, u32::MAX], |_, _, _| Some(7));
     add(all, "guard out of range", |rng, world, shape| {
         world.table[5] = rng.pick(&[shape.cells as u32 + 1, 17, 256, u32::MAX]);
         Some(())
@@ -135,15 +143,13 @@ fn header(all: &mut All) {
         let (one, other) = two_cells(rng, shape)?;
         world.table[other + 3] += world.table[one + 3];
         world.table[one + 3] = 0;
-        let records = shape.at(Kind::Process, 0);
-        world.table[records..].fill(0);
+        clear_records(world, shape);
         Some(())
     });
     add(all, "two cells of one level", |rng, world, shape| {
         let (one, other) = two_cells(rng, shape)?;
         world.table.copy_within(one..one + 3, other);
-        let records = shape.at(Kind::Process, 0);
-        world.table[records..].fill(0);
+        clear_records(world, shape);
         Some(())
     });
     add(all, "table too long", |_, world, _| {
@@ -169,6 +175,152 @@ fn cell(rng: &mut Rng, shape: &Shape) -> usize {
 fn two_cells(rng: &mut Rng, shape: &Shape) -> Option<(usize, usize)> {
     let (one, other) = (cell(rng, shape), cell(rng, shape));
     (one != other).then_some((one, other))
+}
+
+/// The subtypes' own words. Where other records would be wrong too, these are cleared.
+fn configured_subtypes(all: &mut All) {
+    put(all, "subtypes out of range", &[17, 255, u32::MAX], |_, _, _| Some(6));
+    add(all, "one subtype more than there can be, in a table that is right for it", |_, world, _| {
+        let mut words = vec![1, 1, 0, 1, 1, 0, MAX_SUBTYPES as u32 + 1, 0, 0, 0, 0, 1, 0, 1, 0, 0];
+        words.resize(words.len() + SUBTYPE_WORDS * (MAX_SUBTYPES + 1), 0);
+        *world = World::configured(&words);
+        Some(())
+    });
+    add(all, "a subtype of no cell", |rng, world, shape| {
+        // The last one, so that the cells do not fall.
+        let last = shape.subtypes().len().checked_sub(1)?;
+        world.table[subtype_at(shape, last)] =
+            rng.pick(&[shape.cells as u32, 16, 256, u32::MAX]).max(shape.cells as u32);
+        clear_records(world, shape);
+        Some(())
+    });
+    add(all, "cells of subtypes that fall", |rng, world, shape| {
+        let last = shape.subtypes().len().checked_sub(1)?;
+        let higher = choose(rng, (0..last).filter(|&at| shape.subtypes()[at].cell < shape.subtypes()[at + 1].cell))?;
+        world.table.swap(subtype_at(shape, higher), subtype_at(shape, higher + 1));
+        clear_records(world, shape);
+        Some(())
+    });
+    for (name, word, values) in [
+        ("owner", 1, &[65536, u32::MAX] as &'static [u32]),
+        ("group", 2, &[65536, u32::MAX]),
+        ("bits", 3, &[512, 1023, u32::MAX]),
+    ] {
+        put(all, format!("a subtype's {name} out of range"), values, move |rng, _, shape| {
+            Some(subtype_at(shape, choose(rng, 0..shape.subtypes().len())?) + word)
+        });
+    }
+}
+
+/// The first word of a subtype.
+fn subtype_at(shape: &Shape, index: usize) -> usize {
+    HEADER_WORDS + CELL_WORDS * shape.cells + SUBTYPE_WORDS * index
+}
+
+fn clear_records(world: &mut World, shape: &Shape) {
+    let records = shape.at(Kind::Process, 0);
+    world.table[records..].fill(0);
+}
+
+/// A subtype's seid with another index than any has, or with another serial.
+fn no_subtype(rng: &mut Rng, shape: &Shape, past: bool) -> Option<u32> {
+    let count = shape.subtypes().len();
+    if past {
+        return Some(subtype_seid(rng.pick(&[count, count + 1, 255])));
+    }
+    Some(subtype_seid(choose(rng, 0..count)?) & !65535 | rng.pick(&[0, 2, 3, 65535]))
+}
+
+/// Descriptors of subtypes, and subtypes where none can be.
+fn held_subtypes(all: &mut All) {
+    /// A seid for a descriptor of a process.
+    type Held = fn(&mut Rng, &Shape, usize) -> Option<u32>;
+    let wrong: [(&str, Held); 3] = [
+        ("index", |rng, shape, _| no_subtype(rng, shape, true)),
+        ("serial", |rng, shape, _| no_subtype(rng, shape, false)),
+        ("a cell that does not flow", |rng, shape, process| {
+            let cell = shape.cell(Kind::Process, process);
+            choose(rng, subtypes(shape, |from| !shape.flow[from][cell]).into_iter())
+        }),
+    ];
+    for (name, seid) in wrong {
+        add(all, format!("held subtype: {name}"), move |rng, world, shape| {
+            let (process, place) = empty(rng, world, shape, DESCRIPTORS)?;
+            let seid = seid(rng, shape, process)?;
+            world.set_entry(shape, process, DESCRIPTORS, place, (seid, 1));
+            Some(())
+        });
+    }
+    let modes = |name: &str, own: bool, values: &'static [u32], all: &mut All| {
+        add(all, format!("held subtype: {name}"), move |rng, world, shape| {
+            let (process, place) = empty(rng, world, shape, DESCRIPTORS)?;
+            let cell = shape.cell(Kind::Process, process);
+            let held = subtypes(shape, |from| shape.flow[from][cell] && (from == cell) == own);
+            let seid = choose(rng, held.into_iter())?;
+            world.set_entry(shape, process, DESCRIPTORS, place, (seid, rng.pick(values)));
+            Some(())
+        });
+    };
+    modes("modes no valid number", true, BAD_MODES, all);
+    modes("modes no valid number, of a lower cell", false, BAD_MODES, all);
+    modes("write in another cell", false, &[2, 3, 11, 15], all);
+    add(all, "held Segment: a subtype", |rng, world, shape| {
+        let (process, place) = empty(rng, world, shape, DESIGNATORS)?;
+        let cell = shape.cell(Kind::Process, process);
+        let seid = choose(rng, subtypes(shape, |from| shape.flow[from][cell]).into_iter())?;
+        world.set_entry(shape, process, DESIGNATORS, place, (seid, 256));
+        Some(())
+    });
+    add(all, "sender: a subtype", |rng, world, shape| {
+        let process = slot(rng, world, shape, Kind::Process, true)?;
+        let at = shape.at(Kind::Process, process);
+        let seid = choose(rng, subtypes(shape, |from| from == shape.cell(Kind::Process, process)).into_iter())?;
+        if world.table[at + QUEUED] == 0 {
+            return None;
+        }
+        world.table[at + MESSAGES] = seid;
+        Some(())
+    });
+    add(all, "parent: a subtype", |rng, world, shape| {
+        let process = slot(rng, world, shape, Kind::Process, true)?;
+        let seid = choose(rng, subtypes(shape, |from| from == shape.cell(Kind::Process, process)).into_iter())?;
+        world.table[shape.at(Kind::Process, process) + PARENT] = seid;
+        Some(())
+    });
+}
+
+/// A subtype that a file may have.
+fn right_subtype(rng: &mut Rng, shape: &Shape, file: usize) -> Option<u32> {
+    choose(rng, subtypes(shape, |cell| cell == shape.cell(Kind::File, file)).into_iter())
+}
+
+/// A file's word for its subtype.
+fn files_of_subtypes(all: &mut All) {
+    /// A word for a file.
+    type Word = fn(&mut Rng, &Shape, usize) -> Option<u32>;
+    let wrong: [(&str, Word); 4] = [
+        ("class", |rng, shape, file| {
+            let seid = right_subtype(rng, shape, file)?;
+            Some(seid & 0x00ff_ffff | rng.pick(&[0, 4, 5, 7, 129, 134, 255]) << 24)
+        }),
+        ("index", |rng, shape, _| no_subtype(rng, shape, true)),
+        ("serial", |rng, shape, file| Some(right_subtype(rng, shape, file)? & !65535 | rng.pick(&[0, 2, 3, 65535]))),
+        ("another cell", |rng, shape, file| {
+            choose(rng, subtypes(shape, |cell| cell != shape.cell(Kind::File, file)).into_iter())
+        }),
+    ];
+    for (name, word) in wrong {
+        add(all, format!("File: its subtype: {name}"), move |rng, world, shape| {
+            let file = slot(rng, world, shape, Kind::File, true)?;
+            world.table[shape.at(Kind::File, file) + SUBTYPE] = word(rng, shape, file)?;
+            Some(())
+        });
+    }
+    add(all, "File: its subtype: not live", |rng, world, shape| {
+        let file = slot(rng, world, shape, Kind::File, false)?;
+        world.table[shape.at(Kind::File, file) + SUBTYPE] = right_subtype(rng, shape, file)?;
+        Some(())
+    });
 }
 
 /// What the three kinds of record have in common.
@@ -253,7 +405,7 @@ fn used(rng: &mut Rng, world: &World, shape: &Shape, kind: Kind, entries: usize,
     let cell = shape.cell(Kind::Process, process);
     let places = (0..ENTRIES).filter(|&place| {
         let (seid, _) = world.entry(shape, process, entries, place);
-        seid != 0 && (shape.cell(kind, Seid::of(seid).index) == cell) == own
+        seid != 0 && !is_subtype(seid) && (shape.cell(kind, Seid::of(seid).index) == cell) == own
     });
     Some((process, choose(rng, places)?))
 }
@@ -283,8 +435,9 @@ const BAD_SEIDS: [(&str, BadSeid); 5] = [
     ("class", |rng, world, shape, kind, process| {
         let index = elsewhere(rng, world, shape, kind, process, true)?;
         let seid = world.seid(shape, kind, index);
-        let class = rng.pick(&[3, 4, 5, 6, 129, 128, 1]);
-        (class != kind.class()).then_some(seid & 0x00ff_ffff | class << 24)
+        let class = rng.pick(&[3, 4, 5, SUBTYPE_CLASS, 129, 128, 1]);
+        let subtype = kind == Kind::File && class == SUBTYPE_CLASS; // a descriptor may hold one
+        (class != kind.class() && !subtype).then_some(seid & 0x00ff_ffff | class << 24)
     }),
     ("index", |rng, _, shape, kind, _| past_the_slots(rng, shape, kind)),
     ("serial 0", |rng, world, shape, kind, process| {
@@ -298,6 +451,9 @@ const BAD_SEIDS: [(&str, BadSeid); 5] = [
         Some(world.seid(shape, kind, elsewhere(rng, world, shape, kind, process, false)?))
     }),
 ];
+
+/// No valid modes.
+const BAD_MODES: &[u32] = &[0, 4, 5, 6, 7, 8, 9, 10, 12, 13, 14, 16, 17, 257, u32::MAX];
 
 /// Descriptors and designators.
 fn held(all: &mut All, kind: Kind, entries: usize) {
@@ -339,7 +495,7 @@ fn held(all: &mut All, kind: Kind, entries: usize) {
         Some(())
     });
     let bad_rights: &[u32] = match kind {
-        Kind::File => &[0, 4, 5, 6, 7, 8, 9, 10, 12, 13, 14, 16, 17, 257, u32::MAX],
+        Kind::File => BAD_MODES,
         _ => &[1, 2, 64, 129, 255, 257, 383, 385, 511, 512, 640, 1 << 31],
     };
     add(all, format!("held {kind:?}: rights no valid number"), move |rng, world, shape| {

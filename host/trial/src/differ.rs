@@ -318,5 +318,9 @@ fn word_name(shape: &Shape, at: usize) -> String {
             }
         }
     }
-    format!("cell word {}", at - HEADER_WORDS)
+    let subtypes = HEADER_WORDS + CELL_WORDS * shape.cells;
+    match at.checked_sub(subtypes) {
+        Some(word) => format!("subtype {}, word {}", word / SUBTYPE_WORDS, word % SUBTYPE_WORDS),
+        None => format!("cell word {}", at - HEADER_WORDS),
+    }
 }

@@ -5,7 +5,8 @@ use crate::largest;
 use crate::rng::Rng;
 use crate::tables::{self, World};
 use crate::{Monitor, Plain};
-use plain::table::{CELL_WORDS, HEADER_WORDS};
+use plain::Kind;
+use plain::table::{CELL_WORDS, HEADER_WORDS, SUBTYPE_WORDS};
 use std::collections::BTreeMap;
 use std::fmt;
 
@@ -265,9 +266,15 @@ impl<'a> Images<'a> {
 
     /// The image of another hall is taken where both lengths are the same, and only there.
     fn other_halls(&mut self, world: &World, limits: tables::Limits) {
-        let mut words = world.table[..HEADER_WORDS + CELL_WORDS * world.shape().cells].to_vec();
-        for cell in words[HEADER_WORDS..].chunks_mut(CELL_WORDS) {
+        let shape = world.shape();
+        let mut words = world.table[..shape.at(Kind::Process, 0)].to_vec();
+        let (cells, subtypes) = words[HEADER_WORDS..].split_at_mut(CELL_WORDS * shape.cells);
+        for cell in cells.chunks_mut(CELL_WORDS) {
             (cell[6], cell[7]) = (tables::identity(&mut self.rng), tables::identity(&mut self.rng));
+        }
+        for subtype in subtypes.chunks_mut(SUBTYPE_WORDS) {
+            (subtype[1], subtype[2]) = (tables::identity(&mut self.rng), tables::identity(&mut self.rng));
+            subtype[3] = tables::bits(&mut self.rng);
         }
         let other = tables::busy(&mut self.rng, &words);
         self.reload("another hall of the same lengths", world, &plain_bytes(&other));

@@ -15,6 +15,7 @@ pub mod rng;
 pub mod scripts;
 pub mod secrecy;
 pub mod shrink;
+pub mod subtypes;
 pub mod tables;
 pub mod tally;
 pub mod trays;

@@ -75,12 +75,12 @@ impl Program<'_> {
             let limits = tables::replay_limits(rng);
             let calls = match round % 50 {
                 0 => 5_000,
-                1..10 => 300,
                 10 => 0,
+                1..15 => 300,
                 _ => rng.below(30),
             };
-            let mut script = match round % 4 {
-                3 => scripts::bad_configuration(rng, limits),
+            let mut script = match round % 5 {
+                3 | 4 => scripts::bad_configuration(rng, limits),
                 _ => scripts::valid(rng, limits, calls),
             };
             if rng.chance(1, 2) {

@@ -5,7 +5,7 @@ use crate::rng::Rng;
 use crate::shrink;
 use crate::tables::{self, Limits, World};
 use crate::{Monitor, Plain};
-use plain::table::{CELL_WORDS, HEADER_WORDS, MAX_CELLS};
+use plain::table::{CELL_WORDS, HEADER_WORDS, MAX_CELLS, MAX_SUBTYPES, SUBTYPE_WORDS};
 use plain::{HEADER_NUMBERS, Kind, Request, Seid, number};
 use std::fmt::Write;
 
@@ -27,7 +27,7 @@ impl Script {
         self.bytes.push(number as u8);
     }
 
-    /// The header's numbers, without its zeros, and the cells' words.
+    /// The header's numbers, without its zero, and the words of cells and subtypes.
     pub fn configuration(&mut self, words: &[u32]) {
         for &word in words[..HEADER_NUMBERS].iter().chain(&words[HEADER_WORDS..]) {
             self.number(word);
@@ -100,7 +100,8 @@ pub fn damage(rng: &mut Rng, script: &mut Script) {
 pub fn bad_configuration(rng: &mut Rng, limits: Limits) -> Script {
     let mut words = tables::configuration(rng, limits);
     let cells = words[0] as usize;
-    match rng.below(8) {
+    match rng.below(10) {
+        8 | 9 => bad_subtypes(rng, &mut words),
         3 => words[5] = rng.pick(&[cells as u32, cells as u32 + 1, 17, u32::MAX]), // a guard cell that is there, or none that is
         0 if cells > 1 => words.copy_within(8..11, 16),                            // two cells of one level
         2 => {
@@ -141,7 +142,8 @@ pub fn bad_configuration(rng: &mut Rng, limits: Limits) -> Script {
         }
         _ => {
             let zeros = HEADER_WORDS - HEADER_NUMBERS;
-            let at = rng.below(words.len() - zeros);
+            let some = if rng.chance(1, 2) { HEADER_NUMBERS } else { words.len() - zeros };
+            let at = rng.below(some);
             let word = &mut words[if at < HEADER_NUMBERS { at } else { at + zeros }];
             *word =
                 rng.pick(&[0, 16, 17, 64, 65, 256, 65535, 65536, u32::MAX, word.wrapping_add(1), word.wrapping_sub(1)]);
@@ -151,6 +153,24 @@ pub fn bad_configuration(rng: &mut Rng, limits: Limits) -> Script {
     script.configuration(&words);
     script.call(&Request { caller: 0, code: 1, a: 0, b: 0, c: 0 }, &[]);
     script
+}
+
+/// Changes the subtypes of a configuration: one that is out of range, cells that fall, or more than there can be.
+fn bad_subtypes(rng: &mut Rng, words: &mut Vec<u32>) {
+    let first = HEADER_WORDS + CELL_WORDS * words[0] as usize;
+    let last = (words.len() - SUBTYPE_WORDS).max(first);
+    match rng.below(6) {
+        0 => {
+            // One more than there can be, and as many words as there would be then.
+            words[6] = MAX_SUBTYPES as u32 + 1;
+            words.resize(first + SUBTYPE_WORDS * (MAX_SUBTYPES + 1), 0);
+        }
+        _ if last == words.len() => {} // there is none
+        1 => words[last] = rng.pick(&[words[0] - 1, words[0], 16, u32::MAX]),
+        2 | 3 => words.swap(first, last),
+        4 => words[last + 1 + rng.below(2)] = rng.pick(&[65535, 65536, u32::MAX]),
+        _ => words[last + 3] = rng.pick(&[511, 512, u32::MAX]),
+    }
 }
 
 /// Where an input stops a replay, and why; or that it does not. A configuration counts by what is wrong where that is one thing alone.
@@ -164,11 +184,16 @@ pub const ENDS: &[&str] = &[
     "configuration: blocks",
     "configuration: files x blocks",
     "configuration: guard",
+    "configuration: subtypes",
     "configuration: security or integrity",
     "configuration: a cell without process slots",
     "configuration: owner or group",
     "configuration: slot sums",
     "configuration: two cells of one level",
+    "configuration: a subtype of no cell",
+    "configuration: cells of subtypes that fall",
+    "configuration: a subtype's owner or group",
+    "configuration: a subtype's bits",
     "configuration: more than one thing",
     "call: cut in its numbers",
     "call: cut in its buffer",
@@ -226,14 +251,15 @@ fn judged(input: &mut &[u8]) -> Result<u32, Fault> {
     Err(Fault::Large)
 }
 
-/// The numbers of a configuration: the header's, and the cells' if their number is one that can be.
+/// The numbers of a configuration: the header's, and the cells' and the subtypes' if their numbers are some that can be.
 fn configured(input: &mut &[u8]) -> Result<Vec<u32>, Fault> {
     let mut words = Vec::new();
     for _ in 0..HEADER_NUMBERS {
         words.push(judged(input)?);
     }
-    if (1..=MAX_CELLS as u32).contains(&words[0]) {
-        for _ in 0..CELL_WORDS * words[0] as usize {
+    let (cells, subtypes) = (words[0] as usize, words[6] as usize);
+    if (1..=MAX_CELLS).contains(&cells) && subtypes <= MAX_SUBTYPES {
+        for _ in 0..CELL_WORDS * cells + SUBTYPE_WORDS * subtypes {
             words.push(judged(input)?);
         }
     }
@@ -242,14 +268,18 @@ fn configured(input: &mut &[u8]) -> Result<Vec<u32>, Fault> {
 
 /// All that is wrong with the numbers of a configuration. More files than 64 are too many blocks, and need no name.
 fn wrong(words: &[u32]) -> Vec<&'static str> {
-    let (header, cells) = words.split_at(HEADER_NUMBERS);
-    let &[count, processes, segments, files, blocks, guard] = header else {
-        panic!("the header has six numbers");
+    let (header, rest) = words.split_at(HEADER_NUMBERS);
+    let &[count, processes, segments, files, blocks, guard, subtypes] = header else {
+        panic!("the header has seven numbers");
     };
-    if cells.is_empty() {
-        return vec!["configuration: cells"];
+    if rest.is_empty() {
+        let cells = !(1..=MAX_CELLS as u32).contains(&count);
+        let clauses = [("configuration: cells", cells), ("configuration: subtypes", subtypes > 16)];
+        return clauses.into_iter().filter(|(_, wrong)| *wrong).map(|(name, _)| name).collect();
     }
+    let (cells, subtypes) = rest.split_at(CELL_WORDS * count as usize);
     let (cells, _) = cells.as_chunks::<CELL_WORDS>();
+    let (subtypes, _) = subtypes.as_chunks::<SUBTYPE_WORDS>();
     let sum = |word: usize| cells.iter().map(|cell| u64::from(cell[word])).sum::<u64>();
     let sums = [(3, processes), (4, segments), (5, files)];
     let twice = |at: usize| cells[..at].iter().any(|earlier| earlier[..3] == cells[at][..3]);
@@ -264,6 +294,10 @@ fn wrong(words: &[u32]) -> Vec<&'static str> {
         ("configuration: owner or group", cells.iter().any(|cell| cell[6] > 65535 || cell[7] > 65535)),
         ("configuration: slot sums", sums.iter().any(|&(word, due)| sum(word) != u64::from(due))),
         ("configuration: two cells of one level", (0..cells.len()).any(twice)),
+        ("configuration: a subtype of no cell", subtypes.iter().any(|subtype| subtype[0] >= count)),
+        ("configuration: cells of subtypes that fall", !subtypes.is_sorted_by_key(|subtype| subtype[0])),
+        ("configuration: a subtype's owner or group", subtypes.iter().any(|s| s[1] > 65535 || s[2] > 65535)),
+        ("configuration: a subtype's bits", subtypes.iter().any(|subtype| subtype[3] > 511)),
     ];
     clauses.into_iter().filter(|(_, wrong)| *wrong).map(|(name, _)| name).collect()
 }
@@ -288,7 +322,7 @@ fn called(input: &mut &[u8]) -> Result<(), &'static str> {
 /// A part of an input.
 #[derive(Clone, PartialEq, Eq)]
 pub enum Part {
-    /// The header's numbers, then the cells'.
+    /// The header's numbers, then the cells' and the subtypes'.
     Configuration(Vec<u32>),
     Call(Call),
     /// What stands where a number is bad or something is cut, to the end.
@@ -327,11 +361,11 @@ pub fn joined(parts: &[Part]) -> Vec<u8> {
 
 fn configuration(input: &mut &[u8]) -> Option<Part> {
     let mut words = (0..HEADER_NUMBERS).map(|_| number(input)).collect::<Option<Vec<u32>>>()?;
-    let cells = words[0] as usize;
-    if cells > MAX_CELLS {
+    let (cells, subtypes) = (words[0] as usize, words[6] as usize);
+    if cells > MAX_CELLS || subtypes > MAX_SUBTYPES {
         return None;
     }
-    for _ in 0..CELL_WORDS * cells {
+    for _ in 0..CELL_WORDS * cells + SUBTYPE_WORDS * subtypes {
         words.push(number(input)?);
     }
     Some(Part::Configuration(words))
@@ -368,10 +402,14 @@ pub fn text(input: &[u8], monitor: &dyn Monitor) -> String {
     for part in parts(input) {
         match part {
             Part::Configuration(words) => {
-                let (header, cells) = words.split_at(HEADER_NUMBERS);
+                let (header, rest) = words.split_at(HEADER_NUMBERS);
+                let (cells, subtypes) = rest.split_at(CELL_WORDS * header[0] as usize);
                 line(&mut text, "header", header);
                 for cell in cells.chunks(CELL_WORDS) {
                     line(&mut text, "cell", cell);
+                }
+                for subtype in subtypes.chunks(SUBTYPE_WORDS) {
+                    line(&mut text, "subtype", subtype);
                 }
             }
             Part::Call(call) => writeln!(text, "{}", call_text(&call, monitor)).expect("a string takes it"),
@@ -407,13 +445,14 @@ fn call_text(call: &Call, monitor: &dyn Monitor) -> String {
     }
 }
 
-/// A number, or a seid as scripts spell it: f0.1 is file 0 of serial 1.
+/// A number, or a seid as scripts spell it: f0.1 is file 0 of serial 1, and t0.1 subtype 0.
 pub fn argument(word: u32) -> String {
     let seid = Seid::of(word);
     let letter = match Kind::of_class(seid.class) {
         Some(Kind::Process) => 'p',
         Some(Kind::Segment) => 's',
         Some(Kind::File) => 'f',
+        None if seid.of_subtype() => 't',
         None => return word.to_string(),
     };
     format!("{letter}{}.{}", seid.index, seid.serial)

@@ -10,7 +10,7 @@
 use crate::calls::{self, Call, REGRADE};
 use crate::differ::difference;
 use crate::rng::Rng;
-use crate::tables::{self, Limits, World};
+use crate::tables::{self, Limits, World, held_cell, is_subtype};
 use crate::{Monitor, Plain};
 use plain::table::*;
 use plain::{Kind, Request, Seid, Shape};
@@ -55,6 +55,15 @@ pub struct Met {
     /// Regrades by visible callers: done, and refused before a hidden cell is asked for a slot.
     pub visible_regrades: u64,
     pub visible_not_asked: u64,
+    /// Opens by hidden callers of subtypes of visible cells, and of files by them.
+    pub hidden_subtypes: u64,
+    pub hidden_subtyped: u64,
+    /// Subtypes that visible callers open alone while a hidden process has them open.
+    pub alone_under_hidden: u64,
+    /// Subtypes that visible callers open; files that they create and open by them; and refusals with 35 and 36.
+    pub visible_subtypes: u64,
+    pub visible_subtyped: u64,
+    pub visible_mismatched: u64,
 }
 
 impl Met {
@@ -81,6 +90,12 @@ impl Met {
             self.hidden_regrades,
             self.visible_regrades,
             self.visible_not_asked,
+            self.hidden_subtypes,
+            self.hidden_subtyped,
+            self.alone_under_hidden,
+            self.visible_subtypes,
+            self.visible_subtyped,
+            self.visible_mismatched,
         ];
         assert!(all.iter().all(|&count| count > 0), "never met: {self:#?}");
     }
@@ -138,8 +153,10 @@ impl Run<'_> {
         for _ in 0..rng.below(4) {
             let caller = calls::caller(rng, &self.world, self.shape, |cell| !self.seen[cell]);
             let desk = self.shape.guard.is_some_and(|guard| !self.seen[guard]) && rng.chance(1, 8);
+            let directory = !self.shape.subtypes().is_empty() && rng.chance(1, 8);
             let call = match calls::at_the_desk(rng, &self.world, self.shape).filter(|_| desk) {
                 Some(caller) => calls::with_code(rng, &self.world, self.shape, caller, REGRADE),
+                None if directory => self.hidden_open(rng),
                 None => calls::by(rng, &self.world, self.shape, caller.expect("a cell is hidden")),
             };
             if self.regrades(&call, true) {
@@ -161,9 +178,28 @@ impl Run<'_> {
                     met.hidden_maps += u64::from(self.seen[self.shape.cell(Kind::Segment, Seid::of(seid).index)]);
                 }
                 if matches!(request.code, 4 | 8) {
-                    met.hidden_holds += u64::from(self.seen[self.shape.cell(kind, Seid::of(request.a).index)]);
+                    let seen = self.seen[held_cell(self.shape, kind, request.a)];
+                    met.hidden_holds += u64::from(seen && !is_subtype(request.a));
+                    met.hidden_subtypes += u64::from(seen && is_subtype(request.a));
+                    met.hidden_subtyped += u64::from(seen && self.subtyped(&request));
                 }
             }
+        }
+    }
+
+    /// An open by a process of a cell that is not seen, mostly by one that holds a subtype.
+    fn hidden_open(&self, rng: &mut Rng) -> Call {
+        let caller = calls::who_holds_a_subtype(rng, &self.world, self.shape, |cell| !self.seen[cell]);
+        calls::with_code(rng, &self.world, self.shape, caller.expect("a cell is hidden"), 8)
+    }
+
+    /// Whether an open or a create that was done went by a subtype.
+    fn subtyped(&self, request: &Request) -> bool {
+        let subtype = |file: usize| self.world.table[self.shape.at(Kind::File, file) + SUBTYPE];
+        match request.code {
+            7 => request.c != 0,
+            8 => !is_subtype(request.a) && subtype(Seid::of(request.a).index) != 0,
+            _ => false,
         }
     }
 
@@ -174,7 +210,7 @@ impl Run<'_> {
             for (kind, entries) in [(Kind::File, DESCRIPTORS), (Kind::Segment, DESIGNATORS)] {
                 for place in 0..ENTRIES {
                     let (seid, _) = self.world.entry(self.shape, process, entries, place);
-                    let seen = seid != 0 && self.seen[self.shape.cell(kind, Seid::of(seid).index)];
+                    let seen = seid != 0 && self.seen[held_cell(self.shape, kind, seid)];
                     if seen && !self.world.stale(self.shape, kind, seid) {
                         held.push(seid);
                     }
@@ -184,21 +220,33 @@ impl Run<'_> {
         held
     }
 
-    /// An exclusive open, in its own cell, of a file that only hidden processes read: what a monitor that looks up would refuse.
+    /// An exclusive open, in its own cell, of a file or subtype that only hidden processes read: what a monitor that looks up would
+    /// refuse.
     fn exclusive_open(&self, rng: &mut Rng) -> Option<Call> {
-        let mut files = self.held_from_above();
-        files.retain(|&word| {
+        let mut read = self.held_from_above();
+        read.retain(|&word| {
             let seid = Seid::of(word);
             let file = seid.class == Kind::File.class();
-            file && self.world.table[self.shape.at(Kind::File, seid.index) + HOLDS] == 0
+            let record = |word: usize| self.world.table[self.shape.at(Kind::File, seid.index) + word];
+            match file {
+                true => record(HOLDS) == 0 && record(SUBTYPE) == 0,
+                false => is_subtype(word) && !self.opened_below(word),
+            }
         });
-        if files.is_empty() {
+        if read.is_empty() {
             return None;
         }
-        let file = rng.pick(&files);
-        let cell = self.shape.cell(Kind::File, Seid::of(file).index);
+        let seid = rng.pick(&read);
+        let cell = held_cell(self.shape, Kind::File, seid);
         let caller = calls::caller(rng, &self.world, self.shape, |other| other == cell)?;
-        Some(Call { request: Request { caller, code: 8, a: file, b: 15, c: 0 }, buffer: Vec::new() })
+        Some(Call { request: Request { caller, code: 8, a: seid, b: 15, c: 0 }, buffer: Vec::new() })
+    }
+
+    /// Whether a process of its own cell has a subtype open.
+    fn opened_below(&self, subtype: u32) -> bool {
+        let mut processes = self.shape.run(Kind::Process, held_cell(self.shape, Kind::File, subtype));
+        let held = |process| self.world.held_subtypes(self.shape, process);
+        processes.any(|process| held(process).iter().any(|&(_, seid, _)| seid == subtype))
     }
 
     /// What a view by a call's process shows, of the call's first two arguments: number, place and bytes.
@@ -499,6 +547,7 @@ fn visible_call(one: &mut Run, other: &mut Run, call: &Call, met: &mut Met) {
         0 => met.visible_done += 1,
         _ => met.visible_refused += 1,
     }
+    met.visible_mismatched += u64::from(matches!(answer[0], 35 | 36));
     if up && answer[0] == 0 {
         let grown = (one.queued(receiver) - before.0, other.queued(receiver) - before.1);
         met.posts_that_differ += u64::from(grown.0 != grown.1);
@@ -508,7 +557,11 @@ fn visible_call(one: &mut Run, other: &mut Run, call: &Call, met: &mut Met) {
     if answer[0] == 0 {
         met.visible_regrades += u64::from(call.request.code == REGRADE);
         met.freed_under_hidden += u64::from(frees && one.held_from_above().len() < held.len());
-        met.exclusive_under_hidden += u64::from(exclusive && held.contains(&call.request.a));
+        let (subtype, under_hidden) = (is_subtype(call.request.a), exclusive && held.contains(&call.request.a));
+        met.exclusive_under_hidden += u64::from(under_hidden && !subtype);
+        met.alone_under_hidden += u64::from(under_hidden && subtype);
+        met.visible_subtypes += u64::from(call.request.code == 8 && subtype);
+        met.visible_subtyped += u64::from(one.subtyped(&call.request));
     }
 }
 

@@ -118,6 +118,10 @@ fn calm(start: &World, differs: impl Fn(&World) -> bool) -> World {
                 });
             }
         }
+        for file in 0..shape.count(Kind::File) {
+            let at = shape.at(Kind::File, file);
+            attempt(&|world| world.table[at + SUBTYPE] = 0);
+        }
         for process in 0..shape.count(Kind::Process) {
             let at = shape.at(Kind::Process, process);
             attempt(&|world| {

@@ -1,9 +1,10 @@
 //! Random well-formed tables. They are drawn from the definition of "well formed", not from what set-up and calls reach: stale
-//! entries of lower cells' objects, stale senders and parents, serials at the top, full queues, opens that clash.
+//! entries of lower cells' objects, stale senders and parents, serials at the top, full queues, opens that clash, subtypes held
+//! against their bits.
 
 use crate::rng::Rng;
 use plain::table::*;
-use plain::{Kind, Level, Seid, Shape};
+use plain::{Kind, Level, Seid, Shape, subtype_seid};
 
 /// A table and its store.
 #[derive(Clone, Debug, PartialEq, Eq)]
@@ -13,7 +14,7 @@ pub struct World {
 }
 
 impl World {
-    /// The header and the cells, and zeros for the rest, whether or not they are good.
+    /// The header, the cells and the subtypes, and zeros for the rest, whether or not they are good.
     pub fn configured(configuration: &[u32]) -> World {
         let count = |word: usize| configuration[word] as usize;
         let records = PROCESS_WORDS * count(1) + SEGMENT_WORDS * count(2) + FILE_WORDS * count(3);
@@ -46,10 +47,10 @@ impl World {
         (0..shape.count(Kind::Process)).all(|process| !self.live(shape, Kind::Process, process))
     }
 
-    /// Whether a held seid no longer names anything.
+    /// Whether a held seid no longer names anything. A subtype always does.
     pub fn stale(&self, shape: &Shape, kind: Kind, word: u32) -> bool {
-        let index = Seid::of(word).index;
-        !self.live(shape, kind, index) || self.seid(shape, kind, index) != word
+        let Seid { index, .. } = Seid::of(word);
+        !is_subtype(word) && (!self.live(shape, kind, index) || self.seid(shape, kind, index) != word)
     }
 
     /// The two words of a process's entry; `entries` is DESCRIPTORS or DESIGNATORS.
@@ -64,10 +65,31 @@ impl World {
         shape.stretch(Seid::of(seid).index).start + BLOCK_BYTES * block as usize
     }
 
+    /// The subtypes that a process holds: descriptor, seid and modes.
+    pub fn held_subtypes(&self, shape: &Shape, process: usize) -> Vec<(usize, u32, u32)> {
+        let entries = (0..ENTRIES).map(|place| (place, self.entry(shape, process, DESCRIPTORS, place)));
+        entries.filter(|(_, (seid, _))| is_subtype(*seid)).map(|(place, (seid, modes))| (place, seid, modes)).collect()
+    }
+
     pub fn set_entry(&mut self, shape: &Shape, process: usize, entries: usize, place: usize, entry: (u32, u32)) {
         let at = shape.at(Kind::Process, process) + entries + ENTRY_WORDS * place;
         (self.table[at], self.table[at + 1]) = entry;
     }
+}
+
+pub fn is_subtype(word: u32) -> bool {
+    Seid::of(word).of_subtype()
+}
+
+/// The cell of what an entry holds: an object of a kind or, at a descriptor, a subtype.
+pub fn held_cell(shape: &Shape, kind: Kind, word: u32) -> usize {
+    shape.subtype(Seid::of(word)).map_or_else(|| shape.cell(kind, Seid::of(word).index), |subtype| subtype.cell)
+}
+
+/// The subtypes of the cells chosen, as seids.
+pub fn subtypes(shape: &Shape, chosen: impl Fn(usize) -> bool) -> Vec<u32> {
+    let subtypes = shape.subtypes().iter().enumerate();
+    subtypes.filter(|(_, subtype)| chosen(subtype.cell)).map(|(index, _)| subtype_seid(index)).collect()
 }
 
 /// How large a table may be.
@@ -102,7 +124,7 @@ pub fn full(shape: &Shape) -> bool {
     Kind::ALL.into_iter().any(|kind| shape.count(kind) == MAX_SLOTS)
 }
 
-/// Good header and cell words.
+/// Good header, cell and subtype words.
 pub fn configuration(rng: &mut Rng, limits: Limits) -> Vec<u32> {
     let often = if limits.slots == MAX_SLOTS { 5 } else { 1 }; // of eight
     let cells = if rng.chance(often, 8) { 1 } else { 1 + rng.below(limits.cells) };
@@ -123,7 +145,13 @@ pub fn configuration(rng: &mut Rng, limits: Limits) -> Vec<u32> {
     let segments = count(0, limits.slots);
     let files = count(0, limits.slots.min(limits.store_blocks / blocks));
     let guard = if rng.chance(1, 4) { 0 } else { 1 + rng.below(cells) };
-    let mut words: Vec<u32> = [cells, processes, segments, files, blocks, guard, 0, 0].map(|n| n as u32).to_vec();
+    let subtypes = match rng.below(8) {
+        0 | 1 => 0,
+        2 => MAX_SUBTYPES,
+        _ => 1 + rng.below(MAX_SUBTYPES),
+    };
+    let header = [cells, processes, segments, files, blocks, guard, subtypes, 0];
+    let mut words: Vec<u32> = header.map(|n| n as u32).to_vec();
     // One process slot for each cell; all others, and the segments and files, go to random cells.
     let mut slots = vec![[1u32, 0, 0]; cells];
     for (kind, extra) in [processes - cells, segments, files].into_iter().enumerate() {
@@ -135,6 +163,13 @@ pub fn configuration(rng: &mut Rng, limits: Limits) -> Vec<u32> {
         words.extend([level.security, level.integrity, level.compartments]);
         words.extend(slots);
         words.extend([identity(rng), identity(rng)]);
+    }
+    let mut cell_of: Vec<usize> = (0..subtypes).map(|_| rng.below(cells)).collect();
+    cell_of.sort();
+    for cell in cell_of {
+        // Bits that forbid nobody are drawn more often: who holds no subtype opens no subtyped file.
+        let bits = if rng.chance(1, 2) { 0o666 } else { bits(rng) };
+        words.extend([cell as u32, identity(rng), identity(rng), bits]);
     }
     words
 }
@@ -236,15 +271,15 @@ struct Mood {
     /// Of eight entries, how many are used.
     entries: usize,
     top_serials: bool,
-    /// One bit for each file slot, over and over.
+    /// One bit for each file slot, and for each subtype, over and over.
     quiet_files: u64,
     /// The last slot of each cell was never used, all others were: it is the next to be taken.
     last_unused: bool,
 }
 
 impl Mood {
-    fn quiet(&self, file: usize) -> bool {
-        self.quiet_files >> (file % 64) & 1 == 1
+    fn quiet(&self, index: usize) -> bool {
+        self.quiet_files >> (index % 64) & 1 == 1
     }
 }
 
@@ -297,6 +332,8 @@ fn head(rng: &mut Rng, mood: &Mood, world: &mut World, shape: &Shape, kind: Kind
             record[BITS] = if quiet && rng.chance(1, 2) { 0o666 } else { bits(rng) };
             record[LINKS] = if quiet { 1 } else { rng.pick(&[0, 0, 0, 1, 1, 2, 254, 255]) };
             record[SIZE] = rng.below(shape.blocks + 1) as u32;
+            let own = subtypes(shape, |cell| cell == shape.cell(kind, index));
+            record[SUBTYPE] = if !own.is_empty() && rng.chance(2, 5) { rng.pick(&own) } else { 0 };
         }
     }
 }
@@ -322,20 +359,28 @@ fn held(rng: &mut Rng, world: &World, shape: &Shape, kind: Kind, index: usize, c
 }
 
 fn holdings(rng: &mut Rng, mood: &Mood, world: &mut World, shape: &Shape, process: usize, cell: usize) {
-    // Some files stay quiet: nobody of their own cell has them open, though a higher reader may.
+    // Some files and subtypes stay quiet: nobody of their own cell has them open, though a higher reader may.
     let own = |file: usize| shape.cell(Kind::File, file) == cell;
     let mut files = candidates(world, shape, Kind::File, cell);
     files.retain(|&file| !(own(file) && mood.quiet(file)));
     let quiet: Vec<usize> = files.iter().copied().filter(|&file| mood.quiet(file)).collect();
+    let mut subtypes = subtypes(shape, |from| shape.flow[from][cell]);
+    subtypes.retain(|&seid| !(held_cell(shape, Kind::File, seid) == cell && mood.quiet(Seid::of(seid).index)));
     let segments = candidates(world, shape, Kind::Segment, cell);
     let senders = candidates(world, shape, Kind::Process, cell);
     let full = rng.chance(1, 8); // now and then no place is empty
     for place in 0..ENTRIES {
-        if !files.is_empty() && (full || rng.chance(mood.entries, 8)) {
-            let file = if !quiet.is_empty() && rng.chance(1, 4) { rng.pick(&quiet) } else { rng.pick(&files) };
-            let modes = if own(file) { rng.pick(&VALID_MODES) } else { 1 };
-            let seid = held(rng, world, shape, Kind::File, file, cell);
-            world.set_entry(shape, process, DESCRIPTORS, place, (seid, modes));
+        if !(files.is_empty() && subtypes.is_empty()) && (full || rng.chance(mood.entries, 8)) {
+            let entry = if files.is_empty() || !subtypes.is_empty() && rng.chance(1, 4) {
+                let subtype = rng.pick(&subtypes);
+                let own = held_cell(shape, Kind::File, subtype) == cell;
+                (subtype, if own { rng.pick(&VALID_MODES) } else { 1 })
+            } else {
+                let file = if !quiet.is_empty() && rng.chance(1, 4) { rng.pick(&quiet) } else { rng.pick(&files) };
+                let modes = if own(file) { rng.pick(&VALID_MODES) } else { 1 };
+                (held(rng, world, shape, Kind::File, file, cell), modes)
+            };
+            world.set_entry(shape, process, DESCRIPTORS, place, entry);
         }
         if !segments.is_empty() && (full || rng.chance(mood.entries, 8)) {
             // The first of some draws that is not held already; now and then it is 64 slots from the last one that is.
@@ -395,7 +440,7 @@ fn count_holds(rng: &mut Rng, world: &mut World, shape: &Shape, cell: usize) {
             for place in 0..ENTRIES {
                 let (seid, _) = world.entry(shape, process, entries, place);
                 let index = Seid::of(seid).index;
-                if seid != 0 && shape.cell(kind, index) == cell {
+                if seid != 0 && !is_subtype(seid) && shape.cell(kind, index) == cell {
                     world.table[shape.at(kind, index) + HOLDS] += 1;
                 }
             }

@@ -5,15 +5,16 @@ use crate::absences::Absences;
 use crate::calls::{Call, REGRADE};
 use crate::counts::Counts;
 use crate::largest::{is_last, is_last_and_whole};
-use crate::tables::World;
+use crate::subtypes::Subtypes;
+use crate::tables::{World, is_subtype};
 use plain::table::*;
 use plain::{Kind, Seid, Shape};
 use std::fmt;
 
 pub const CODES: usize = 21;
-pub const ERRORS: usize = 35;
+pub const ERRORS: usize = 37;
 
-/// The refusals in each call's own list. A 12 of call 14 cannot arise: write is held only in the own cell, and there nothing is stale.
+/// The refusals in each call's own list. A 12 of call 14 is a subtype's: write is held only in the own cell, and there no file is stale.
 pub const REFUSALS: [&[u32]; CODES + 1] = [
     &[],
     &[4, 15, 27],
@@ -22,14 +23,14 @@ pub const REFUSALS: [&[u32]; CODES + 1] = [
     &[4, 11, 13, 17, 16, 18, 25],
     &[8, 9],
     &[4, 8, 9, 11, 13, 16],
-    &[4, 7, 25, 26],
-    &[7, 12, 13, 16, 19, 25],
+    &[4, 7, 35, 36, 25, 26],
+    &[7, 12, 13, 16, 35, 36, 19, 25],
     &[10],
     &[12, 13, 14, 24],
     &[12, 13, 14, 24],
     &[4, 2, 11, 12, 13, 14, 33],
     &[5, 10, 20, 12, 16, 22, 23],
-    &[5, 10, 21, 16, 22],
+    &[5, 10, 21, 12, 16, 22],
     &[5, 2, 13, 16, 28],
     &[5, 29],
     &[5, 12, 13, 2, 11],
@@ -177,6 +178,7 @@ pub struct Tally {
     bad_caller: u64,
     bad_code: u64,
     absences: Absences,
+    subtypes: Subtypes,
     situations: Counts,
 }
 
@@ -189,6 +191,7 @@ impl Default for Tally {
             bad_caller: 0,
             bad_code: 0,
             absences: Absences::default(),
+            subtypes: Subtypes::default(),
             situations: Counts::of(SITUATIONS),
         }
     }
@@ -218,6 +221,7 @@ impl Tally {
             );
             self.own[code][error as usize] += 1;
             self.absences.note(before, shape, request, error);
+            self.subtypes.note(before, shape, call, error);
             let mut scene = Scene { tally: self, before, shape, call, caller };
             match error {
                 0 => scene.success(first, second),
@@ -231,6 +235,9 @@ impl Tally {
     pub fn viewed(&mut self, before: &World, shape: &Shape, call: &Call, error: u32) {
         assert!(error == 0 || VIEW_REFUSALS.contains(&error), "{error} is not in the list of views");
         self.views[error as usize] += 1;
+        if error != 2 {
+            self.subtypes.viewed(before, shape, &call.request, error);
+        }
         if error == 0 {
             let caller = call.request.caller as usize;
             let scene = Scene { tally: self, before, shape, call, caller };
@@ -261,6 +268,7 @@ impl Tally {
             }
         }
         missing.extend(self.absences.missing());
+        missing.extend(self.subtypes.missing().map(str::to_string));
         missing.extend(self.situations.missing().map(str::to_string));
         missing
     }
@@ -286,7 +294,7 @@ impl fmt::Display for Tally {
             write!(f, "  {error}: {}", self.views[error as usize])?;
         }
         writeln!(f)?;
-        write!(f, "{}{}", self.absences, self.situations)
+        write!(f, "{}{}{}", self.absences, self.subtypes, self.situations)
     }
 }
 
@@ -409,7 +417,7 @@ impl Scene<'_> {
                 self.tally.met("set access beyond the stored access", request.b & !stored != 0);
             }
             7 => self.created(Kind::File, first),
-            8 => self.open(request.a, request.b),
+            8 if !is_subtype(request.a) => self.open(request.a, request.b),
             9 => self.give_up(Kind::File, request.a as usize),
             11 => {
                 let file = Seid::of(request.a).index;
@@ -540,7 +548,7 @@ impl Scene<'_> {
         for (kind, entries) in [(Kind::File, DESCRIPTORS), (Kind::Segment, DESIGNATORS)] {
             let held: Vec<u32> = (0..ENTRIES)
                 .map(|place| self.before.entry(self.shape, process, entries, place).0)
-                .filter(|&seid| seid != 0)
+                .filter(|&seid| seid != 0 && !is_subtype(seid))
                 .collect();
             let stale = held.iter().any(|&seid| self.before.stale(self.shape, kind, seid));
             self.tally.met("release of a process with stale entries", stale);
@@ -566,6 +574,9 @@ impl Scene<'_> {
     fn give_up(&mut self, kind: Kind, place: usize) {
         let entries = if kind == Kind::File { DESCRIPTORS } else { DESIGNATORS };
         let (seid, _) = self.before.entry(self.shape, self.caller, entries, place);
+        if is_subtype(seid) {
+            return;
+        }
         let index = Seid::of(seid).index;
         let stale = self.before.stale(self.shape, kind, seid);
         let own = self.shape.cell(kind, index) == self.shape.cell(Kind::Process, self.caller);
@@ -676,7 +687,7 @@ impl Scene<'_> {
         let request = self.call.request;
         let cell = self.shape.cell(Kind::Process, self.caller);
         match (request.code, error) {
-            (8, 19) => {
+            (8, 19) if !is_subtype(request.a) => {
                 let held = self.has_open(self.caller, request.a, |modes| plain::clash(modes, request.b));
                 self.tally.met("open refused by the caller's own descriptor", held);
                 self.tally.met("open refused by another process's descriptor alone", !held);

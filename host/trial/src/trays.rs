@@ -10,7 +10,7 @@ use crate::rng::Rng;
 use crate::secrecy::{
     Seen, choose, contents, guards, regrade, regrades, same_of, seen_by, share_blocks, some_cell, sources, view,
 };
-use crate::tables::{self, Limits, World};
+use crate::tables::{self, Limits, World, is_subtype};
 use crate::tally::CODES;
 use plain::table::BLOCK_BYTES;
 use plain::{Kind, MOST_RECORDS, Record, Request, Shape};
@@ -59,6 +59,10 @@ pub struct Met {
     pub paired_regrades: u64,
     pub refused_alone: u64,
     pub visible_regrades: u64,
+    /// Subtypes opened, files created with one, and calls refused for want of one or for the wrong one.
+    pub subtypes: u64,
+    pub subtyped: u64,
+    pub mismatched: u64,
 }
 
 impl Met {
@@ -92,6 +96,9 @@ impl Met {
             self.paired_regrades,
             self.refused_alone,
             self.visible_regrades,
+            self.subtypes,
+            self.subtyped,
+            self.mismatched,
         ];
         let asking = (1..=CODES as u32).filter(|&code| calls::asked(code).is_some());
         let each = self.long_by_65536.keys().copied().eq(asking);
@@ -237,6 +244,9 @@ fn note(met: &mut Met, record: &Record, bytes: usize, written: &[bool]) {
         0 => met.done += 1,
         _ => met.refused += 1,
     }
+    met.subtypes += u64::from(record.error == 0 && record.code == 8 && is_subtype(record.a));
+    met.subtyped += u64::from(record.error == 0 && record.code == 7 && record.c != 0);
+    met.mismatched += u64::from(matches!(record.error, 35 | 36));
     if inside(record, bytes) {
         let part = record.offset as usize..end as usize;
         met.overlapping +=

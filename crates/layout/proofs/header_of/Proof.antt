@@ -1,7 +1,7 @@
 -- `layout::header_of` meets its contract: the header's words, each as the rules have it.
 use mathlib.Core.Path.{refl}
 use borrow.Author.Needs.{needs}
-use Rattle.rules.specs.Layout.{cells, slots, blocks, guard}
+use Rattle.rules.specs.Layout.{cells, slots, blocks, guard, subtypes}
 use Rattle.layout.proofs.header_of.Statement.{statement}
 use Rattle.layout.proofs.header_of.Tie as tie
 
@@ -29,8 +29,11 @@ shared-slice-read-blocks c = search needs
 shared-slice-read-guard : tie.Need-shared-slice-read-guard
 shared-slice-read-guard c = search needs
 
+shared-slice-read-subtypes : tie.Need-shared-slice-read-subtypes
+shared-slice-read-subtypes c = search needs
+
 returns-2 : tie.Need-returns-2
-unfolding cells slots blocks guard
+unfolding cells slots blocks guard subtypes
 returns-2 c = refl
 
 pub header-of-spec : {M : Type 1} → statement M
@@ -45,4 +48,5 @@ header-of-spec =
     shared-slice-read-files
     shared-slice-read-blocks
     shared-slice-read-guard
+    shared-slice-read-subtypes
     returns-2)

@@ -30,7 +30,7 @@ slice-aggregate-objects-ok c = search needs
 objects-ok-requires : tie.Need-objects-ok-requires
 objects-ok-requires c κs =
     let at-processes-ok = c .before .before .before .before in let at-opens = at-processes-ok .before in
-    (given at-opens .pre .0, at-processes-ok .processes-ok .ensures .1 .0 (passed _ (c .before .if1 .left)))
+    (given at-opens .pre .0, given at-opens .pre .2, at-processes-ok .processes-ok .ensures .1 .0 (passed _ (c .before .if1 .left)))
 
 slice-aggregate-objects-ok-2 : tie.Need-slice-aggregate-objects-ok-2
 slice-aggregate-objects-ok-2 c = search needs
@@ -38,7 +38,7 @@ slice-aggregate-objects-ok-2 c = search needs
 objects-ok-requires-2 : tie.Need-objects-ok-requires-2
 objects-ok-requires-2 c κs =
     let at-if1 = c .before .before .before in let at-processes-ok = at-if1 .before .before .before in let at-opens = at-processes-ok .before in
-    (given at-opens .pre .0, at-processes-ok .processes-ok .ensures .1 .1 (passed _ (at-if1 .if1 .left)))
+    (given at-opens .pre .0, given at-opens .pre .3, at-processes-ok .processes-ok .ensures .1 .1 (passed _ (at-if1 .if1 .left)))
 
 returns-2 : tie.Need-returns-2
 returns-2 c =

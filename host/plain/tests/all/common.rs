@@ -27,6 +27,9 @@ pub const REGRADE: u32 = 21;
 /// Security, integrity, compartments; process, segment and file slots; owner, group.
 pub type Cell = [u32; 8];
 
+/// Cell, owner, group, bits.
+pub type Subtype = [u32; 4];
+
 #[derive(Clone, Debug, PartialEq)]
 pub struct Hall {
     pub table: Vec<u32>,
@@ -35,11 +38,16 @@ pub struct Hall {
 
 impl Hall {
     pub fn unset(cells: &[Cell], blocks: u32) -> Hall {
+        Hall::unset_with(cells, &[], blocks)
+    }
+
+    pub fn unset_with(cells: &[Cell], subtypes: &[Subtype], blocks: u32) -> Hall {
         let sum = |word: usize| cells.iter().map(|cell| cell[word]).sum::<u32>();
         let (processes, segments, files) = (sum(3), sum(4), sum(5));
-        let mut table = vec![cells.len() as u32, processes, segments, files, blocks, 0, 0, 0];
+        let mut table = vec![cells.len() as u32, processes, segments, files, blocks, 0, subtypes.len() as u32, 0];
         table.extend(cells.concat());
-        table.resize(table.len() + (112 * processes + 8 * segments + 8 * files) as usize, 0);
+        table.extend(subtypes.concat());
+        table.resize(table.len() + (112 * processes + 8 * segments + 9 * files) as usize, 0);
         Hall { table, store: vec![0; (files * blocks * 512) as usize] }
     }
 
@@ -49,7 +57,12 @@ impl Hall {
 
     /// With a guard word.
     pub fn guarded(cells: &[Cell], blocks: u32, guard: u32) -> Hall {
-        let mut hall = Hall::unset(cells, blocks);
+        Hall::subtyped(cells, &[], blocks, guard)
+    }
+
+    /// With subtypes, and a guard word.
+    pub fn subtyped(cells: &[Cell], subtypes: &[Subtype], blocks: u32, guard: u32) -> Hall {
+        let mut hall = Hall::unset_with(cells, subtypes, blocks);
         hall.table[5] = guard;
         assert_eq!(setup(&mut hall.table, hall.store.len()), Error::XOK);
         assert!(hall.good());
@@ -126,23 +139,24 @@ impl Hall {
         }
     }
 
-    fn cells(&self) -> usize {
-        self.table[0] as usize
+    /// The first word of all records: behind header, cells and subtypes.
+    fn records(&self) -> usize {
+        8 + 8 * self.table[0] as usize + 4 * self.table[6] as usize
     }
 
     pub fn process(&mut self, index: usize) -> &mut [u32] {
-        let at = 8 + 8 * self.cells() + 112 * index;
+        let at = self.records() + 112 * index;
         &mut self.table[at..at + 112]
     }
 
     pub fn segment(&mut self, index: usize) -> &mut [u32] {
-        let at = 8 + 8 * self.cells() + 112 * self.table[1] as usize + 8 * index;
+        let at = self.records() + 112 * self.table[1] as usize + 8 * index;
         &mut self.table[at..at + 8]
     }
 
     pub fn file(&mut self, index: usize) -> &mut [u32] {
-        let at = 8 + 8 * self.cells() + 112 * self.table[1] as usize + 8 * self.table[2] as usize + 8 * index;
-        &mut self.table[at..at + 8]
+        let at = self.records() + 112 * self.table[1] as usize + 8 * self.table[2] as usize + 9 * index;
+        &mut self.table[at..at + 9]
     }
 }
 
@@ -156,4 +170,8 @@ pub fn segment(index: u32, serial: u32) -> u32 {
 
 pub fn file(index: u32, serial: u32) -> u32 {
     129 * 16777216 + index * 65536 + serial
+}
+
+pub fn subtype(index: u32) -> u32 {
+    6 * 16777216 + index * 65536 + 1
 }

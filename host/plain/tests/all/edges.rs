@@ -17,9 +17,10 @@ fn script(words: &[u32]) -> Vec<u8> {
     bytes
 }
 
-/// The configuration of the listing: two cells, security 1 and 3, two process and two file slots each, B 1, no guard.
+/// The configuration of the listing: two cells, security 1 and 3, two process and two file slots each, B 1, no guard, no
+/// subtypes.
 fn listing_configuration() -> Vec<u8> {
-    script(&[2, 4, 0, 4, 1, 0, 1, 0, 0, 2, 0, 2, 0, 0, 3, 0, 0, 2, 0, 2, 0, 0])
+    script(&[2, 4, 0, 4, 1, 0, 0, 1, 0, 0, 2, 0, 2, 0, 0, 3, 0, 0, 2, 0, 2, 0, 0])
 }
 
 #[test]
@@ -56,7 +57,8 @@ fn the_listing() {
 fn error_names() {
     let names = "XOK XbTab XbPrSd XbdKcl XbParam XbSz XbSgSz XbadModes XnSgDes XbSgDes XbadOd XbSgSd XnoObj XnoAcc XnoOwner \
                  XnoPriv XdapViol XsgNoAcc XdupSg Xbusy XnotReadable XnotWritable XbadBlockNo XendOfFile XbadLink XodSpace \
-                 XnoSpace XnoProc XpostEh XbNoMes XoutSgAldUmp XinSgAldMap XvrtMmCfl XshSg XnoSPriv";
+                 XnoSpace XnoProc XpostEh XbNoMes XoutSgAldUmp XinSgAldMap XvrtMmCfl XshSg XnoSPriv XbadStCap \
+                 XbadSubtypeMatch";
     let errors = [
         XOK,
         XbTab,
@@ -93,6 +95,8 @@ fn error_names() {
         XvrtMmCfl,
         XshSg,
         XnoSPriv,
+        XbadStCap,
+        XbadSubtypeMatch,
     ];
     assert_eq!(names.split_whitespace().count(), errors.len());
     for (at, (name, error)) in names.split_whitespace().zip(errors).enumerate() {
@@ -227,7 +231,7 @@ fn tempting_a_higher_reader_is_not_counted() {
     assert_eq!(hall.segment(0), lower);
     // It neither keeps the file nor is asked when it goes, and it does not block an exclusive open.
     hall.done(0, CLOSE, [0; 3]);
-    assert_eq!(hall.file(0), [0, 1, 0, 0, 0, 0, 0, 0]);
+    assert_eq!(hall.file(0), [0, 1, 0, 0, 0, 0, 0, 0, 0]);
     let seid = hall.done(0, CREATE, [420, 3, 0]).0;
     hall.done(3, OPEN, [seid, 1, 0]);
     hall.done(0, LINK, [seid, 0, 0]);

@@ -4,3 +4,4 @@ mod common;
 mod edges;
 mod readings;
 mod requests;
+mod subtypes;

@@ -123,7 +123,7 @@ fn r06_release() {
     hall.done(2, RELEASE, [0; 3]);
     hall.done(0, RELEASE, [0; 3]);
     assert!(hall.good(), "a cell may have no live process");
-    assert_eq!(hall.file(0), [0, 1, 0, 0, 0, 0, 0, 0]);
+    assert_eq!(hall.file(0), [0, 1, 0, 0, 0, 0, 0, 0, 0]);
 }
 
 #[test]
@@ -251,9 +251,9 @@ fn r12_r13_links_and_freeing() {
     assert_eq!(hall.file(0)[0], 1, "still open");
     hall.done(0, LINK, [seid, 0, 0]);
     hall.done(0, CLOSE, [0; 3]);
-    assert_eq!(hall.file(0), [1, 1, 7, 7, 0o600, 1, 3, 0]);
+    assert_eq!(hall.file(0), [1, 1, 7, 7, 0o600, 1, 3, 0, 0]);
     hall.done(0, UNLINK, [seid, 0, 0]);
-    assert_eq!(hall.file(0), [0, 1, 0, 0, 0, 0, 0, 0]);
+    assert_eq!(hall.file(0), [0, 1, 0, 0, 0, 0, 0, 0, 0]);
     assert_eq!(hall.store, store, "freeing never touches the store");
     assert_eq!(hall.error(0, LINK, [seid, 0, 0]), XnoObj);
     assert_eq!(hall.error(0, CLOSE, [0; 3]), XbadOd);
@@ -340,7 +340,7 @@ fn r17_buffers_are_judged_only_where_named() {
     let mut hall = one_cell();
     for length in [0, 11, 12, 13, 15, 16, 17, 511, 512, 513] {
         let mut buffer = vec![0x5a; length];
-        assert_eq!(hall.with(0, CREATE, [0, 1, 7], &mut buffer).error, XOK);
+        assert_eq!(hall.with(0, CREATE, [0, 1, 0], &mut buffer).error, XOK);
         assert_eq!(hall.with(0, CLOSE, [0, 9, 9], &mut buffer).error, XOK);
         assert_eq!(hall.with(1, 99, [0; 3], &mut buffer).error, XbPrSd);
         for (code, asked) in [(READ, 512), (WRITE, 512), (POST, 12), (RECEIVE, 16), (STATUS, 16)] {
@@ -364,7 +364,7 @@ fn r18_r22_r23_what_is_well_formed() {
     hall.process(0)[72] = process(1, 10);
     assert!(!hall.good(), "newer than its slot");
     hall.process(0)[72] = process(1, 9);
-    hall.file(0).copy_from_slice(&[1, 4, 0, 0, 0, 0, 2, 2]);
+    hall.file(0).copy_from_slice(&[1, 4, 0, 0, 0, 0, 2, 2, 0]);
     hall.process(0)[8..12].copy_from_slice(&[file(0, 4), 15, file(0, 4), 15]);
     assert!(hall.good());
     hall.segment(0).copy_from_slice(&[1, 4, 0, 0, 0, 0, 512, 1]);
@@ -413,7 +413,7 @@ fn r19_r20_r24_setup() {
         (3, &[1, 3, 257]),
         (4, &[0, 63, 65]),
         (5, &[3, 17, u32::MAX]),
-        (6, &[1]),
+        (6, &[1, 17, u32::MAX]),
         (7, &[1]),
         (8, &[16]),
         (9, &[16]),
@@ -446,8 +446,8 @@ fn r19_r20_r24_setup() {
 fn r25_r26_replay() {
     let bad = b"bad configuration\n".to_vec();
     let heading = b"n error first second\n".to_vec();
-    // One cell, one process, no segments, one file, B 1, no guard.
-    let configuration = [1, 1, 0, 1, 1, 0, 0, 0, 0, 1, 0, 1, 0, 0];
+    // One cell, one process, no segments, one file, B 1, no guard, no subtypes.
+    let configuration = [1, 1, 0, 1, 1, 0, 0, 0, 0, 0, 1, 0, 1, 0, 0];
     assert_eq!(replay(&[]), bad);
     assert_eq!(replay(&configuration), heading);
     for cut in 0..configuration.len() {
@@ -476,7 +476,7 @@ fn r25_r26_replay() {
     let listing = body(&[&create[..], &block(14, 0xa5), &block(13, 0)].concat());
     assert_eq!(listing, format!("1 XOK 2164260865 0\n2 XOK 0 0\n3 XOK 0 0 {}\n", "a5".repeat(512)));
     // Files x B is at most 64, also where 01's table would take more.
-    let many = |files: u8, blocks: u8| replay(&[1, 1, 0, files, blocks, 0, 0, 0, 0, 1, 0, files, 0, 0]);
+    let many = |files: u8, blocks: u8| replay(&[1, 1, 0, files, blocks, 0, 0, 0, 0, 0, 1, 0, files, 0, 0]);
     assert_eq!(many(64, 1), heading);
     assert_eq!(many(1, 64), heading);
     assert_eq!(many(0, 64), heading);
@@ -486,8 +486,9 @@ fn r25_r26_replay() {
     assert_eq!(many(0, 65), bad);
     assert_eq!(many(65, 1), bad);
     // 64 slots of a kind are as many as replay takes, though set-up takes more.
-    let slots =
-        |processes: u8, segments: u8| replay(&[1, processes, segments, 1, 1, 0, 0, 0, 0, processes, segments, 1, 0, 0]);
+    let slots = |processes: u8, segments: u8| {
+        replay(&[1, processes, segments, 1, 1, 0, 0, 0, 0, 0, processes, segments, 1, 0, 0])
+    };
     assert_eq!(slots(64, 64), heading);
     assert_eq!(slots(65, 64), bad);
     assert_eq!(slots(64, 65), bad);

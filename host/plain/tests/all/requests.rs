@@ -390,7 +390,7 @@ fn r18_the_guard() {
         assert_eq!(hall.good(), good);
         assert!(good || hall == before);
         if guard < 128 {
-            let input = [2, 2, 0, 2, 1, guard as u8, 1, 0, 0, 1, 0, 1, 0, 0, 3, 0, 0, 1, 0, 1, 0, 0];
+            let input = [2, 2, 0, 2, 1, guard as u8, 0, 1, 0, 0, 1, 0, 1, 0, 0, 3, 0, 0, 1, 0, 1, 0, 0];
             let listing = if good { "n error first second\n" } else { "bad configuration\n" };
             assert_eq!(String::from_utf8(plain::replay(&input)).unwrap(), listing);
         }

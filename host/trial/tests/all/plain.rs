@@ -1,6 +1,6 @@
 //! The plain monitor by itself, on random tables: what every monitor of document 01 must keep, and what it must not tell.
 
-use plain::table::{BITS, BLOCK_BYTES, LIVE, MAP, PAGES, SERIAL, SHARABLE};
+use plain::table::{BITS, BLOCK_BYTES, LIVE, MAP, PAGES, SERIAL, SHARABLE, SUBTYPE};
 use plain::{Kind, Shape};
 use trial::images::Images;
 use trial::tally::Tally;
@@ -78,11 +78,20 @@ impl Run {
             let released = !world.live(shape, Kind::Process, process);
             assert!(kept || released, "the map of process {process} was changed: {call:?}");
         }
-        for segment in 0..shape.count(Kind::Segment) {
-            let word = |world: &World, word: usize| world.table[shape.at(Kind::Segment, segment) + word];
-            let lives_on = [LIVE, SERIAL].iter().all(|&at| word(world, at) == word(before, at));
-            let fixed = word(before, SHARABLE) == 1 && lives_on;
-            assert!(!fixed || word(world, BITS) == word(before, BITS), "a sharable segment's bits: {call:?}");
+        let records = shape.at(Kind::Process, 0);
+        assert_eq!(world.table[..records], before.table[..records], "the configuration was changed: {call:?}");
+        let word = |world: &World, kind: Kind, index: usize, word: usize| world.table[shape.at(kind, index) + word];
+        let lives_on = |kind: Kind, index: usize| {
+            [LIVE, SERIAL].iter().all(|&at| word(world, kind, index, at) == word(before, kind, index, at))
+        };
+        for segment in (0..shape.count(Kind::Segment)).filter(|&segment| lives_on(Kind::Segment, segment)) {
+            let [bits, old_bits] = [world, before].map(|world| word(world, Kind::Segment, segment, BITS));
+            let fixed = word(before, Kind::Segment, segment, SHARABLE) == 1;
+            assert!(!fixed || bits == old_bits, "a sharable segment's bits: {call:?}");
+        }
+        for file in (0..shape.count(Kind::File)).filter(|&file| lives_on(Kind::File, file)) {
+            let [subtype, old_subtype] = [world, before].map(|world| word(world, Kind::File, file, SUBTYPE));
+            assert_eq!(subtype, old_subtype, "a file's subtype: {call:?}");
         }
         assert_eq!(Plain.check(&world.table, world.store.len()), 0, "left a bad table: {call:?}");
     }

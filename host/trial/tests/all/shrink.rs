@@ -1,5 +1,6 @@
 //! The trials' reports: a monitor with a fault is tried, and the calls that show it come out few and readable.
 
+use plain::table::{FILE_WORDS, LINKS};
 use std::path::PathBuf;
 use std::process::Command;
 use trial::shrink::{found, shrink};
@@ -80,7 +81,7 @@ fn run(rng: &mut Rng, monitor: &Faulty, start: &World, calls: usize) -> Option<V
 fn from_setup() {
     let monitor = Faulty(|table, request, [error, ..]| {
         let last = table[3] - 1;
-        let links = table[table.len() - 8 + 5];
+        let links = table[table.len() - FILE_WORDS + LINKS];
         request.code == 10 && error == 0 && links == 1 && request.a >> 16 & 255 == last
     });
     let mut rng = Rng::for_trial("from_setup", 4);
@@ -99,7 +100,8 @@ fn from_setup() {
 
     let bytes = found.script().bytes;
     let told = scripts::text(&bytes, &monitor);
-    assert_eq!(told.lines().count(), 1 + found.start.table[0] as usize + codes.len());
+    let shape = found.start.shape();
+    assert_eq!(told.lines().count(), 1 + shape.cells + shape.subtypes().len() + codes.len());
     assert_eq!(by_tool(&told, "from_setup"), bytes);
 }
 

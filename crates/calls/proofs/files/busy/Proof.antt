@@ -1,6 +1,5 @@
 -- `files::busy` meets its contract: the search is made only where nothing refused, and for the own cell.
 use mathlib.Core.Bool.{and-false}
-use Rattle.calls.proofs.Opens.{own-cell}
 use borrow.Author.Tests.{eq-eqb, ne-eqb}
 use lib.Dec.{eqb}
 use mathlib.Core.Path.{sym}
@@ -8,10 +7,7 @@ use Rattle.calls.proofs.files.busy.Statement.{statement}
 use Rattle.calls.proofs.files.busy.Tie as tie
 
 any-clash-requires : tie.Need-any-clash-requires
-any-clash-requires c κs =
-    let pre = c .before .before .before .pre in
-    let good = pre .1 (c .before .if1 .taken) in
-    (pre .0, good, own-cell (pre .0) good (pre .2) (c .if2 .taken))
+any-clash-requires c κs = let pre = c .before .before .before .pre in (pre .0, pre .1 (c .before .if1 .taken) (c .if2 .taken))
 
 returns : tie.Need-returns
 returns c = rw (eq-eqb _ 0 (c .before .before .if1 .taken), c .before .if2 .taken) (c .any-clash .ensures)

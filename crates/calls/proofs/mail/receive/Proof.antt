@@ -1,5 +1,5 @@
 -- `mail::receive` meets its contract: the message is shown before the queue moves up.
-use Rattle.calls.proofs.Queues.{messages-within, receive-refused, receive-done}
+use Rattle.calls.proofs.Queues.{messages-near, messages-within, receive-refused, receive-done}
 use native.Mathlib.Omega.{arith}
 use borrow.Author.Needs.{needs}
 use Rattle.calls.proofs.mail.receive.Statement.{statement}
@@ -51,7 +51,7 @@ move-up-requires : tie.Need-move-up-requires
 move-up-requires c κs =
     let at-write = c .before .before .before in let at-record-at = at-write .before .before .before .before .before .before .before .before in
     let at-start = at-record-at .before .before .before .before .before .before .before .before in
-    (omega arith, omega arith, messages-within (at-start .pre) _ _ (at-record-at .record-at .ensures .0) (at-write .write .ensures))
+    (messages-near (at-start .pre) (at-record-at .record-at .ensures .0), omega arith, messages-within (at-start .pre) _ _ (at-record-at .record-at .ensures .0) (at-write .write .ensures))
 
 add-clear : tie.Need-add-clear
 add-clear c = search needs

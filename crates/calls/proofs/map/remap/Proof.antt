@@ -5,9 +5,9 @@ use mathlib.Core.List.{List, [], _∷_}
 use Prim.Native.Nat.{ℕ, _+_, _≤_}
 use native.Mathlib.Omega.{arith}
 use lib.Dec.{ltb, eqb}
-use borrow.Author.Tests.{ltb-true, ltb-false, lt-leb}
+use borrow.Author.Tests.{ltb-true, ltb-false, lt-leb, eqb-false}
 use Rattle.rules.specs.Layout.{process, segment, configuration, at, entries, heldAt, pageAt, size}
-use Rattle.rules.specs.Seid.{present}
+use Rattle.rules.specs.Seid.{formed, present}
 use Rattle.rules.specs.Errors.{XnSgDes, XbSgDes, XbSgSd, XoutSgAldUmp, XinSgAldMap, XvrtMmCfl}
 use Rattle.rules.specs.Rule.{Word, write, _⇒_, firstRefusal}
 use Rattle.rules.specs.Find.{stale, pageLeft, pagesSet}
@@ -25,7 +25,7 @@ use Rattle.calls.specs.Map.{held, mapOf, leftBy, takenBy, runOf, remapTe
 use Rattle.laws.proofs.Refusals.{clear}
 use Rattle.calls.proofs.Refusals.{refusing-first}
 use Rattle.calls.proofs.Leaves.{left-refused, left-done}
-use Rattle.calls.proofs.SegmentsLaws.{after, entry-named}
+use Rattle.calls.proofs.SegmentsLaws.{after, entry-formed, entry-named}
 use Rattle.calls.proofs.MapLaws.{mapped-is, still-mapped, conflict-is, taken-is}
 use borrow.Author.Needs.{needs}
 use Rattle.calls.proofs.map.remap.Statement.{statement}
@@ -43,7 +43,10 @@ module _ {t : List ℕ} {n : Header} {c : Caller} (sound : Sound t n c) (a b d :
   -- a filled entry names what is seen
   module _ (comes : named a ≡ true) (some : eqb s 0 ≡ false) where
     seen-named : g ≡ seenAs (configuration t) (wordsOf t) (c .slot) segment (nameOf s)
-    seen-named = seen ∙ rw (x-is, entry-named sound segment refl a (lt-leb entries a (ltb-true a entries comes)) some)
+    seen-named = seen ∙ rw (x-is, entry-named sound a (lt-leb entries a (ltb-true a entries comes)) some)
+
+    formed-so : formed (configuration t) segment s ≡ true
+    formed-so = entry-formed sound (c .slot) a (sound .caller) (ltb-true a entries comes) (eqb-false s 0 some)
 
     run-named : run ≡ pagesOf (wordsOf t) s
     unfolding pagesOf
@@ -56,7 +59,7 @@ module _ {t : List ℕ} {n : Header} {c : Caller} (sound : Sound t n c) (a b d :
   later : (named a && eqb s 0) || (named d && eqb (wordsOf t (at process (c .slot) (heldAt segment d))) 0) ≡ false
       → firstRefusal ((named a && not (g .present) ⇒ XbSgSd) ∷ (named d && not (isMapped (held m) d) ⇒ XoutSgAldUmp)
       ∷ (named a && isMapped (held rest) a ⇒ XinSgAldMap) ∷ (named a && conflict (held rest) b run ⇒ XvrtMmCfl) ∷ [])
-      ≡ firstRefusal ((named a && stale (wordsOf t) segment s ⇒ XbSgSd)
+      ≡ firstRefusal ((named a && stale (configuration t) (wordsOf t) segment s ⇒ XbSgSd)
       ∷ (named d && not (isMapped (λ g. wordsOf t (at process (c .slot) (pageAt g))) d) ⇒ XoutSgAldUmp)
       ∷ (named a && isMapped (pageLeft (wordsOf t) (c .slot) d) a ⇒ XinSgAldMap)
       ∷ (named a && conflict (pageLeft (wordsOf t) (c .slot) d) b (pagesOf (wordsOf t) s) ⇒ XvrtMmCfl) ∷ [])
@@ -67,7 +70,7 @@ module _ {t : List ℕ} {n : Header} {c : Caller} (sound : Sound t n c) (a b d :
         still-mapped (wordsOf t) (c .slot) d map-is left-is a,
         conflict-is (wordsOf t) (c .slot) d map-is left-is b run,
       )
-      (split _ (named a) (λ e. rw (e, seen-named e (some-in z e), run-named e (some-in z e))) (λ e. rw e))
+      (split _ (named a) (λ e. rw (e, formed-so e (some-in z e), seen-named e (some-in z e), run-named e (some-in z e))) (λ e. rw e))
 
   -- the first of the code's refusals is the rule's
   number : firstRefusal (remapTests a b d (x .held) (y .held) (g .present) run m rest)

@@ -4,7 +4,7 @@ use mathlib.Core.Bool.{true}
 use mathlib.Core.List.{List, []}
 use Prim.Native.Nat.{ℕ, _<_}
 use borrow.Author.Tests.{eqb-true}
-use Rattle.rules.specs.Layout.{Kind, process, segment, file, configuration, slots, cellOf}
+use Rattle.rules.specs.Layout.{Kind, process, file, configuration, slots, cellOf}
 use Rattle.rules.specs.Seid.{formed, orSelf}
 use Rattle.rules.specs.Rule.{firstRefusal, write}
 use Rattle.rules.specs.Call02.{released, releaseProcess}
@@ -20,7 +20,6 @@ use Rattle.laws.proofs.Refusals.{clear}
 use Rattle.calls.proofs.Refusals.{refusing-first}
 use Rattle.calls.proofs.Looks.{slot-is, own-is, slot-in, own-first, form-past}
 use Rattle.calls.proofs.Leaves.{left-refused, left-done}
-use Rattle.calls.proofs.SegmentsLaws.{entry-formed}
 use Rattle.calls.proofs.ProcessesLaws.{then-segments, released-is}
 use borrow.Author.Needs.{needs}
 use Rattle.calls.proofs.processes.release_process.Statement.{statement}
@@ -54,7 +53,6 @@ module _ {t : List ℕ} {n : Header} {c : Caller} (sound : Sound t n c) (a : ℕ
       at-all = record { known = sound .known; held = held; homed = at-home };
       words = sound .words;
       here = here;
-      formed = λ d l. entry-formed sound k held (g .slot) d here l;
     }
 
     words : (buffer : List ℕ) {u : List ℕ} → u ≡ write (configuration t) t (released (configuration t) (wordsOf t) (g .slot))
@@ -108,7 +106,7 @@ drop-entries-requires c κs = held c file refl
 drop-entries-requires-2 : tie.Need-drop-entries-requires-2
 drop-entries-requires-2 c κs =
     let at-drop-entries = c .before .before .before in let at-drop-entries-arg = at-drop-entries .before in
-    then-segments _ (held at-drop-entries-arg file refl) (held at-drop-entries-arg segment refl) (at-drop-entries .drop-entries .ensures)
+    then-segments _ (held at-drop-entries-arg file refl) (at-drop-entries .drop-entries .ensures)
 
 record-at-requires : tie.Need-record-at-requires
 record-at-requires c κs = search needs
@@ -132,8 +130,7 @@ returns-2 c =
     at-drop-entries2) .args .a) buffer) (counted (judged at-drop-entries2) buffer) (at-if1 .if1 .left) (c .answered .ensures) (words (start
     (judged at-drop-entries2) .pre .0) (start (judged at-drop-entries2) .args .a)
     (judged at-drop-entries2 .before .before .before .before .or-self .ensures) (judged at-drop-entries2 .before .look .ensures) (sym (found
-    (judged at-drop-entries2)) ∙ (at-if1 .if1 .left)) buffer (released-is _ (held at-drop-entries-arg file refl)
-    (held at-drop-entries-arg segment refl) (at-drop-entries .drop-entries .ensures) (at-drop-entries2 .drop-entries2 .ensures)
+    (judged at-drop-entries2)) ∙ (at-if1 .if1 .left)) buffer (released-is _ (held at-drop-entries-arg file refl) (at-drop-entries .drop-entries .ensures) (at-drop-entries2 .drop-entries2 .ensures)
     (at-record-at .record-at .ensures .0) (at-free-record .free-record .ensures)))
 
 pub release-process-spec : {M : Type 1} → statement M

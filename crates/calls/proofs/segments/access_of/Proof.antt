@@ -11,6 +11,7 @@ use Rattle.calls.specs.declared.objects.Seen.{Seen}
 use Rattle.calls.specs.World.{Sound, wordsOf}
 use Rattle.calls.specs.Entries.{entryOf}
 use Rattle.calls.specs.Seen.{namedOf, seenOf}
+use borrow.Author.Tests.{leb-false, eqb-false}
 use Rattle.rules.specs.Layout.{process, segment, configuration, at, entries, heldAt}
 use Rattle.rules.specs.Seid.{present}
 use Rattle.rules.specs.Errors.{XnSgDes, XbSgDes, XbSgSd}
@@ -20,7 +21,7 @@ use Rattle.calls.specs.Left.{said, ruleAt}
 use Rattle.laws.proofs.Refusals.{clear}
 use Rattle.calls.proofs.Refusals.{refusing-first}
 use Rattle.calls.proofs.Leaves.{left-refused, left-done}
-use Rattle.calls.proofs.SegmentsLaws.{after, entry-named}
+use Rattle.calls.proofs.SegmentsLaws.{after, entry-formed, entry-named}
 use borrow.Author.Needs.{needs}
 use Rattle.calls.proofs.segments.access_of.Statement.{statement}
 use Rattle.calls.proofs.segments.access_of.Tie as tie
@@ -37,14 +38,14 @@ module _ {t : List ℕ} {n : Header} {c : Caller} (sound : Sound t n c) (a : ℕ
   unfolding accessOf present
   number = rw (seen, entry) (after (leb entries a) XnSgDes
       (λ l. after (eqb (wordsOf t (at process (c .slot) (heldAt segment a))) 0) XbSgDes
-      (λ s. rw (entry-named sound segment refl a l s))))
+      (λ s. rw (entry-named sound a l s, entry-formed sound (c .slot) a (sound .caller) (leb-false entries a l) (eqb-false _ 0 s)))))
 
   -- where there is none, the access is the rule's
   result : firstRefusal (tests a d g) ≡ 0 → limited (d .used) (g .rights) ≡ ruleAt t (λ h q. accessOf h q (c .slot) a buffer) .effects .first
   unfolding accessOf
   result z =
       let none = clear (tests a d g) refl z in
-      rw (seen, entry) (rw (entry-named sound segment refl a (none .0) (rw entry at (none .1 .0))))
+      rw (seen, entry) (rw (entry-named sound a (none .0) (rw entry at (none .1 .0))))
 
 abbrev looked : tie.After-or-refuse3 → tie.After-look
 looked c = c .before .before .before .before .before .before

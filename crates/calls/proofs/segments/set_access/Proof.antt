@@ -15,6 +15,7 @@ use native.Mathlib.Omega.{arith}
 use lib.ListN.{set}
 use Rattle.layout.specs.Header.{recordOf}
 use Rattle.calls.specs.Refusing.{orRefuse}
+use borrow.Author.Tests.{leb-false, eqb-false}
 use Rattle.rules.specs.Layout.{usedAt, process, segment, configuration, at, entries, heldAt}
 use Rattle.rules.specs.Rule.{_≔_, write, Refusal, _⇒_, firstRefusal}
 use Rattle.rules.specs.Seid.{present}
@@ -24,7 +25,7 @@ use Rattle.rules.specs.Call06.{setAccess}
 use Rattle.calls.specs.Left.{ruleAt}
 use Rattle.calls.proofs.Refusals.{refusing-first}
 use Rattle.calls.proofs.Leaves.{left-refused, left-done}
-use Rattle.calls.proofs.SegmentsLaws.{after, entry-named}
+use Rattle.calls.proofs.SegmentsLaws.{after, entry-formed, entry-named}
 use Rattle.calls.proofs.Worlds.{spot}
 use borrow.Author.Needs.{needs}
 use Rattle.calls.proofs.segments.set_access.Statement.{statement}
@@ -46,7 +47,7 @@ module _ {t : List ℕ} {n : Header} {c : Caller} (sound : Sound t n c) (a b : �
       rw (seen, entry)
       (after (not (validAccess b)) XbParam (λ v. after (leb entries a) XnSgDes
       (λ l. after (eqb (wordsOf t (at process (c .slot) (heldAt segment a))) 0) XbSgDes
-      (λ s. rw (entry-named sound segment refl a l s)))))
+      (λ s. rw (entry-named sound a l s, entry-formed sound (c .slot) a (sound .caller) (leb-false entries a l) (eqb-false _ 0 s))))))
 
 -- what the code finds, test after test
 chained : (a b : ℕ) (d : Entry) (g : Seen) {w e₁ e₂ e₃ e₄ e₅ e : ℕ} {may asks reads writes lacking : Bool} → may ≡ validAccess b → w ≡ a → asks ≡ asksWrite b

@@ -1,5 +1,5 @@
 -- `status::tell` meets its contract: a level's categories are bytes.
-use Rattle.calls.proofs.Statuses.{level-small, told-four}
+use Rattle.calls.proofs.Statuses.{level-here, level-small, told-four}
 use Rattle.laws.proofs.Shape.{shape-of}
 use Rattle.rules.specs.Layout.{configuration}
 use native.Mathlib.Omega.{arith}
@@ -27,7 +27,7 @@ put-four-bytes-requires-3 : tie.Need-put-four-bytes-requires-3
 put-four-bytes-requires-3 c κs =
     let at-put-four-bytes2 = c .before .before .before in let at-put-four-bytes = at-put-four-bytes2 .before .before .before .before in
     let at-level-at = at-put-four-bytes .before .before in let at-start = at-level-at .before .before .before in
-    let l = level-small _ _ (at-start .pre .0) (at-start .pre .2) (at-level-at .level-at .ensures) in (l .0, l .1, omega arith, omega arith)
+    let l = level-small _ _ (at-start .pre .0) (at-start .pre .2) (level-here _ _ (at-start .pre .2) (at-level-at .level-at .ensures)) in (l .0, l .1, omega arith, omega arith)
 
 put-four-bytes-requires-4 : tie.Need-put-four-bytes-requires-4
 put-four-bytes-requires-4 c κs = search needs
@@ -40,7 +40,8 @@ returns c =
     let at-put-four-bytes4 = c .before .before in let at-put-four-bytes3 = at-put-four-bytes4 .before .before .before .before in
     let at-put-four-bytes2 = at-put-four-bytes3 .before .before .before .before in
     let at-put-four-bytes = at-put-four-bytes2 .before .before .before .before in let at-level-at = at-put-four-bytes .before .before in
-    told-four _ _ _ _ _ _ _ (at-level-at .level-at .ensures) (at-put-four-bytes .put-four-bytes .ensures)
+    let at-start = at-level-at .before .before .before in
+    told-four _ _ _ _ _ _ _ (level-here _ _ (at-start .pre .2) (at-level-at .level-at .ensures)) (at-put-four-bytes .put-four-bytes .ensures)
     (at-put-four-bytes2 .put-four-bytes2 .ensures) (at-put-four-bytes3 .put-four-bytes3 .ensures) (at-put-four-bytes4 .put-four-bytes4 .ensures)
 
 pub tell-spec : {M : Type 1} → statement M

@@ -4,17 +4,11 @@ use borrow.Author.Needs.{needs}
 use Rattle.layout.proofs.Header.base.Statement.{statement}
 use Rattle.layout.proofs.Header.base.Tie as tie
 
+subtype-at-requires : tie.Need-subtype-at-requires
+subtype-at-requires c κs = search needs
+
 wide-requires : tie.Need-wide-requires
 wide-requires c κs = search needs
-
-mul-processes : tie.Need-mul-processes
-mul-processes c = search needs
-
-add-processes : tie.Need-add-processes
-add-processes c = search needs
-
-wide-requires-2 : tie.Need-wide-requires-2
-wide-requires-2 c κs = search needs
 
 mul-segments : tie.Need-mul-segments
 mul-segments c = search needs
@@ -22,8 +16,8 @@ mul-segments c = search needs
 add-segments : tie.Need-add-segments
 add-segments c = search needs
 
-wide-requires-3 : tie.Need-wide-requires-3
-wide-requires-3 c κs = search needs
+wide-requires-2 : tie.Need-wide-requires-2
+wide-requires-2 c κs = search needs
 
 mul-files : tie.Need-mul-files
 mul-files c = search needs
@@ -42,39 +36,37 @@ enum-told-3 c = search needs
 
 returns : tie.Need-returns
 returns c =
-    let at-wide3 = c .before .before in let at-wide2 = at-wide3 .before in let at-wide = at-wide2 .before in let at-start = at-wide .before in
+    let at-wide2 = c .before .before in let at-wide = at-wide2 .before in let at-subtype-at = at-wide .before in let at-start = at-subtype-at .before in
     rw (c .enum-told .given .1) (
-      omega (arith, at-wide .wide .ensures, at-wide2 .wide2 .ensures, at-wide3 .wide3 .ensures),
-      omega (arith, at-wide .wide .ensures, at-wide2 .wide2 .ensures, at-wide3 .wide3 .ensures, at-start .good),
+      omega (arith, at-subtype-at .subtype-at .ensures .0, at-wide .wide .ensures, at-wide2 .wide2 .ensures),
+      omega (arith, at-subtype-at .subtype-at .ensures .1, at-wide .wide .ensures, at-wide2 .wide2 .ensures, at-start .good),
     )
 
 returns-2 : tie.Need-returns-2
 returns-2 c =
-    let at-wide3 = c .before .before in let at-wide2 = at-wide3 .before in let at-wide = at-wide2 .before in let at-start = at-wide .before in
+    let at-wide2 = c .before .before in let at-wide = at-wide2 .before in let at-subtype-at = at-wide .before in let at-start = at-subtype-at .before in
     rw (c .enum-told2 .given .1) (
-      omega (arith, at-wide .wide .ensures, at-wide2 .wide2 .ensures, at-wide3 .wide3 .ensures),
-      omega (arith, at-wide .wide .ensures, at-wide2 .wide2 .ensures, at-wide3 .wide3 .ensures, at-start .good),
+      omega (arith, at-subtype-at .subtype-at .ensures .0, at-wide .wide .ensures, at-wide2 .wide2 .ensures),
+      omega (arith, at-subtype-at .subtype-at .ensures .1, at-wide .wide .ensures, at-wide2 .wide2 .ensures, at-start .good),
     )
 
 returns-3 : tie.Need-returns-3
 returns-3 c =
-    let at-wide3 = c .before .before in let at-wide2 = at-wide3 .before in let at-wide = at-wide2 .before in let at-start = at-wide .before in
+    let at-wide2 = c .before .before in let at-wide = at-wide2 .before in let at-subtype-at = at-wide .before in let at-start = at-subtype-at .before in
     rw (c .enum-told3 .given .1) (
-      omega (arith, at-wide .wide .ensures, at-wide2 .wide2 .ensures, at-wide3 .wide3 .ensures),
-      omega (arith, at-wide .wide .ensures, at-wide2 .wide2 .ensures, at-wide3 .wide3 .ensures, at-start .good),
+      omega (arith, at-subtype-at .subtype-at .ensures .0, at-wide .wide .ensures, at-wide2 .wide2 .ensures),
+      omega (arith, at-subtype-at .subtype-at .ensures .1, at-wide .wide .ensures, at-wide2 .wide2 .ensures, at-start .good),
     )
 
 pub base-spec : {M : Type 1} → statement M
 base-spec =
     tie.close
     (tie.spec
+    subtype-at-requires
     wide-requires
-    mul-processes
-    add-processes
-    wide-requires-2
     mul-segments
     add-segments
-    wide-requires-3
+    wide-requires-2
     mul-files
     add-files
     enum-told

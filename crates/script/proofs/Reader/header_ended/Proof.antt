@@ -1,7 +1,10 @@
 -- `script::Reader::header_ended` meets its contract, way by way.
+use native.Mathlib.Omega.{arith}
 use borrow.Author.Needs.{needs}
-use borrow.Author.Tests.{lt-ltb, le-ltb, eq-eqb, ne-eqb}
+use mathlib.Core.Path.{sym, _∙_}
+use Rattle.laws.proofs.Tests.{passed, failed}
 use Rattle.script.specs.Take.{headerEnded}
+use Rattle.script.proofs.Counts.{fits-of}
 use Rattle.script.proofs.Reader.header_ended.Statement.{statement}
 use Rattle.script.proofs.Reader.header_ended.Tie as tie
 
@@ -11,35 +14,64 @@ word-requires c κs = search needs
 wide-requires : tie.Need-wide-requires
 wide-requires c κs = search needs
 
+word-requires-2 : tie.Need-word-requires-2
+word-requires-2 c κs = search needs
+
+wide-requires-2 : tie.Need-wide-requires-2
+wide-requires-2 c κs = search needs
+
+counts-fit-requires : tie.Need-counts-fit-requires
+counts-fit-requires c κs = search needs
+
 returns : tie.Need-returns
 unfolding headerEnded
-returns c = rw (← c .before .before .word .ensures, ← c .before .wide .ensures, eq-eqb _ _ (c .if1 .taken))
+returns c =
+    let at-fit = c .before in let at-wide2 = at-fit .before in let at-word2 = at-wide2 .before in let at-wide = at-word2 .before in
+    let at-word = at-wide .before in
+    let fit-told = sym (at-fit .counts-fit .ensures) ∙ failed _ (c .if1 .taken) in
+    rw (
+      ← at-word .word .ensures,
+      ← at-wide .wide .ensures,
+      ← at-word2 .word2 .ensures,
+      ← at-wide2 .wide2 .ensures,
+      fit-told,
+    )
 
-returns-2 : tie.Need-returns-2
-unfolding headerEnded
-returns-2 c = rw (← c .before .before .before .word .ensures, ← c .before .before .wide .ensures, ne-eqb _ _ (c .before .if1 .left), lt-ltb _ _ (c .if2 .taken))
+mul-last : tie.Need-mul-last
+mul-last c = search needs
 
-mul-awaiting : tie.Need-mul-awaiting
-mul-awaiting c = search needs
+mul-last-2 : tie.Need-mul-last-2
+mul-last-2 c = search needs
 
-sub-awaiting : tie.Need-sub-awaiting
-sub-awaiting c = search needs
+add-last : tie.Need-add-last
+add-last c = search needs
+
+sub-last : tie.Need-sub-last
+sub-last c =
+    let few = fits-of _ _ (sym (c .before .counts-fit .ensures) ∙ passed _ (c .if1 .left)) in
+    omega (arith, few .some-cells)
 
 cast-awaiting : tie.Need-cast-awaiting
-cast-awaiting c = search needs
+cast-awaiting c =
+    let few = fits-of _ _ (sym (c .before .counts-fit .ensures) ∙ passed _ (c .if1 .left)) in
+    omega (arith, few .few-cells, few .few-subtypes)
 
 awaiting-requires : tie.Need-awaiting-requires
 awaiting-requires c κs = search needs
 
-returns-3 : tie.Need-returns-3
+returns-2 : tie.Need-returns-2
 unfolding headerEnded
-returns-3 c =
+returns-2 c =
+    let at-if1 = c .before in let at-fit = at-if1 .before in let at-wide2 = at-fit .before in let at-word2 = at-wide2 .before in
+    let at-wide = at-word2 .before in let at-word = at-wide .before in
+    let fit-told = sym (at-fit .counts-fit .ensures) ∙ passed _ (at-if1 .if1 .left) in
     rw (
-      ← c .before .before .before .before .word .ensures,
-      ← c .before .before .before .wide .ensures,
+      ← at-word .word .ensures,
+      ← at-wide .wide .ensures,
+      ← at-word2 .word2 .ensures,
+      ← at-wide2 .wide2 .ensures,
+      fit-told,
       c .awaiting .ensures,
-      ne-eqb _ _ (c .before .before .if1 .left),
-      le-ltb _ _ (c .before .if2 .left),
     )
 
 pub header-ended-spec : {M : Type 1} → statement M
@@ -48,10 +80,14 @@ header-ended-spec =
     (tie.spec
     word-requires
     wide-requires
+    word-requires-2
+    wide-requires-2
+    counts-fit-requires
     returns
-    returns-2
-    mul-awaiting
-    sub-awaiting
+    mul-last
+    mul-last-2
+    add-last
+    sub-last
     cast-awaiting
     awaiting-requires
-    returns-3)
+    returns-2)

@@ -1,6 +1,6 @@
--- `held::judge_entry` meets its contract: an index that is no slot's decides, and else the entry is counted for its slot and judged.
+-- `held::judge_entry` meets its contract: an index that is no slot's leaves a subtype to be judged, and else the entry is counted for its slot and judged.
 use native.Mathlib.Omega.{arith}
-use mathlib.Core.Path.{sym, _∙_}
+use mathlib.Core.Path.{_∙_}
 use Prim.Native.Nat.{_<_}
 use lib.Dec.{eqb}
 use Rattle.rules.specs.Layout.{maxSlots, slots, configuration, rd}
@@ -41,16 +41,21 @@ index-in-requires c κs = search needs
 slots-requires : tie.Need-slots-requires
 slots-requires c κs = search needs
 
+subtype-entry-ok-requires : tie.Need-subtype-entry-ok-requires
+subtype-entry-ok-requires c κs = search needs
+
 returns : tie.Need-returns
 returns c =
-    let at-index-in = c .before .before in let at-start = at-index-in .before .before .before in
+    let at-if1 = c .before in let at-slots = at-if1 .before in let at-index-in = at-slots .before in
+    let at-start = at-index-in .before .before .before in
     let t = at-start .args .t .now in
     let k = kindOf (at-start .args .kind) in
-    let e = slots-read t (at-start .args .n) (at-start .pre .0 .0 .framed .header) k in (
-      sym (entry-out (configuration t) (rd (configuration t) t) k (at-start .args .mine) (at-start .args .s) (at-start .args .u) _
+    let e = slots-read t (at-start .args .n) (at-start .pre .0 .0 .framed .header) k in
+    let says = c .subtype-entry-ok .ensures in (
+      says ∙ entry-out (configuration t) (rd (configuration t) t) k (at-start .args .mine) (at-start .args .s) (at-start .args .u) _
           (at-start .pre .0 .4) (at-index-in .index-in .ensures)
-          (slots-few t (at-start .args .n) (at-start .pre .0 .0) k) (omega (arith, c .before .slots .ensures, c .if1 .taken))),
-      counted-none _ _,
+          (slots-few t (at-start .args .n) (at-start .pre .0 .0) k) (omega (arith, at-slots .slots .ensures, at-if1 .if1 .taken)),
+      counted-none (configuration t) k (at-start .args .mine) (at-start .args .s) _ _ _ says,
     )
 
 element-copy-out-index : tie.Need-element-copy-out-index
@@ -145,6 +150,7 @@ judge-entry-spec =
     (tie.spec
     index-in-requires
     slots-requires
+    subtype-entry-ok-requires
     returns
     element-copy-out-index
     index-requires

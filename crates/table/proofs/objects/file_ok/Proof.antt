@@ -1,4 +1,4 @@
--- `objects::file_ok` meets its contract: the record's words, one by one, and its count.
+-- `objects::file_ok` meets its contract: the record's words, one by one, its subtype and its count.
 use native.Mathlib.Omega.{arith}
 use mathlib.Core.Path.{ap, _∙_}
 use mathlib.Core.Bool.{Bool, _&&_}
@@ -50,6 +50,18 @@ shared-slice-read-wide-3 c = search needs
 wide-requires-3 : tie.Need-wide-requires-3
 wide-requires-3 c κs = search needs
 
+add-file-subtype-ok : tie.Need-add-file-subtype-ok
+add-file-subtype-ok c = search needs
+
+mul-file-subtype-ok : tie.Need-mul-file-subtype-ok
+mul-file-subtype-ok c = search needs
+
+shared-slice-read-file-subtype-ok : tie.Need-shared-slice-read-file-subtype-ok
+shared-slice-read-file-subtype-ok c = search needs
+
+file-subtype-ok-requires : tie.Need-file-subtype-ok-requires
+file-subtype-ok-requires c κs = search needs
+
 add-alive : tie.Need-add-alive
 add-alive c = search needs
 
@@ -67,7 +79,8 @@ wide-requires-4 c κs = search needs
 
 add-alive-2 : tie.Need-add-alive-2
 add-alive-2 c =
-    let at-wide2 = c .before .before .before .before in let at-shared-slice-known3 = at-wide2 .before in
+    let at-file-subtype-ok = c .before .before in let at-wide2 = at-file-subtype-ok .before .before .before .before in
+    let at-shared-slice-known3 = at-wide2 .before in
     let at-wide = at-shared-slice-known3 .before in let at-shared-slice-known2 = at-wide .before in
     let at-record-at = at-shared-slice-known2 .before in
     omega (
@@ -92,8 +105,9 @@ shared-slice-read-result c = search needs
 
 returns : tie.Need-returns
 returns c =
-    let at-wide4 = c .before .before in let at-wide3 = at-wide4 .before .before in let at-wide2 = at-wide3 .before .before in
-    let at-wide = at-wide2 .before .before in let at-record-at = at-wide .before .before in let at-start = at-record-at .before .before in
+    let at-wide4 = c .before .before in let at-file-subtype-ok = at-wide4 .before .before in
+    let at-wide3 = at-file-subtype-ok .before .before in let at-wide2 = at-wide3 .before .before in let at-wide = at-wide2 .before .before in
+    let at-record-at = at-wide .before .before in let at-start = at-record-at .before .before in
     ap (λ (b : Bool). b && eqb (getD (at-start .args .t .now) (at-record-at .record-at .result + opens) 0) (at-start .args .held))
     (c .before .record-ok .ensures) ∙ rw (
       at-wide4 .wide4 .ensures,
@@ -102,7 +116,7 @@ returns c =
       at-wide .wide .ensures,
     )
     (file-claim (at-start .args .t .now) (at-start .args .n) (at-start .pre .0) (at-start .args .f) _ (at-start .args .held)
-    (at-record-at .record-at .ensures) (at-start .pre .2))
+    (at-record-at .record-at .ensures) _ (at-file-subtype-ok .file-subtype-ok .ensures) (at-start .pre .3))
 
 pub file-ok-spec : {M : Type 1} → statement M
 file-ok-spec =
@@ -121,6 +135,10 @@ file-ok-spec =
     mul-wide-3
     shared-slice-read-wide-3
     wide-requires-3
+    add-file-subtype-ok
+    mul-file-subtype-ok
+    shared-slice-read-file-subtype-ok
+    file-subtype-ok-requires
     add-alive
     mul-alive
     shared-slice-read-alive

@@ -10,7 +10,7 @@ enum-told-2 : tie.Need-enum-told-2
 enum-told-2 c = search needs
 
 segment-ok-requires : tie.Need-segment-ok-requires
-segment-ok-requires c κs = rw (c .enum-told2 .given .1) at (c .before .before .before .pre)
+segment-ok-requires c κs = let given = rw (c .enum-told2 .given .1) at (c .before .before .before .pre) in (given .0, given .2, given .3)
 
 enum-told-3 : tie.Need-enum-told-3
 enum-told-3 c = search needs
@@ -19,7 +19,7 @@ file-ok-requires : tie.Need-file-ok-requires
 file-ok-requires c κs = rw (c .enum-told3 .given .1) at (c .before .before .before .pre)
 
 returns : tie.Need-returns
-returns c = search needs
+returns c = rw (c .enum-told .given .1)
 
 returns-2 : tie.Need-returns-2
 returns-2 c = rw (c .before .enum-told2 .given .1) (c .segment-ok .ensures)

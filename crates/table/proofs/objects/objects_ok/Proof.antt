@@ -16,11 +16,11 @@ use Rattle.table.proofs.Config.{slots-small}
 use Rattle.table.proofs.objects.objects_ok.Tie as tie
 
 abbrev Inv-loop : tie.InvT-loop
-Inv-loop t n kind counts ok₀ i₀ i-end ok i = (i ≤ i-end) × (i-end ≡ slots (configuration t) (kindOf kind)) ×
+Inv-loop t n kind cells counts ok₀ i₀ i-end ok i = (i ≤ i-end) × (i-end ≡ slots (configuration t) (kindOf kind)) ×
     (ok ≡ allBelow i (λ i. test (objectOk (configuration t) (rd (configuration t) t) (kindOf kind) i)))
 
 abbrev μ-loop : tie.MeasureT-loop
-μ-loop t n kind counts ok₀ i₀ i-end ok i = i-end - i
+μ-loop t n kind cells counts ok₀ i₀ i-end ok i = i-end - i
 
 slots-requires : tie.Need-slots-requires Inv-loop μ-loop
 slots-requires c κs = search needs
@@ -43,7 +43,7 @@ shared-slice-read-counted c =
       at-slots .slots .ensures,
       slots-small (at-start .args .n) (at-start .pre .0 .framed .small) (kindOf
           (at-start .args .kind)),
-      at-start .pre .1 .long,
+      at-start .pre .2 .long,
     )
 
 counted-requires : tie.Need-counted-requires Inv-loop μ-loop
@@ -54,7 +54,8 @@ unfolding ownEntries
 object-ok-requires c κs =
     let at-loop = c .before .before .before in let at-slots = at-loop .before in let at-start = at-slots .before .before .before in
     let l = at-loop .loop in
-    (at-start .pre .0, omega (arith, at-slots .slots .ensures), c .counted .ensures ∙ at-start .pre .1 .exact (l .i) (omega (arith, l .inv .1)))
+    let tally = at-start .pre .2 in
+    (at-start .pre .0, at-start .pre .1, omega (arith, at-slots .slots .ensures), c .counted .ensures ∙ tally .exact (l .i) (omega (arith, l .inv .1)))
 
 add-i : tie.Need-add-i Inv-loop μ-loop
 add-i c = search needs

@@ -198,12 +198,12 @@ returns c =
             let right = right-segments (configuration t) (rd (configuration t) t) p alive (sym says ∙ good) in
             live-counted t n (s .pre .0 .0) p _ mine segment (λ d. (omega arith, omega arith)) _ (at-entry-at2 .entry-at2 .ensures .0) _ _ _
             (at-designators-ok .designators-ok .ensures .1) (held ∙ and-both _ _ right
-            (right-once (configuration t) (rd (configuration t) t) p alive (sym says ∙ good))) right,
+            (right-once (configuration t) (rd (configuration t) t) p alive (sym says ∙ good))),
         λ good.
             let right = right-files (configuration t) (rd (configuration t) t) p alive (sym says ∙ good) in
             live-counted t n (s .pre .0 .0) p _ mine file (λ d. (omega arith, omega arith)) _ (at-entry-at .entry-at .ensures .0) _ _ _
             (at-descriptors-ok .descriptors-ok .ensures .1)
-            (at-descriptors-ok .descriptors-ok .ensures .0 ∙ files ∙ right) right,
+            (at-descriptors-ok .descriptors-ok .ensures .0 ∙ files ∙ right),
       ),
     )
 

@@ -167,7 +167,9 @@ loop-again c =
     )
 
 same-length : tie.Need-same-length Inv-loop2 μ-loop2 Inv-loop μ-loop
-same-length c = search needs
+same-length c =
+    let at-start = c .before .before .before .before .before .before in
+    c .before .loop .inv .2 ∙ sym (ap length (at-start .pre .1) ∙ length-replicate {A = ℕ} maxSlots 0)
 
 returns : tie.Need-returns Inv-loop2 μ-loop2 Inv-loop μ-loop
 returns c =

@@ -1,4 +1,4 @@
--- `shape::can_set_up` meets its contract: a table that is too short, a bad header and wrong lengths each refute the claim; else the cells decide it.
+-- `shape::can_set_up` meets its contract: a table that is too short, a bad header and wrong lengths each refute the claim; else the cells and the subtypes decide it.
 use mathlib.Core.Path.{sym, _∙_}
 use Rattle.laws.proofs.Tests.{passed, failed}
 use Rattle.table.proofs.Config.{header-read, too-short, wrong-header, wrong-lengths, right-frame, small-of, framed-of}
@@ -26,8 +26,8 @@ lengths-exact-requires c κs =
 returns-3 : tie.Need-returns-3
 returns-3 c = sym (wrong-lengths _ _ (sym (c .before .lengths-exact .ensures) ∙ failed _ (c .if3 .taken)))
 
-cells-right-requires : tie.Need-cells-right-requires
-cells-right-requires c κs =
+configuration-right-requires : tie.Need-configuration-right-requires
+configuration-right-requires c κs =
     let at-if2 = c .before .before in let at-header-ok = at-if2 .before in let at-header-of = at-header-ok .before in
     let is = header-read _ _ (at-header-of .header-of .ensures) in
     framed-of _ _ is _ (small-of _ _ is (sym (at-header-ok .header-ok .ensures) ∙ passed _ (at-if2 .if2 .left))) (sym
@@ -36,7 +36,7 @@ cells-right-requires c κs =
 returns-4 : tie.Need-returns-4
 returns-4 c =
     let at-lengths-exact = c .before .before in let at-if2 = at-lengths-exact .before in let at-header-ok = at-if2 .before in
-    c .cells-right .ensures ∙ right-frame _ _ (sym (at-header-ok .header-ok .ensures) ∙ passed _ (at-if2 .if2 .left)) (sym
+    c .configuration-right .ensures ∙ right-frame _ _ (sym (at-header-ok .header-ok .ensures) ∙ passed _ (at-if2 .if2 .left)) (sym
     (at-lengths-exact .lengths-exact .ensures) ∙ passed _ (c .before .if3 .left))
 
 pub can-set-up-spec : {M : Type 1} → statement M
@@ -49,5 +49,5 @@ can-set-up-spec =
     returns-2
     lengths-exact-requires
     returns-3
-    cells-right-requires
+    configuration-right-requires
     returns-4)

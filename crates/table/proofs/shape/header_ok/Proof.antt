@@ -1,7 +1,7 @@
 -- `shape::header_ok` meets its contract: the header's claims, word by word.
 use Rattle.rules.specs.Layout.{process, segment, file}
 use Rattle.rules.specs.WellFormed.{headerOk}
-use Rattle.table.proofs.Config.{head-word, cells-read, slots-read, blocks-read, guard-read}
+use Rattle.table.proofs.Config.{head-word, cells-read, slots-read, blocks-read, guard-read, subtypes-read}
 use borrow.Author.Needs.{needs}
 use Rattle.table.proofs.shape.header_ok.Statement.{statement}
 use Rattle.table.proofs.shape.header_ok.Tie as tie
@@ -18,11 +18,11 @@ cast-result-3 c = search needs
 cast-result-4 : tie.Need-cast-result-4
 cast-result-4 c = search needs
 
+cast-result-5 : tie.Need-cast-result-5
+cast-result-5 c = search needs
+
 shared-slice-read-result : tie.Need-shared-slice-read-result
 shared-slice-read-result c = search needs
-
-shared-slice-read-result-2 : tie.Need-shared-slice-read-result-2
-shared-slice-read-result-2 c = search needs
 
 returns : tie.Need-returns
 unfolding headerOk
@@ -38,7 +38,7 @@ returns c =
       slots-read t n (at-start .pre .1) file,
       blocks-read t n (at-start .pre .1),
       guard-read t n (at-start .pre .1),
-      head-word t 6 (search needs),
+      subtypes-read t n (at-start .pre .1),
       head-word t 7 (search needs),
     )
 
@@ -50,6 +50,6 @@ header-ok-spec =
     cast-result-2
     cast-result-3
     cast-result-4
+    cast-result-5
     shared-slice-read-result
-    shared-slice-read-result-2
     returns)

@@ -4,11 +4,14 @@ use mathlib.Core.Path.{_≡_, sym, ap, ap₂, _∙_}
 use mathlib.Core.Bool.{Bool, _&&_, not}
 use mathlib.Core.List.{List}
 use Prim.Native.Nat.{ℕ, _≤_, _<_, _-_}
+use lib.Dec.{ltb}
 use lib.ListN.{getD}
+use borrow.Author.Tests.{lt-ltb}
 use Rattle.rules.specs.Words.{allBelow}
 use Rattle.rules.specs.Level.{equals}
 use Rattle.rules.specs.Layout.{maxCells, cells, levelOf, configuration}
 use Rattle.rules.specs.WellFormed.{levelsDistinct}
+use Rattle.laws.proofs.Tests.{cond-true}
 use Rattle.laws.proofs.Fill.{tab-at}
 use Rattle.levels.specs.declared.Level.{Level}
 use Rattle.levels.specs.Rule.{ruleLevel}
@@ -35,9 +38,13 @@ abbrev μ-loop : tie.MeasureT-loop
 μ-loop t all ok₀ d₀ d-end ok d = d-end - d
 
 -- the level that was read is the cell's
-level-is : (c : tie.After-levels Inv-loop2 μ-loop2 Inv-loop μ-loop) (i : ℕ) (none : Level) → i < maxCells
+level-is : (c : tie.After-levels Inv-loop2 μ-loop2 Inv-loop μ-loop) (i : ℕ) (none : Level)
+    → cells (configuration (c .before .before .args .t .now)) ≤ maxCells → i < cells (configuration (c .before .before .args .t .now))
     → ruleLevel (getD (c .levels .result) i none) ≡ levelOf (configuration (c .before .before .args .t .now)) i
-level-is c i none l = ap (λ (l : List Level). ruleLevel (getD l i none)) (c .levels .ensures) ∙ ap ruleLevel (tab-at maxCells _ i none l)
+level-is c i none few m =
+    let h = configuration (c .before .before .args .t .now) in
+    ap (λ (l : List Level). ruleLevel (getD l i none)) (c .levels .ensures) ∙ ap ruleLevel (tab-at maxCells _ i none (omega arith))
+    ∙ cond-true (ltb i (cells h)) (levelOf h i) _ (lt-ltb i (cells h) m)
 
 levels-requires : tie.Need-levels-requires Inv-loop2 μ-loop2 Inv-loop μ-loop
 levels-requires c κs = search needs
@@ -90,11 +97,14 @@ loop2-again c =
     let at-loop = at-in-loop .before in let at-levels = at-loop .before .before in let at-start = at-levels .before .before in
     let d = at-loop .loop .d in
     let i = at-loop2 .loop2 .c in
-    let low : d < maxCells = omega (arith, at-loop .loop .inv .2, at-in-loop .loop-test .taken) in
-    let lower : i < maxCells = omega (arith, at-in-loop2 .loop2-test .taken, low) in (
+    let l = at-loop .loop .inv in
+    let h = configuration (at-start .args .t .now) in
+    let few : cells h ≤ maxCells = omega (arith, l .1, l .2) in
+    let low : d < cells h = omega (arith, l .1, at-in-loop .loop-test .taken) in
+    let lower : i < cells h = omega (arith, at-in-loop2 .loop2-test .taken, low) in (
       search needs,
       pair-next (differ (at-start .args .t .now)) d i (at-loop2 .loop2 .inv .1)
-          (ap not (c .equals .ensures ∙ ap₂ equals (level-is at-levels i _ lower) (level-is at-levels d _ low))),
+          (ap not (c .equals .ensures ∙ ap₂ equals (level-is at-levels i _ few lower) (level-is at-levels d _ few low))),
     )
 
 add-d : tie.Need-add-d Inv-loop2 μ-loop2 Inv-loop μ-loop

@@ -1,0 +1,47 @@
+-- `subtypes::may_create_under` meets its contract: its two tests in their order.
+use borrow.Author.Needs.{needs}
+use Rattle.calls.proofs.subtypes.may_create_under.Statement.{statement}
+use Rattle.calls.proofs.subtypes.may_create_under.Tie as tie
+
+index-of-requires : tie.Need-index-of-requires
+index-of-requires c κs = search needs
+
+subtype-word-requires : tie.Need-subtype-word-requires
+subtype-word-requires c κs = search needs
+
+reads-requires : tie.Need-reads-requires
+reads-requires c κs = search needs
+
+writes-requires : tie.Need-writes-requires
+writes-requires c κs = search needs
+
+or-refuse-requires : tie.Need-or-refuse-requires
+or-refuse-requires c κs = search needs
+
+or-refuse-requires-2 : tie.Need-or-refuse-requires-2
+or-refuse-requires-2 c κs = search needs
+
+returns : tie.Need-returns
+returns c =
+    let at-or-refuse = c .before in let at-writes = at-or-refuse .before .before in let at-reads = at-writes .before in
+    let at-subtype-word = at-reads .before .before in let at-index-of = at-subtype-word .before in
+    rw (
+      c .or-refuse2 .ensures,
+      at-or-refuse .or-refuse .ensures,
+      at-writes .writes .ensures,
+      at-reads .reads .ensures,
+      at-subtype-word .subtype-word .ensures,
+      at-index-of .index-of .ensures,
+    )
+
+pub may-create-under-spec : {M : Type 1} → statement M
+may-create-under-spec =
+    tie.close
+    (tie.spec
+    index-of-requires
+    subtype-word-requires
+    reads-requires
+    writes-requires
+    or-refuse-requires
+    or-refuse-requires-2
+    returns)
