@@ -8,7 +8,7 @@ use native.Mathlib.Decide.{ℕ-discrete}
 use lib.Dec.{eqb, leb, ltb}
 use lib.ListN.{getD, set}
 use borrow.Author.Tests.{lt-ltb, eqb-true, eq-eqb, ne-eqb}
-use Rattle.rules.specs.Layout.{maxSlots, maxBits, maxLinks, Kind, process, segment, file, configuration, slots, cellOf, subtypeCell, Addr, at, entries, heldAt, usedAt, cellWord, cellSlotsWord, live, serial, owner, group, bits, links, opens, subtype, recordWords}
+use Rattle.rules.specs.Layout.{maxSlots, maxBits, maxLinks, Kind, process, segment, file, configuration, slots, cellOf, Addr, at, entries, heldAt, usedAt, cellWord, cellSlotsWord, live, serial, owner, group, bits, links, opens, subtype, recordWords}
 use Rattle.rules.specs.Seid.{class, classOf, seid, indexOf, formed, orSelf, subtypeClass, isSubtype, formedSubtype}
 use Rattle.rules.specs.Modes.{validModes, reads, writes, clash}
 use Rattle.rules.specs.Rights.{lacks}
@@ -16,7 +16,7 @@ use Rattle.rules.specs.Errors.{XbParam, XbadModes, XnoObj, XnoAcc, XdapViol, Xb
 use Rattle.rules.specs.Rule.{Refusal, _⇒_, Word, _≔_, Rule, firstRefusal, write}
 use Rattle.rules.specs.Find.{inOwnCell, flowsToCaller, rightsAt, freeEntry, noEntry, entered, own, find}
 use Rattle.rules.specs.Subtype.{noSubtype}
-use Rattle.rules.specs.Call07.{unfit, subtypeFor, created, create}
+use Rattle.rules.specs.Call07.{subtypeFor, created, create}
 use Rattle.rules.specs.Call08.{clashesAt, clashes, isSubtyped, mismatched, openFile, openSubtype, openSeid}
 use Rattle.rules.specs.Call10.{link}
 use Rattle.rules.specs.Call11.{unlinked, unlink}
@@ -36,11 +36,10 @@ use Rattle.calls.specs.World.{Known, Sound, wordsOf, Clashable, firstBy}
 use Rattle.calls.specs.declared.Answer.{Answer}
 use Rattle.calls.specs.Left.{ruleAt, said, Left}
 use Rattle.calls.specs.Refusing.{orRefuse, refusing}
-use Rattle.calls.specs.Seen.{namedOf, kindBy, unseen, seenOf, findTests, ownTests, slotFound, subtypeAs, seenSubtype, capabilityOf}
+use Rattle.calls.specs.Seen.{namedOf, kindBy, unseen, seenOf, findTests, ownTests, slotFound, subtypeAs, seenSubtype}
 use Rattle.calls.specs.declared.room.Slot.{Slot}
 use Rattle.ids.specs.Seid.{seidOf}
 use Rattle.calls.specs.Calls.{giveUpRule, openTests, createUnder, openUnder}
-use Rattle.calls.specs.declared.subtypes.Capability.{Capability}
 use Rattle.calls.specs.declared.entries.Entry.{Entry}
 use Rattle.calls.specs.Entries.{entryOf, freedAt, madeAt, takenUpAt}
 use Rattle.calls.proofs.Worlds.{spot, first-by-kind}
@@ -169,44 +168,40 @@ by-class h r p a b buffer {s} {k} self kind-is =
     let f : Kind → Rule = λ (j : Kind). setBitsOf h r p s b buffer j in
     rw (← self) (ap f kind-is ∙ by-kind f (eqb (classOf s) (class process)) (eqb (classOf s) (class segment)))
 
--- ---- 7: create. d is the descriptor and f the slot that were found, x what the descriptor that `by` names holds
+-- ---- 7: create. d is the descriptor and f the slot that were found, `by` names the descriptor of its subtype
 
-module _ {t : List ℕ} {n : Header} {c : Caller} (sound : Sound t n c) (a b by : ℕ) (buffer : List ℕ) {d z e₁ e₂ e₃ e₄ e₅ : ℕ} {ok : Bool} {f : Slot} {x : Capability}
-    (slot : f ≡ slotFound (configuration t) (wordsOf t) file (c .cell)) (entry : d ≡ freeEntry (wordsOf t) file (c .slot)) (named : x ≡ capabilityOf (wordsOf t) (c .slot) by)
+module _ {t : List ℕ} {n : Header} {c : Caller} (sound : Sound t n c) (a b by : ℕ) (buffer : List ℕ) {d z e₁ e₂ e₃ e₄ e₅ : ℕ} {ok : Bool} {f : Slot}
+    (slot : f ≡ slotFound (configuration t) (wordsOf t) file (c .cell)) (entry : d ≡ freeEntry (wordsOf t) file (c .slot))
     (first : e₁ ≡ orRefuse 0 (ltb maxBits a) XbParam) (modes : ok ≡ validModes b) (second : e₂ ≡ orRefuse e₁ (not ok) XbadModes)
-    (under : e₃ ≡ refusing e₂ (createUnder by x (subtypeCell (configuration t) (indexOf (x .held))) (c .cell))) (wide : z ≡ d)
+    (under : e₃ ≡ refusing e₂ (createUnder (configuration t) (wordsOf t) (c .slot) by)) (wide : z ≡ d)
     (fourth : e₄ ≡ orRefuse e₃ (leb entries z) XodSpace) (last : e₅ ≡ orRefuse e₄ (f .none) XnoSpace) where
   abbrev createTests : List Refusal
   createTests =
       (ltb maxBits a ⇒ XbParam) ∷ (not (validModes b) ⇒ XbadModes)
-      ∷ createUnder by x (subtypeCell (configuration t) (indexOf (x .held))) (c .cell) ++ (leb entries d ⇒ XodSpace) ∷ (f .none ⇒ XnoSpace) ∷ []
+      ∷ createUnder (configuration t) (wordsOf t) (c .slot) by ++ (leb entries d ⇒ XodSpace) ∷ (f .none ⇒ XnoSpace) ∷ []
 
   create-found : e₅ ≡ firstRefusal createTests
   create-found = rw (last, fourth, wide, under, second, modes, first) (refusing-first createTests refl)
 
   pub create-number : e₅ ≡ firstRefusal (ruleAt t (λ h q. create h q (c .slot) a b by buffer) .refusals)
-  unfolding create unfit capabilityOf
-  create-number = create-found ∙ rw (named, entry, slot, sound .home)
+  unfolding create
+  create-number = create-found ∙ rw (entry, slot, sound .home)
 
   pub create-room : e₅ ≡ 0 → f .none ≡ false
   create-room q = clear createTests refl (sym create-found ∙ q) .1 .1 .1 .1 .1 .0
 
   -- v is the slot's serial, u and g the caller's owner and group, s the new seid, w the subtype
   module _ (none : e₅ ≡ 0) {v u g s w : ℕ} (ve : v ≡ wordsOf t (at file (f .index) serial)) (ue : u ≡ wordsOf t (at process (c .slot) owner))
-      (ge : g ≡ wordsOf t (at process (c .slot) group)) (se : s ≡ seidOf (class file) (f .index) (v + 1)) (we : w ≡ cond (eqb by 0) 0 (x .held)) where
+      (ge : g ≡ wordsOf t (at process (c .slot) group)) (se : s ≡ seidOf (class file) (f .index) (v + 1)) (we : w ≡ subtypeFor (wordsOf t) (c .slot) by) where
     create-seid : s ≡ ruleAt t (λ h q. create h q (c .slot) a b by buffer) .effects .first
     unfolding create
     create-seid = new-seid sound file slot (create-room none) ve se ∙ rw (slot, sound .home)
-
-    subtype-told : w ≡ subtypeFor (wordsOf t) (c .slot) by
-    unfolding subtypeFor capabilityOf
-    subtype-told = we ∙ rw named
 
     -- the record, its ninth word, and the entry
     made-told : {o : ℕ} {t₁ t₂ : List ℕ} → o ≡ recordOf n file (f .index) → t₁ ≡ madeAt t o (v + 1) u g a 0 0 1 → t₂ ≡ set t₁ (o + subtype) w
         → t₂ ≡ write (configuration t) t (created (wordsOf t) (c .slot) a (subtypeFor (wordsOf t) (c .slot) by) (f .index) (wordsOf t (at file (f .index) serial) + 1))
     made-told oe e₁ e₂ =
-        e₂ ∙ rw (e₁, oe, begins (sound .known) file (f .index), ve, ue, ge, subtype-told)
+        e₂ ∙ rw (e₁, oe, begins (sound .known) file (f .index), ve, ue, ge, we)
         (sym (made-is (configuration t) t file (f .index) (wordsOf t (at file (f .index) serial) + 1) (wordsOf t (at process (c .slot) owner))
         (wordsOf t (at process (c .slot) group)) a 0 0 1 ((at file (f .index) subtype ≔ subtypeFor (wordsOf t) (c .slot) by) ∷ [])
         ∙ rw (along (configuration t) file (f .index) subtype)))
@@ -272,13 +267,13 @@ open-modes f b first none =
     let unrefused = clear (openTests f b) refl (sym (refusing-first (openTests f b) refl) ∙ (sym first ∙ none)) in
     (passed (validModes b) (unrefused .0), unrefused .1 .0)
 
--- ---- a file: f is what is seen of the seid s, d the descriptor that was found, y the file's subtype, x what the descriptor that `by` names holds
-module _ {t : List ℕ} {n : Header} {c : Caller} (sound : Sound t n c) (s b by : ℕ) (buffer : List ℕ) {d y e₁ e₂ : ℕ} {f : Seen} {x : Capability}
+-- ---- a file: f is what is seen of the seid s, d the descriptor that was found, y the file's subtype; `by` names the descriptor of that
+module _ {t : List ℕ} {n : Header} {c : Caller} (sound : Sound t n c) (s b by : ℕ) (buffer : List ℕ) {d y e₁ e₂ : ℕ} {f : Seen}
     (seen : f ≡ seenOf (configuration t) (wordsOf t) (c .slot) file (namedOf n file s)) (entry : d ≡ freeEntry (wordsOf t) file (c .slot))
-    (of : y ≡ wordsOf t (at file (f .slot) subtype)) (named : x ≡ capabilityOf (wordsOf t) (c .slot) by)
-    (first : e₁ ≡ refusing 0 (openTests f b)) (under : e₂ ≡ refusing e₁ (openUnder y b x)) where
+    (of : y ≡ wordsOf t (at file (f .slot) subtype))
+    (first : e₁ ≡ refusing 0 (openTests f b)) (under : e₂ ≡ refusing e₁ (openUnder (wordsOf t) (c .slot) y b by)) where
   abbrev stage : List Refusal
-  stage = openTests f b ++ openUnder y b x
+  stage = openTests f b ++ openUnder (wordsOf t) (c .slot) y b by
 
   past-stage : e₂ ≡ 0 → Clear stage
   past-stage none = clear stage refl (sym (refusing-first stage refl) ∙ (rw (first) at (sym under ∙ none)))
@@ -313,7 +308,7 @@ module _ {t : List ℕ} {n : Header} {c : Caller} (sound : Sound t n c) (s b by 
     abbrev after : List Refusal
     after =
         (lacks (f .rights) (reads b) (writes b) ⇒ XdapViol)
-        ∷ openUnder y b x ++ (f .own && clashes (configuration t) (wordsOf t) (cellOf (configuration t) process (c .slot)) s b ⇒ Xbusy) ∷ (noEntry (wordsOf t) file (c .slot) ⇒ XodSpace) ∷ []
+        ∷ openUnder (wordsOf t) (c .slot) y b by ++ (f .own && clashes (configuration t) (wordsOf t) (cellOf (configuration t) process (c .slot)) s b ⇒ Xbusy) ∷ (noEntry (wordsOf t) file (c .slot) ⇒ XodSpace) ∷ []
 
     abbrev ruleAfter : List Refusal
     ruleAfter =
@@ -324,8 +319,8 @@ module _ {t : List ℕ} {n : Header} {c : Caller} (sound : Sound t n c) (s b by 
         ∷ (noEntry (wordsOf t) file (c .slot) ⇒ XodSpace) ∷ []
 
     same-after : formed (configuration t) file s ≡ true → firstRefusal after ≡ firstRefusal ruleAfter
-    unfolding mismatched capabilityOf
-    same-after form = rw (named, of, slot-is (sound .known) (c .slot) file s seen form, seen-formed (sound .known) (c .slot) file s seen form)
+    unfolding mismatched
+    same-after form = rw (of, slot-is (sound .known) (c .slot) file s seen form, seen-formed (sound .known) (c .slot) file s seen form)
 
     pub open-number : e₄ ≡ firstRefusal (ruleAt t (λ h q. openFile h q (c .slot) s b by buffer) .refusals)
     unfolding openFile

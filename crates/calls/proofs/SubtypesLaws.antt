@@ -1,15 +1,19 @@
 -- Subtypes: their words in the configuration, and what a caller sees of one.
-use mathlib.Core.Path.{_≡_, sym, ap, _∙_}
+use mathlib.Core.Path.{_≡_, refl, sym, ap, _∙_}
 use mathlib.Core.Bool.{Bool, true, false}
-use mathlib.Core.List.{List, []}
+use mathlib.Core.List.{List, [], _∷_}
 use Prim.Native.Nat.{ℕ, _+_, _≤_, _<_}
 use native.Mathlib.Omega.{arith}
 use lib.Dec.{eqb}
+use borrow.Author.Tests.{eqb-true, eq-eqb}
 use lib.ListN.{getD, take, length-take, List·getD-eq-default}
-use Rattle.rules.specs.Layout.{subtypeWords, process, configuration, configurationWords, subtypes, subtypeAt, subtypeWord, subtypeCell, subtypeOwner, subtypeGroup, subtypeBits, flowMatrix, at, owner, group}
+use Rattle.rules.specs.Layout.{subtypeWords, process, configuration, configurationWords, subtypes, subtypeAt, subtypeWord, subtypeCell, subtypeOwner, subtypeGroup, subtypeBits, flowMatrix, Addr, at, owner, group}
 use Rattle.rules.specs.Seid.{indexOf, serialOf, formedSubtype}
 use Rattle.rules.specs.Rights.{rights}
+use Rattle.rules.specs.Errors.{XbadStCap, XbadSubtypeMatch}
+use Rattle.rules.specs.Rule.{_⇒_}
 use Rattle.rules.specs.Call08.{subtypeRights}
+use Rattle.laws.proofs.Tests.{split}
 use Rattle.laws.proofs.Places.{conf-word, conf-cells, conf-subtypes}
 use Rattle.levels.proofs.Cells.{matrix-any}
 use Rattle.layout.specs.declared.Header.{Header}
@@ -17,7 +21,9 @@ use Rattle.layout.specs.Header.{subtypeOf}
 use Rattle.calls.specs.declared.Caller.{Caller}
 use Rattle.calls.specs.declared.objects.Seen.{Seen}
 use Rattle.calls.specs.World.{Known, Sound, wordsOf}
+use Rattle.calls.specs.Refusing.{refusing}
 use Rattle.calls.specs.Seen.{unseen, seenSubtype}
+use Rattle.calls.specs.Calls.{createUnder, openUnder}
 use Rattle.calls.proofs.Worlds.{shape, cells-is}
 
 module _ {t : List ℕ} {n : Header} (known : Known t n) where
@@ -63,3 +69,14 @@ module _ {t : List ℕ} {n : Header} {c : Caller} (sound : Sound t n c) (s : ℕ
     subtype-looked form =
         rw (form, rights-is, flow-is, matrix, bits-is, group-is, owner-is, cell-is, index-is, mine-is, my-group-is, serial-is, sound .home)
         (rw (matrix-any (configuration t) (shape (sound .known) .few-cells) _ _))
+
+-- ---- the tests of a create and of an open, made only where a subtype is named or asked for
+
+no-more : (e m n : ℕ) → refusing e ((false ⇒ m) ∷ (false ⇒ n) ∷ []) ≡ e
+no-more e m n = split _ (eqb e 0) (λ z. rw (z, eqb-true e 0 z) refl) (λ z. rw (z, z))
+
+pub create-plain : (h : List ℕ) (r : Addr → ℕ) (p e : ℕ) {c : ℕ} → c ≡ 0 → e ≡ refusing e (createUnder h r p c)
+create-plain h r p e z = rw (eq-eqb _ 0 z) (sym (no-more e XbadStCap XbadSubtypeMatch))
+
+pub open-plain : (r : Addr → ℕ) (p e b c : ℕ) {s : ℕ} → s ≡ 0 → e ≡ refusing e (openUnder r p s b c)
+open-plain r p e b c z = rw (eq-eqb _ 0 z) (sym (no-more e XbadStCap XbadSubtypeMatch))

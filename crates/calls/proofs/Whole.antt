@@ -1,5 +1,5 @@
 -- The whole call: what its tests have shown, and its four ends.
-use mathlib.Core.Path.{_≡_, sym, ap, _∙_}
+use mathlib.Core.Path.{_≡_, sym, ap, _∙_, subst}
 use mathlib.Core.Bool.{Bool, true, false, cond, _||_, not}
 use mathlib.Core.List.{List}
 use Prim.Native.Nat.{ℕ, _+_, _≤_, _<_}
@@ -19,6 +19,7 @@ use Rattle.layout.specs.Header.{headerOf}
 use Rattle.layout.specs.Hall.{cellsAt, hallBytes, hallOf, matrixIn}
 use Rattle.layout.proofs.Hall.{matrix-told}
 use Rattle.calls.specs.declared.Answer.{Answer}
+use Rattle.calls.specs.declared.Caller.{Caller}
 use Rattle.calls.specs.World.{Known, Sound, wordsOf, Judged}
 use Rattle.calls.specs.Tray.{Ready}
 use Rattle.calls.specs.Left.{said}
@@ -39,6 +40,13 @@ header-conf t = λ i. record {
   guard = sym (conf-word t 5 (omega arith)) i;
   subtypes = sym (conf-subtypes t) i;
 }
+
+-- a caller sound by the configuration's header is so by the one that was read, and the other way round
+pub sound-read : {t : List ℕ} {n : Header} {c : Caller} → n ≡ headerOf t → Sound t (headerOf (configuration t)) c → Sound t n c
+sound-read {t} {c = c} e s = subst (λ (x : Header). Sound t x c) (sym (e ∙ header-conf t)) s
+
+pub sound-conf : {t : List ℕ} {n : Header} {c : Caller} → n ≡ headerOf (configuration t) → Sound t n c → Sound t (headerOf (configuration t)) c
+sound-conf {t} {c = c} e s = subst (λ (x : Header). Sound t x c) e s
 
 -- what judging leaves in a hall of zeros, and the matrix of that
 pub ready-by : (t s : List ℕ) {x : Bool} {m : List (List Bool)} {hall : List ℕ} → x ≡ test (wellFormed t (length s)) → x ≡ true

@@ -9,9 +9,10 @@ use Rattle.rules.specs.Rights.{mayRead, mayWrite, lacks, access}
 use Rattle.rules.specs.Errors.{XbPrSd, XbSz, XbadModes, XnoAcc, XdapViol, XbadOd, XnoObj, XpostEh, XbadStCap, XbadSubtypeMatch}
 use Rattle.rules.specs.Rule.{Refusal, _⇒_, effect, Rule, rule}
 use Rattle.rules.specs.Find.{givenUp}
+use Rattle.rules.specs.Subtype.{heldBy, modesBy, noSubtype}
+use Rattle.rules.specs.Call07.{unfit}
 use Rattle.rules.specs.Call15.{textBytes}
 use Rattle.calls.specs.declared.objects.Seen.{Seen}
-use Rattle.calls.specs.declared.subtypes.Capability.{Capability}
 use Rattle.calls.specs.Seen.{findTests}
 
 -- calls 5 and 9: entry a is given up; two numbers refuse, past the last entry and empty
@@ -41,14 +42,13 @@ postTests to bytes flow allowed full =
 abbrev pub ownerAccess : ℕ → ℕ
 ownerAccess bits = access (mayRead (bits / 64)) (mayWrite (bits / 64))
 
--- 02, CR 11, of the capability that c names. Call 7: its subtype is of that cell, and the caller of another
-abbrev pub createUnder : ℕ → Capability → ℕ → ℕ → List Refusal
-createUnder c x cell here =
-    (not (eqb c 0) && x .none ⇒ XbadStCap)
-    ∷ (not (eqb c 0) && (not (eqb cell here) || not (reads (x .used) && writes (x .used))) ⇒ XbadSubtypeMatch) ∷ []
+-- 02, CR 11, of the descriptor that c names. Call 7, of process p
+abbrev pub createUnder : List ℕ → (Addr → ℕ) → ℕ → ℕ → List Refusal
+createUnder h r p c =
+    (not (eqb c 0) && noSubtype r p c ⇒ XbadStCap) ∷ (not (eqb c 0) && unfit h r p c ⇒ XbadSubtypeMatch) ∷ []
 
 -- call 8, of a file whose subtype is s, with the modes b
-abbrev pub openUnder : ℕ → ℕ → Capability → List Refusal
-openUnder s b x =
-    (not (eqb s 0) && x .none ⇒ XbadStCap)
-    ∷ (not (eqb s 0) && (not (eqb (x .held) s) || ((reads b && not (reads (x .used))) || (writes b && not (writes (x .used))))) ⇒ XbadSubtypeMatch) ∷ []
+abbrev pub openUnder : (Addr → ℕ) → ℕ → ℕ → ℕ → ℕ → List Refusal
+openUnder r p s b c =
+    (not (eqb s 0) && noSubtype r p c ⇒ XbadStCap)
+    ∷ (not (eqb s 0) && (not (eqb (heldBy r p c) s) || ((reads b && not (reads (modesBy r p c))) || (writes b && not (writes (modesBy r p c))))) ⇒ XbadSubtypeMatch) ∷ []

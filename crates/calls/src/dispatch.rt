@@ -5,6 +5,7 @@ ghost use Prim.Native.Nat.{ℕ, _≤_};
 ghost use lib.ListN.{length};
 ghost use Rattle.rules.specs.Layout.{configuration, storeBytes};
 ghost use Rattle.rules.specs.Step.{lastCode};
+ghost use Rattle.layout.specs.Header.{headerOf};
 ghost use Rattle.calls.specs.World.{Sound};
 ghost use Rattle.calls.specs.Handed.{Handed};
 ghost use Rattle.calls.specs.Did.{Plain, Through, ruleIn};
@@ -35,6 +36,7 @@ use crate::status::status;
 use layout::HALL_BYTES;
 use layout::Header;
 use layout::Kind;
+use layout::header_of;
 use rules::ACCESS_CODE;
 use rules::BUILD_SEGMENT_CODE;
 use rules::CLOSE_CODE;
@@ -167,11 +169,10 @@ fn on_map(
     }
 }
 
-// By code; past the others' the desk's.
+// By code; past the others' the desk's. It reads the header anew: handed on, it would be written to memory and read back in wider pieces.
 pub(crate) fn carry_out(
     t: &mut [u32],
     store: &mut [u8],
-    n: Header,
     m: &[[bool; MAX_CELLS]; MAX_CELLS],
     hall: &[u8; HALL_BYTES],
     me: Caller,
@@ -181,9 +182,10 @@ pub(crate) fn carry_out(
     c: u32,
     buffer: &mut [u8],
 ) -> Answer
-    requires { ⌜ Sound (now t) n me × Handed (configuration (now t)) (now m) (now hall) × (length (now store) ≡ storeBytes (configuration (now t))) × (1 ≤ code) × (code ≤ lastCode) ⌝ }
+    requires { ⌜ Sound (now t) (headerOf (configuration (now t))) me × Handed (configuration (now t)) (now m) (now hall) × (length (now store) ≡ storeBytes (configuration (now t))) × (1 ≤ code) × (code ≤ lastCode) ⌝ }
     ensures { λ r. ⌜ Through (now (t .entry)) (now (store .entry)) (now (buffer .entry)) (ruleIn (now (t .entry)) (now (store .entry)) (me .slot) code a b c (now (buffer .entry))) r (now (t .exit)) (now (store .exit)) (now (buffer .exit)) ⌝ }
 {
+    let n = header_of(t);
     if code <= SET_ACCESS_CODE {
         return on_processes_and_segments(t, n, m, hall, me, code, a, b, c);
     }

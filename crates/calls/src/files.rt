@@ -43,10 +43,10 @@ use crate::room::Slot;
 use crate::room::first_slot;
 use crate::room::free_entry;
 use crate::room::in_cell;
-use crate::subtypes::held_by;
 use crate::subtypes::look_subtype;
 use crate::subtypes::may_create_under;
 use crate::subtypes::may_open_under;
+use crate::subtypes::subtype_for;
 use ids::seid;
 use layout::HALL_BYTES;
 use layout::Header;
@@ -82,7 +82,6 @@ use rules::XNO_SPACE;
 use rules::XOD_SPACE;
 use rules::XOK;
 use rules::XSH_SG;
-use words::first;
 use words::put;
 use words::wide;
 
@@ -124,10 +123,9 @@ pub(crate) fn create(
 {
     let me = c.slot;
     let d = free_entry(t, n, Kind::File, me);
-    let x = held_by(t, n, me, by);
     let e = or_refuse(XOK, MAX_BITS < a, XB_PARAM);
     let e = or_refuse(e, !valid(b), XBAD_MODES);
-    let e = may_create_under(e, t, n, c, by, x);
+    let e = may_create_under(e, t, n, c, by);
     let e = or_refuse(e, ENTRIES <= wide(d), XOD_SPACE);
     let e = or_refuse(e, f.none, XNO_SPACE);
     if e != XOK {
@@ -137,9 +135,10 @@ pub(crate) fn create(
     let owner = read(t, n, Kind::Process, me, OWNER);
     let group = read(t, n, Kind::Process, me, GROUP);
     let s = seid(FILE_CLASS, f.index, serial);
+    let under = subtype_for(t, n, me, by);
     let at = n.record_at(Kind::File, f.index);
     make(t, at, serial, owner, group, a, 0, 0, 1);
-    put(t, at + SUBTYPE, first(by == 0, 0, x.held));
+    put(t, at + SUBTYPE, under);
     enter(t, n.entry_at(Kind::File, me, d), s, b);
     answered(s, d)
 }
@@ -221,9 +220,8 @@ fn open_file(
     let d = free_entry(t, n, Kind::File, c.slot);
     let opens = read(t, n, Kind::File, f.slot, OPENS);
     let under = read(t, n, Kind::File, f.slot, SUBTYPE);
-    let x = held_by(t, n, c.slot, by);
     let e = may_open(f, b);
-    let e = may_open_under(e, under, b, x);
+    let e = may_open_under(e, t, n, c.slot, under, b, by);
     let clashing = busy(t, n, c, e, f.own, s, b, opens);
     let e = or_refuse(e, clashing, XBUSY);
     let e = or_refuse(e, ENTRIES <= wide(d), XOD_SPACE);

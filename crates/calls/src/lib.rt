@@ -128,7 +128,7 @@ pub(crate) fn call_judged(
     }
     let cell = cell_in(hall, Kind::Process, caller);
     let me = Caller { slot: caller, cell };
-    carry_out(t, store, n, m, hall, me, code, a, b, c, buffer)
+    carry_out(t, store, m, hall, me, code, a, b, c, buffer)
 }
 
 // One call. The whole table is judged first; the cells that the judging finds, and which of them may flow to which, are handed on.

@@ -1,8 +1,8 @@
 // Subtypes (02, CR 11): what a caller sees of one, and the descriptor of one that create and open take.
 ghost use mathlib.Core.Path.{_≡_};
 ghost use Prim.Native.Nat.{_<_};
-ghost use Rattle.rules.specs.Layout.{subtypeWords, configuration, subtypeWord, subtypeCell, flowMatrix};
-ghost use Rattle.rules.specs.Seid.{indexOf};
+ghost use Rattle.rules.specs.Layout.{subtypeWords, configuration, subtypeWord, flowMatrix};
+ghost use Rattle.rules.specs.Call07.{subtypeFor};
 ghost use Rattle.calls.specs.World.{Known, Sound, wordsOf};
 ghost use Rattle.calls.specs.Refusing.{refusing};
 ghost use Rattle.calls.specs.Seen.{seenSubtype, capabilityOf};
@@ -104,28 +104,42 @@ pub(crate) fn held_by(t: &[u32], n: Header, p: u32, by: u32) -> Capability
 }
 
 // What refuses a create under a subtype, after the number e found so far; with `by` 0 it is under none. "A subtype of the caller's cell held for reading and writing."
-pub(crate) fn may_create_under(
-    e: u32,
-    t: &[u32],
-    n: Header,
-    c: Caller,
-    by: u32,
-    x: Capability,
-) -> u32
+pub(crate) fn may_create_under(e: u32, t: &[u32], n: Header, c: Caller, by: u32) -> u32
     requires { ⌜ Sound (now t) n c ⌝ }
-    ensures { λ r. ⌜ r ≡ refusing e (createUnder by x (subtypeCell (configuration (now (t .entry))) (indexOf (x .held))) (c .cell)) ⌝ }
+    ensures { λ r. ⌜ r ≡ refusing e (createUnder (configuration (now (t .entry))) (wordsOf (now (t .entry))) (c .slot) by) ⌝ }
 {
+    if by == 0 {
+        return e;
+    }
+    let x = held_by(t, n, c.slot, by);
     let cell = subtype_word(t, n, index_of(x.held), SUBTYPE_CELL);
     let unfit = (cell != c.cell) | !(reads(x.used) & writes(x.used));
-    let e = or_refuse(e, (by != 0) & x.none, XBAD_ST_CAP);
-    or_refuse(e, (by != 0) & unfit, XBAD_SUBTYPE_MATCH)
+    let e = or_refuse(e, x.none, XBAD_ST_CAP);
+    or_refuse(e, unfit, XBAD_SUBTYPE_MATCH)
+}
+
+// The new file's subtype, or 0.
+pub(crate) fn subtype_for(t: &[u32], n: Header, p: u32, by: u32) -> u32
+    requires { ⌜ Known (now t) n ⌝ }
+    ensures { λ r. ⌜ r ≡ subtypeFor (wordsOf (now (t .entry))) p by ⌝ }
+{
+    if by == 0 {
+        return 0;
+    }
+    let x = held_by(t, n, p, by);
+    x.held
 }
 
 // What refuses an open, with the modes b, of a file whose subtype is s, after the number e found so far; a file without one, 0, asks for nothing.
-pub(crate) fn may_open_under(e: u32, s: u32, b: u32, x: Capability) -> u32
-    ensures { λ r. ⌜ r ≡ refusing e (openUnder s b x) ⌝ }
+pub(crate) fn may_open_under(e: u32, t: &[u32], n: Header, p: u32, s: u32, b: u32, by: u32) -> u32
+    requires { ⌜ Known (now t) n ⌝ }
+    ensures { λ r. ⌜ r ≡ refusing e (openUnder (wordsOf (now (t .entry))) p s b by) ⌝ }
 {
+    if s == 0 {
+        return e;
+    }
+    let x = held_by(t, n, p, by);
     let too_few = (reads(b) & !reads(x.used)) | (writes(b) & !writes(x.used));
-    let e = or_refuse(e, (s != 0) & x.none, XBAD_ST_CAP);
-    or_refuse(e, (s != 0) & ((x.held != s) | too_few), XBAD_SUBTYPE_MATCH)
+    let e = or_refuse(e, x.none, XBAD_ST_CAP);
+    or_refuse(e, (x.held != s) | too_few, XBAD_SUBTYPE_MATCH)
 }

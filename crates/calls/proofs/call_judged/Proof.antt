@@ -1,7 +1,7 @@
 -- `call_judged` meets its contract: the caller's refusal, the code's, or the rule of the code carried out.
 use borrow.Author.Needs.{needs}
 use Rattle.calls.specs.World.{Judged}
-use Rattle.calls.proofs.Whole.{known, store-long, caller-few, sound, no-caller, no-code, all-done, good-code}
+use Rattle.calls.proofs.Whole.{known, store-long, caller-few, sound, sound-conf, no-caller, no-code, all-done, good-code}
 use Rattle.calls.proofs.TrayLaws.{ready-judged}
 use Rattle.calls.proofs.call_judged.Statement.{statement}
 use Rattle.calls.proofs.call_judged.Tie as tie
@@ -57,7 +57,8 @@ carry-out-requires c κs =
     let at-cell-in = c .before .before .before in let at-if2 = at-cell-in .before in let at-bad-code = at-if2 .before in
     let at-if1 = at-bad-code .before in let at-bad-caller = at-if1 .before in let at-header-of = at-bad-caller .before .before in
     let g = good-code _ (at-bad-code .bad-code .ensures) (at-if2 .if2 .left) in (
-      sound (judged at-header-of) _ (at-bad-caller .bad-caller .ensures) (at-if1 .if1 .left) (at-cell-in .cell-in .ensures),
+      sound-conf (judged at-header-of .header)
+          (sound (judged at-header-of) _ (at-bad-caller .bad-caller .ensures) (at-if1 .if1 .left) (at-cell-in .cell-in .ensures)),
       start at-header-of .pre .handed,
       store-long (judged at-header-of),
       g .0,

@@ -1,12 +1,26 @@
 -- `dispatch::carry_out` meets its contract: each code has its rule.
 use native.Mathlib.Omega.{arith}
+use Rattle.calls.specs.World.{Sound}
+use Rattle.calls.proofs.Whole.{sound-read}
 use Rattle.calls.proofs.Codes.{plain-through, through-21}
 use borrow.Author.Needs.{needs}
 use Rattle.calls.proofs.dispatch.carry_out.Statement.{statement}
 use Rattle.calls.proofs.dispatch.carry_out.Tie as tie
 
+abbrev start : tie.After-header-of → tie.Start
+start c = c .before .before .before .before .before
+
+-- the header that was read is the table's
+sound-here : (c : tie.After-header-of) → Sound (start c .args .t .now) (c .header-of .result) (start c .args .me)
+sound-here c = sound-read (c .header-of .ensures) (start c .pre .0)
+
+header-of-requires : tie.Need-header-of-requires
+header-of-requires c κs = search needs
+
 on-processes-and-segments-requires : tie.Need-on-processes-and-segments-requires
-on-processes-and-segments-requires c κs = search needs
+on-processes-and-segments-requires c κs =
+    let at-header-of = c .before .before in let pre = start at-header-of .pre in
+    (sound-here at-header-of, pre .1, pre .3, search needs)
 
 same-length : tie.Need-same-length
 same-length c = search needs
@@ -15,7 +29,9 @@ returns : tie.Need-returns
 returns c = plain-through _ _ (c .before .before .on-processes-and-segments .ensures _ _)
 
 on-files-requires : tie.Need-on-files-requires
-on-files-requires c κs = search needs
+on-files-requires c κs =
+    let at-header-of = c .before .before .before in let pre = start at-header-of .pre in
+    (sound-here at-header-of, pre .1, search needs, search needs)
 
 same-length-2 : tie.Need-same-length-2
 same-length-2 c = search needs
@@ -24,7 +40,9 @@ returns-2 : tie.Need-returns-2
 returns-2 c = plain-through _ _ (c .before .before .on-files .ensures _ _)
 
 on-contents-requires : tie.Need-on-contents-requires
-on-contents-requires c κs = search needs
+on-contents-requires c κs =
+    let at-header-of = c .before .before .before .before .before .before in let pre = start at-header-of .pre in
+    (sound-here at-header-of, pre .1, pre .2, search needs, search needs)
 
 same-length-3 : tie.Need-same-length-3
 same-length-3 c = search needs
@@ -39,7 +57,9 @@ returns-3 : tie.Need-returns-3
 returns-3 c = search needs
 
 on-map-requires : tie.Need-on-map-requires
-on-map-requires c κs = search needs
+on-map-requires c κs =
+    let at-header-of = c .before .before .before .before .before in let pre = start at-header-of .pre in
+    (sound-here at-header-of, pre .1, search needs, search needs)
 
 same-length-6 : tie.Need-same-length-6
 same-length-6 c = search needs
@@ -48,10 +68,14 @@ returns-4 : tie.Need-returns-4
 returns-4 c = plain-through _ _ (c .before .before .on-map .ensures _ _)
 
 slot-in-requires : tie.Need-slot-in-requires
-slot-in-requires c κs = search needs
+slot-in-requires c κs =
+    let at-header-of = c .before .before .before .before .before in sound-here at-header-of .known
 
 regrade-requires : tie.Need-regrade-requires
-regrade-requires c κs = search needs
+regrade-requires c κs =
+    let at-slot-in = c .before .before .before .before in let at-header-of = at-slot-in .before .before .before .before .before .before in
+    let pre = start at-header-of .pre in
+    (sound-here at-header-of, pre .1, pre .2, at-slot-in .slot-in .ensures)
 
 same-length-7 : tie.Need-same-length-7
 same-length-7 c = search needs
@@ -69,6 +93,7 @@ pub carry-out-spec : {M : Type 1} → statement M
 carry-out-spec =
     tie.close
     (tie.spec
+    header-of-requires
     on-processes-and-segments-requires
     same-length
     returns

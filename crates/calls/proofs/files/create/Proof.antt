@@ -17,32 +17,29 @@ use Rattle.calls.proofs.files.create.Tie as tie
 
 -- the start
 abbrev start : tie.After-or-refuse4 → tie.Start
-start c = c .before .before .before .before .before .before .before .before .before .before .before .before .before
+start c = c .before .before .before .before .before .before .before .before .before .before .before
 
 number : (c : tie.After-or-refuse4) (buffer : List ℕ) → c .or-refuse4 .result ≡ firstRefusal (ruleAt (start c .args .t .now) (λ h q. create h q
     (start c .args .c .slot) (start c .args .a) (start c .args .b) (start c .args .by) buffer) .refusals)
 number c buffer =
     let at-wide = c .before .before in let at-under = at-wide .before in let at-or-refuse2 = at-under .before .before in
-    let at-valid = at-or-refuse2 .before in let at-or-refuse = at-valid .before in let at-held-by = at-or-refuse .before in
-    let at-free-entry = at-held-by .before .before in let at-start = at-free-entry .before .before .before in
+    let at-valid = at-or-refuse2 .before in let at-or-refuse = at-valid .before in let at-free-entry = at-or-refuse .before in
+    let at-start = at-free-entry .before .before .before in
     create-number (at-start .pre .0) (at-start .args .a) (at-start .args .b) (at-start .args .by) buffer (at-start .pre .1) (at-free-entry .free-entry .ensures)
-    (at-held-by .held-by .ensures) (at-or-refuse .or-refuse .ensures) (at-valid .valid .ensures) (at-or-refuse2 .or-refuse2 .ensures)
+    (at-or-refuse .or-refuse .ensures) (at-valid .valid .ensures) (at-or-refuse2 .or-refuse2 .ensures)
     (at-under .may-create-under .ensures) (at-wide .wide .ensures) (c .before .or-refuse3 .ensures) (c .or-refuse4 .ensures)
 
 room : (c : tie.Else1) → start (c .before) .args .f .none ≡ false
 room c =
     let at-or-refuse3 = c .before .before in let at-wide = at-or-refuse3 .before in let at-under = at-wide .before in
     let at-or-refuse2 = at-under .before .before in let at-valid = at-or-refuse2 .before in let at-or-refuse = at-valid .before in
-    let at-held-by = at-or-refuse .before in let at-free-entry = at-held-by .before .before in let at-start = at-free-entry .before .before .before in
+    let at-free-entry = at-or-refuse .before in let at-start = at-free-entry .before .before .before in
     create-room (at-start .pre .0) (at-start .args .a) (at-start .args .b) (at-start .args .by) [] (at-start .pre .1) (at-free-entry .free-entry .ensures)
-    (at-held-by .held-by .ensures) (at-or-refuse .or-refuse .ensures) (at-valid .valid .ensures) (at-or-refuse2 .or-refuse2 .ensures)
+    (at-or-refuse .or-refuse .ensures) (at-valid .valid .ensures) (at-or-refuse2 .or-refuse2 .ensures)
     (at-under .may-create-under .ensures) (at-wide .wide .ensures) (at-or-refuse3 .or-refuse3 .ensures) (c .before .or-refuse4 .ensures) (c .if1 .left)
 
 free-entry-requires : tie.Need-free-entry-requires
 free-entry-requires c κs = search needs
-
-held-by-requires : tie.Need-held-by-requires
-held-by-requires c κs = search needs
 
 or-refuse-requires : tie.Need-or-refuse-requires
 or-refuse-requires c κs = search needs
@@ -93,6 +90,10 @@ read-requires-3 c κs =
 seid-requires : tie.Need-seid-requires
 seid-requires c κs = search needs
 
+subtype-for-requires : tie.Need-subtype-for-requires
+subtype-for-requires c κs =
+    let at-read = c .before .before .before .before .before .before in let at-or-refuse4 = at-read .before .before .before in start at-or-refuse4 .pre .0 .known
+
 record-at-requires : tie.Need-record-at-requires
 record-at-requires c κs = search needs
 
@@ -101,9 +102,6 @@ make-requires c κs = search needs
 
 add-put : tie.Need-add-put
 add-put c = search needs
-
-first-requires : tie.Need-first-requires
-first-requires c κs = search needs
 
 put-requires : tie.Need-put-requires
 put-requires c κs = search needs
@@ -123,17 +121,17 @@ same-length-2 c = search needs
 returns-2 : tie.Need-returns-2
 returns-2 c =
     let at-enter = c .before .before .before in let at-entry-at = at-enter .before in let at-put = at-entry-at .before .before .before .before in
-    let at-first = at-put .before in let at-make = at-first .before .before .before .before in let at-record-at = at-make .before .before in
-    let at-seid = at-record-at .before in let at-read3 = at-seid .before in let at-read2 = at-read3 .before .before in
+    let at-make = at-put .before .before .before .before in let at-record-at = at-make .before .before in
+    let at-subtype-for = at-record-at .before in let at-seid = at-subtype-for .before .before in let at-read3 = at-seid .before in let at-read2 = at-read3 .before .before in
     let at-read = at-read2 .before .before in let at-if1 = at-read .before .before in let at-or-refuse4 = at-if1 .before in
     let at-or-refuse3 = at-or-refuse4 .before in let at-wide = at-or-refuse3 .before in let at-under = at-wide .before in
     let at-or-refuse2 = at-under .before .before in let at-valid = at-or-refuse2 .before in let at-or-refuse = at-valid .before in
-    let at-held-by = at-or-refuse .before in let at-free-entry = at-held-by .before .before in let at-start = at-free-entry .before .before .before in
+    let at-free-entry = at-or-refuse .before in let at-start = at-free-entry .before .before .before in
     λ buffer. create-left (at-start .pre .0) (at-start .args .a) (at-start .args .b) (at-start .args .by) buffer (at-start .pre .1)
-    (at-free-entry .free-entry .ensures) (at-held-by .held-by .ensures) (at-or-refuse .or-refuse .ensures) (at-valid .valid .ensures)
+    (at-free-entry .free-entry .ensures) (at-or-refuse .or-refuse .ensures) (at-valid .valid .ensures)
     (at-or-refuse2 .or-refuse2 .ensures) (at-under .may-create-under .ensures) (at-wide .wide .ensures) (at-or-refuse3 .or-refuse3 .ensures)
     (at-or-refuse4 .or-refuse4 .ensures) (at-if1 .if1 .left) (at-read .read .ensures) (at-read2 .read2 .ensures) (at-read3 .read3 .ensures)
-    (at-seid .seid .ensures) (at-first .first .ensures) (c .answered .ensures) (at-record-at .record-at .ensures .0) (at-make .make .ensures)
+    (at-seid .seid .ensures) (at-subtype-for .subtype-for .ensures) (c .answered .ensures) (at-record-at .record-at .ensures .0) (at-make .make .ensures)
     (at-put .put .ensures) (at-entry-at .entry-at .ensures .0) (at-enter .enter .ensures)
 
 pub create-spec : {M : Type 1} → statement M
@@ -141,7 +139,6 @@ create-spec =
     tie.close
     (tie.spec
     free-entry-requires
-    held-by-requires
     or-refuse-requires
     valid-requires
     or-refuse-requires-2
@@ -157,10 +154,10 @@ create-spec =
     read-requires-2
     read-requires-3
     seid-requires
+    subtype-for-requires
     record-at-requires
     make-requires
     add-put
-    first-requires
     put-requires
     entry-at-requires
     enter-requires

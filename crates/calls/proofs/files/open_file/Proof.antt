@@ -14,17 +14,17 @@ use Rattle.calls.proofs.files.open_file.Tie as tie
 
 -- the start
 abbrev start : tie.After-or-refuse2 → tie.Start
-start c = c .before .before .before .before .before .before .before .before .before .before .before .before .before .before .before .before .before .before
+start c = c .before .before .before .before .before .before .before .before .before .before .before .before .before .before .before .before .before
 
 number : (c : tie.After-or-refuse2) (buffer : List ℕ) → c .or-refuse2 .result ≡ firstRefusal (ruleAt (start c .args .t .now) (λ h q. openFile h q
     (start c .args .c .slot) (start c .args .s) (start c .args .b) (start c .args .by) buffer) .refusals)
 number c buffer =
     let at-wide = c .before in let at-or-refuse = at-wide .before in let at-busy = at-or-refuse .before in let at-under = at-busy .before .before in
-    let at-may-open = at-under .before in let at-held-by = at-may-open .before in let at-read2 = at-held-by .before .before in
+    let at-may-open = at-under .before .before in let at-read2 = at-may-open .before in
     let at-read = at-read2 .before .before in let at-free-entry = at-read .before .before in let at-look = at-free-entry .before .before in
     let at-start = at-look .before .before .before in
     open-number (at-start .pre .0) (at-start .args .s) (at-start .args .b) (at-start .args .by) buffer (at-look .look .ensures)
-    (at-free-entry .free-entry .ensures) (at-read2 .read2 .ensures) (at-held-by .held-by .ensures) (at-may-open .may-open .ensures)
+    (at-free-entry .free-entry .ensures) (at-read2 .read2 .ensures) (at-may-open .may-open .ensures)
     (at-under .may-open-under .ensures) (at-busy .busy .ensures) (at-or-refuse .or-refuse .ensures) (at-wide .wide .ensures) (c .or-refuse2 .ensures)
 
 look-requires : tie.Need-look-requires
@@ -39,9 +39,6 @@ read-requires c κs = search needs
 read-requires-2 : tie.Need-read-requires-2
 read-requires-2 c κs = search needs
 
-held-by-requires : tie.Need-held-by-requires
-held-by-requires c κs = search needs
-
 may-open-requires : tie.Need-may-open-requires
 may-open-requires c κs = search needs
 
@@ -50,12 +47,12 @@ may-open-under-requires c κs = search needs
 
 busy-requires : tie.Need-busy-requires
 busy-requires c κs =
-    let at-under = c .before in let at-may-open = at-under .before in let at-held-by = at-may-open .before in let at-read2 = at-held-by .before .before in
+    let at-under = c .before in let at-may-open = at-under .before .before in let at-read2 = at-may-open .before in
     let at-read = at-read2 .before .before in let at-free-entry = at-read .before .before in let at-look = at-free-entry .before .before in
     let at-start = at-look .before .before .before in (
       at-start .pre .0,
       may-clash (at-start .pre .0) (at-start .args .s) (at-start .args .b) (at-start .args .by) [] (at-look .look .ensures) (at-free-entry .free-entry .ensures)
-          (at-read2 .read2 .ensures) (at-held-by .held-by .ensures) (at-may-open .may-open .ensures) (at-under .may-open-under .ensures) (at-read .read .ensures),
+          (at-read2 .read2 .ensures) (at-may-open .may-open .ensures) (at-under .may-open-under .ensures) (at-read .read .ensures),
     )
 
 or-refuse-requires : tie.Need-or-refuse-requires
@@ -86,7 +83,7 @@ take-up-requires : tie.Need-take-up-requires
 take-up-requires c κs =
     let at-record-at = c .before in let at-entry-at = at-record-at .before in let at-if1 = at-entry-at .before in let at-or-refuse2 = at-if1 .before in
     let at-wide = at-or-refuse2 .before in let at-or-refuse = at-wide .before in let at-busy = at-or-refuse .before in let at-under = at-busy .before .before in
-    let at-may-open = at-under .before in let at-held-by = at-may-open .before in let at-read2 = at-held-by .before .before in
+    let at-may-open = at-under .before .before in let at-read2 = at-may-open .before in
     let at-read = at-read2 .before .before in let at-free-entry = at-read .before .before in let at-look = at-free-entry .before .before in
     let at-start = at-look .before .before .before in (
       at-entry-at .entry-at .ensures .1,
@@ -94,7 +91,7 @@ take-up-requires c κs =
       omega (
         arith,
         open-fits (at-start .pre .0) (at-start .args .s) (at-start .args .b) (at-start .args .by) [] (at-look .look .ensures)
-            (at-free-entry .free-entry .ensures) (at-read2 .read2 .ensures) (at-held-by .held-by .ensures) (at-may-open .may-open .ensures)
+            (at-free-entry .free-entry .ensures) (at-read2 .read2 .ensures) (at-may-open .may-open .ensures)
             (at-under .may-open-under .ensures) (at-busy .busy .ensures) (at-or-refuse .or-refuse .ensures) (at-wide .wide .ensures)
             (at-or-refuse2 .or-refuse2 .ensures) (at-if1 .if1 .left) (at-record-at .record-at .ensures .0),
       ),
@@ -112,13 +109,13 @@ returns-2 c =
     let at-take-up = c .before .before .before in let at-record-at = at-take-up .before .before in let at-entry-at = at-record-at .before in
     let at-if1 = at-entry-at .before in let at-or-refuse2 = at-if1 .before in let at-wide = at-or-refuse2 .before in
     let at-or-refuse = at-wide .before in let at-busy = at-or-refuse .before in let at-under = at-busy .before .before in
-    let at-may-open = at-under .before in let at-held-by = at-may-open .before in let at-read2 = at-held-by .before .before in
+    let at-may-open = at-under .before .before in let at-read2 = at-may-open .before in
     let at-read = at-read2 .before .before in let at-free-entry = at-read .before .before in let at-look = at-free-entry .before .before in
     let at-start = at-look .before .before .before in
     λ buffer. left-done _ (λ h q. openFile h q _ _ _ _ buffer) (number at-or-refuse2 buffer) (at-if1 .if1 .left)
     (c .answered .ensures ∙ ap (λ (d : ℕ). said 0 d 0) (at-free-entry .free-entry .ensures)) (at-take-up .take-up .ensures ∙ open-words
     (at-start .pre .0) (at-start .args .s) (at-start .args .b) (at-start .args .by) buffer (at-look .look .ensures) (at-free-entry .free-entry .ensures)
-    (at-read2 .read2 .ensures) (at-held-by .held-by .ensures) (at-may-open .may-open .ensures) (at-under .may-open-under .ensures)
+    (at-read2 .read2 .ensures) (at-may-open .may-open .ensures) (at-under .may-open-under .ensures)
     (at-busy .busy .ensures) (at-or-refuse .or-refuse .ensures) (at-wide .wide .ensures) (at-or-refuse2 .or-refuse2 .ensures) (at-if1 .if1 .left)
     (at-entry-at .entry-at .ensures .0) (at-record-at .record-at .ensures .0))
 
@@ -130,7 +127,6 @@ open-file-spec =
     free-entry-requires
     read-requires
     read-requires-2
-    held-by-requires
     may-open-requires
     may-open-under-requires
     busy-requires
