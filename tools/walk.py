@@ -137,7 +137,7 @@ use Rattle.calls.specs.declared.Record.{Record}
 use Rattle.rules.specs.Tray.{trayAnswer}
 use Rattle.layout.specs.Hall.{hallBytes, matrixIn}
 use Rattle.calls.specs.Did.{stateOf}
-use Rattle.calls.specs.Tray.{recordsOf, Ran, Ready, Trayed, begun, verdictOf}
+use Rattle.calls.specs.Tray.{ruleRecords, Ran, Ready, Trayed, begun, verdictOf}
 use Rattle.calls.proofs.Record as T
 use Rattle.calls.proofs.Record.Laws as T′
 use Rattle.calls.proofs.Again.{LentAgain, lends-by, back-by, LentWhole, shares-by, regains-by}
@@ -489,7 +489,7 @@ module _ {{M : Type 1}} (𝓤 : URA M) (H : Heap 𝓤) (A : Atoms 𝓤) (W : Giv
       abbrev fm : FmC 𝓤 H (W .laws) C
       fm = fmOf 𝓤 H (W .laws) 𝓣
 
-      module _ (hs : List ℕ) (wh : Val) (hs-is : Is Rh hs (wh ∷ [])) (m : List (List Bool)) (wm : Val) (m-is : Is Rm m (wm ∷ [])) (v : ℕ) (v-is : v ≡ trayAnswer (stateOf xs ss) (recordsOf rs)) (v-fits : v < 2 ^ 32)
+      module _ (hs : List ℕ) (wh : Val) (hs-is : Is Rh hs (wh ∷ [])) (m : List (List Bool)) (wm : Val) (m-is : Is Rm m (wm ∷ [])) (v : ℕ) (v-is : v ≡ trayAnswer (stateOf xs ss) (ruleRecords rs)) (v-fits : v < 2 ^ 32)
           (n : ℕ) (n-is : n ≡ cond (eqb v 0) (length rs) 0) (n-fits : n < 2 ^ 64)
           ({ls} θ ψ : ℕ) (μ ν : GName) where
         abbrev En : Env 𝓤 H

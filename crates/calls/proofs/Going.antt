@@ -20,7 +20,7 @@ use Rattle.laws.proofs.Tests.{cond-true, cond-false, split}
 use Rattle.layout.specs.Hall.{matrixIn}
 use Rattle.calls.specs.declared.Record.{Record}
 use Rattle.calls.specs.Did.{stateOf}
-use Rattle.calls.specs.Tray.{recordOf, recordsOf, Ran, Ready, Trayed, begun, verdictOf}
+use Rattle.calls.specs.Tray.{ruleRecord, ruleRecords, Ran, Ready, Trayed, begun, verdictOf}
 use Rattle.calls.proofs.TrayLaws.{verdict-is, ready-if, ready-kept}
 
 -- a tray whose first records are run
@@ -37,7 +37,7 @@ pub record Going (t₀ s₀ b₀ : List ℕ) (rs : List Record) (m : List (List 
   pub bytes-long : length b ≡ length b₀
   pub long : length zs ≡ length rs
   pub rest : drop i zs ≡ drop i rs
-  pub whole : inOrder (stateOf t₀ s₀) b₀ (recordsOf (take n rs)) ≡ ahead (recordsOf (take i zs)) (inOrder (stateOf t s) b (recordsOf (drop i (take n rs))))
+  pub whole : inOrder (stateOf t₀ s₀) b₀ (ruleRecords (take n rs)) ≡ ahead (ruleRecords (take i zs)) (inOrder (stateOf t s) b (ruleRecords (drop i (take n rs))))
 
 module _ (t₀ s₀ b₀ : List ℕ) (rs : List Record) (m : List (List Bool)) (hall : List ℕ) (n : ℕ) where
   pub start : n ≤ length rs → (0 < n → Ready t₀ s₀ m hall) → Going t₀ s₀ b₀ rs m hall n 0 t₀ s₀ b₀ rs
@@ -62,21 +62,21 @@ module _ (t₀ s₀ b₀ : List ℕ) (rs : List Record) (m : List (List Bool)) (
 
     module _ (y : Record) (t′ s′ b′ : List ℕ) (h : i < n) (ran : Ran (stateOf t s) b (getD zs i d) y t′ s′ b′) where
       abbrev after : Tray
-      after = inOrder (stateOf t′ s′) b′ (recordsOf later)
+      after = inOrder (stateOf t′ s′) b′ (ruleRecords later)
 
-      stepped : inOrder (stateOf t s) b (recordsOf (drop i (take n rs))) ≡ behind (recordOf y) after
+      stepped : inOrder (stateOf t s) b (ruleRecords (drop i (take n rs))) ≡ behind (ruleRecord y) after
       unfolding inOrder
       stepped =
-          ap (λ (l : List Record). inOrder (stateOf t s) b (recordsOf l)) (here h)
-          ∙ (λ j. behind (sym (ran .answered) j) (inOrder (stateOf (sym (ran .table) j) (sym (ran .store) j)) (sym (ran .bytes) j) (recordsOf later)))
+          ap (λ (l : List Record). inOrder (stateOf t s) b (ruleRecords l)) (here h)
+          ∙ (λ j. behind (sym (ran .answered) j) (inOrder (stateOf (sym (ran .table) j) (sym (ran .store) j)) (sym (ran .bytes) j) (ruleRecords later)))
 
       pub more : length t′ ≡ length t → length s′ ≡ length s → length b′ ≡ length b → Going t₀ s₀ b₀ rs m hall n (i + 1) t′ s′ b′ (set zs i y)
       more lt ls lb =
           let l = g .long in
           let e = g .enough in
           let w = g .within in
-          let done : recordsOf (take i zs) ++ (recordOf y ∷ []) ≡ recordsOf (take (i + 1) (set zs i y)) =
-          sym (map-append recordOf (take i zs) (y ∷ [])) ∙ ap recordsOf (sym (take-suc-set zs i y (omega arith)) ∙ ap (λ (k : ℕ). take k (set zs i y)) (sym (add-one i))) in
+          let done : ruleRecords (take i zs) ++ (ruleRecord y ∷ []) ≡ ruleRecords (take (i + 1) (set zs i y)) =
+          sym (map-append ruleRecord (take i zs) (y ∷ [])) ∙ ap ruleRecords (sym (take-suc-set zs i y (omega arith)) ∙ ap (λ (k : ℕ). take k (set zs i y)) (sym (add-one i))) in
           record {
             within = omega arith;
             enough = e;
@@ -87,48 +87,48 @@ module _ (t₀ s₀ b₀ : List ℕ) (rs : List Record) (m : List (List Bool)) (
             long = length-set zs i y ∙ l;
             rest = drop-set-lt (i + 1) zs i y (omega arith) ∙ sym (drop-drop 1 i zs) ∙ ap (drop 1) (g .rest) ∙ drop-drop 1 i rs;
             whole =
-                g .whole ∙ ap (ahead (recordsOf (take i zs))) stepped
-                ∙ ap (left (after .state) (after .bytes)) (sym (append-snoc (recordsOf (take i zs)) (recordOf y) (after .records)))
+                g .whole ∙ ap (ahead (ruleRecords (take i zs))) stepped
+                ∙ ap (left (after .state) (after .bytes)) (sym (append-snoc (ruleRecords (take i zs)) (ruleRecord y) (after .records)))
                 ∙ ap (λ (l : List rules.Record). ahead l after) done;
           }
 
     module _ (h : n ≤ i) where
-      nothing-left : inOrder (stateOf t s) b (recordsOf (drop i (take n rs))) ≡ left (stateOf t s) b []
+      nothing-left : inOrder (stateOf t s) b (ruleRecords (drop i (take n rs))) ≡ left (stateOf t s) b []
       unfolding inOrder
       nothing-left =
           let e = g .enough in
           let l : length (take n rs) ≡ n = length-take-le n rs e in
-          ap (λ (l : List Record). inOrder (stateOf t s) b (recordsOf l)) (drop-of-length-le (take n rs) {i = i} (omega arith))
+          ap (λ (l : List Record). inOrder (stateOf t s) b (ruleRecords l)) (drop-of-length-le (take n rs) {i = i} (omega arith))
 
-      all-run : n ≡ length rs → inOrder (stateOf t₀ s₀) b₀ (recordsOf rs) ≡ left (stateOf t s) b (recordsOf zs)
+      all-run : n ≡ length rs → inOrder (stateOf t₀ s₀) b₀ (ruleRecords rs) ≡ left (stateOf t s) b (ruleRecords zs)
       all-run e =
           let l = g .long in
           let all : take n rs ≡ rs = take-all n rs (omega arith) in
-          ap (λ (l : List Record). inOrder (stateOf t₀ s₀) b₀ (recordsOf l)) (sym all) ∙ g .whole ∙ ap (ahead (recordsOf (take i zs))) nothing-left
-          ∙ ap (left (stateOf t s) b) (append-nil (recordsOf (take i zs)) ∙ ap recordsOf (take-all i zs (omega arith)))
+          ap (λ (l : List Record). inOrder (stateOf t₀ s₀) b₀ (ruleRecords l)) (sym all) ∙ g .whole ∙ ap (ahead (ruleRecords (take i zs))) nothing-left
+          ∙ ap (left (stateOf t s) b) (append-nil (ruleRecords (take i zs)) ∙ ap ruleRecords (take-all i zs (omega arith)))
 
-      none-run : n ≡ 0 → left (stateOf t₀ s₀) b₀ (recordsOf rs) ≡ left (stateOf t s) b (recordsOf zs)
+      none-run : n ≡ 0 → left (stateOf t₀ s₀) b₀ (ruleRecords rs) ≡ left (stateOf t s) b (ruleRecords zs)
       unfolding inOrder
       none-run e =
           let w = g .within in
           let z : i ≡ 0 = omega arith in
-          let none : inOrder (stateOf t₀ s₀) b₀ (recordsOf (take n rs)) ≡ left (stateOf t₀ s₀) b₀ [] =
-          ap (λ (k : ℕ). inOrder (stateOf t₀ s₀) b₀ (recordsOf (take k rs))) e in
-          let same : left (stateOf t₀ s₀) b₀ [] ≡ ahead (recordsOf (take i zs)) (left (stateOf t s) b []) =
-          sym none ∙ g .whole ∙ ap (ahead (recordsOf (take i zs))) nothing-left in
+          let none : inOrder (stateOf t₀ s₀) b₀ (ruleRecords (take n rs)) ≡ left (stateOf t₀ s₀) b₀ [] =
+          ap (λ (k : ℕ). inOrder (stateOf t₀ s₀) b₀ (ruleRecords (take k rs))) e in
+          let same : left (stateOf t₀ s₀) b₀ [] ≡ ahead (ruleRecords (take i zs)) (left (stateOf t s) b []) =
+          sym none ∙ g .whole ∙ ap (ahead (ruleRecords (take i zs))) nothing-left in
           let records : rs ≡ zs = sym (ap (λ (k : ℕ). drop k zs) (sym z) ∙ g .rest ∙ ap (λ (k : ℕ). drop k rs) z) in
-          λ k. left (same k .state) (same k .bytes) (recordsOf (records k))
+          λ k. left (same k .state) (same k .bytes) (ruleRecords (records k))
 
       -- the tray's definition by its test
-      tray-is : (c : Bool) → eqb (trayAnswer (stateOf t₀ s₀) (recordsOf rs)) XOK ≡ c → n ≡ cond c (length rs) 0
-          → afterTray (stateOf t₀ s₀) b₀ (recordsOf rs) ≡ left (stateOf t s) b (recordsOf zs)
+      tray-is : (c : Bool) → eqb (trayAnswer (stateOf t₀ s₀) (ruleRecords rs)) XOK ≡ c → n ≡ cond c (length rs) 0
+          → afterTray (stateOf t₀ s₀) b₀ (ruleRecords rs) ≡ left (stateOf t s) b (ruleRecords zs)
       unfolding afterTray
-      tray-is true e f = cond-true (eqb (trayAnswer (stateOf t₀ s₀) (recordsOf rs)) XOK) _ _ e ∙ all-run f
-      tray-is false e f = cond-false (eqb (trayAnswer (stateOf t₀ s₀) (recordsOf rs)) XOK) _ _ e ∙ none-run f
+      tray-is true e f = cond-true (eqb (trayAnswer (stateOf t₀ s₀) (ruleRecords rs)) XOK) _ _ e ∙ all-run f
+      tray-is false e f = cond-false (eqb (trayAnswer (stateOf t₀ s₀) (ruleRecords rs)) XOK) _ _ e ∙ none-run f
 
-      pub ends : (v : ℕ) → v ≡ trayAnswer (stateOf t₀ s₀) (recordsOf rs) → n ≡ cond (eqb v 0) (length rs) 0 → Trayed (stateOf t₀ s₀) b₀ rs v t s b zs
+      pub ends : (v : ℕ) → v ≡ trayAnswer (stateOf t₀ s₀) (ruleRecords rs) → n ≡ cond (eqb v 0) (length rs) 0 → Trayed (stateOf t₀ s₀) b₀ rs v t s b zs
       ends v f e =
-          let x = tray-is (eqb (trayAnswer (stateOf t₀ s₀) (recordsOf rs)) XOK) refl (e ∙ ap (λ (z : ℕ). cond (eqb z 0) (length rs) 0) f) in
+          let x = tray-is (eqb (trayAnswer (stateOf t₀ s₀) (ruleRecords rs)) XOK) refl (e ∙ ap (λ (z : ℕ). cond (eqb z 0) (length rs) 0) f) in
           record {
             answer = f;
             table = sym (ap (λ (a : Tray). a .state .table) x);
@@ -144,10 +144,10 @@ due-fits false n k e = omega arith
 
 -- what the judging came to: the answer is the rules', and where anything is due the table is ready
 module _ (t s : List ℕ) (rs : List Record) (hall : List ℕ) (he : hall ≡ begun t (length s) (length rs)) (v : ℕ) (ve : v ≡ verdictOf hall (length rs)) where
-  pub answer-is : v ≡ trayAnswer (stateOf t s) (recordsOf rs)
+  pub answer-is : v ≡ trayAnswer (stateOf t s) (ruleRecords rs)
   answer-is =
       ve ∙ ap (λ (x : List ℕ). verdictOf x (length rs)) he
-      ∙ ap (λ (k : ℕ). verdictOf (begun t (length s) k) k) (sym (length-map rs recordOf)) ∙ verdict-is t s (recordsOf rs)
+      ∙ ap (λ (k : ℕ). verdictOf (begun t (length s) k) k) (sym (length-map rs ruleRecord)) ∙ verdict-is t s (ruleRecords rs)
 
   module _ (m : List (List Bool)) (me : m ≡ matrixIn hall) where
     ready-here : v ≡ 0 → Ready t s m hall

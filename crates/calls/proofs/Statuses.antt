@@ -56,21 +56,21 @@ abbrev statusTests : Seen → Kind → ℕ → List Refusal
 statusTests x k bytes = (not (eqb bytes statusBytes) ⇒ XbSz) ∷ findTests x k (not (x .flows))
 
 -- a status past its last test: what the code has seen, and the number that refuses
-pub record Judged (t : List ℕ) (n : Header) (c : Caller) (k : Kind) (s : ℕ) (b : List ℕ) (x : Seen) (e : ℕ) : Type 0 where
+pub record StatusJudged (t : List ℕ) (n : Header) (c : Caller) (k : Kind) (s : ℕ) (b : List ℕ) (x : Seen) (e : ℕ) : Type 0 where
   pub sound : Sound t n c
   pub seen : x ≡ seenOf (configuration t) (wordsOf t) (c .slot) k (namedOf n k s)
   pub number : e ≡ firstRefusal (statusTests x k (length b))
 
 pub judged-by : {t : List ℕ} {n : Header} {c : Caller} → Sound t n c → (k : Kind) (s : ℕ) (b : List ℕ) {x : Seen} {e e2 : ℕ}
     → x ≡ seenOf (configuration t) (wordsOf t) (c .slot) k (namedOf n k s) → e ≡ orRefuse 0 (not (eqb (length b) statusBytes)) XbSz
-    → e2 ≡ refusing e (findTests x k (not (x .flows))) → Judged t n c k s b x e2
+    → e2 ≡ refusing e (findTests x k (not (x .flows))) → StatusJudged t n c k s b x e2
 judged-by sound k s b {x} seen long find = record {
   sound = sound;
   seen = seen;
   number = rw (find, long) (refusing-first (statusTests x k (length b)) (find-numbered x k (not (x .flows)) [] refl));
 }
 
-module _ {t : List ℕ} {n : Header} {c : Caller} {k : Kind} {s : ℕ} {b : List ℕ} {x : Seen} {e : ℕ} (p : Judged t n c k s b x e) where
+module _ {t : List ℕ} {n : Header} {c : Caller} {k : Kind} {s : ℕ} {b : List ℕ} {x : Seen} {e : ℕ} (p : StatusJudged t n c k s b x e) where
   by-form : (f : Bool) → formed (configuration t) k s ≡ f
       → firstRefusal (statusTests x k (length b)) ≡ firstRefusal (ruleAt t (λ h q. statusOf h q (c .slot) s b k) .refusals)
   unfolding present

@@ -31,7 +31,7 @@ use Rattle.calls.specs.declared.Answer.{Answer}
 use Rattle.calls.specs.World.{wordsOf, Judged}
 use Rattle.calls.specs.Left.{said}
 use Rattle.calls.specs.Did.{stateOf, callOf, ruleAnswer, Did}
-use Rattle.calls.specs.Tray.{recordOf, answeredBy, Ran, Ready, noHall, begun, verdictOf}
+use Rattle.calls.specs.Tray.{ruleRecord, answeredBy, Ran, Ready, noHall, begun, verdictOf}
 use Rattle.calls.proofs.Whole.{header-conf}
 
 -- ---- the judging of a tray
@@ -97,7 +97,7 @@ due-none e n f = sym (cond-false (eqb e 0) n 0 (ne-eqb e 0 f))
 -- ---- a part that lies outside
 
 abbrev number : List ℕ → Record → ℕ
-number t r = outsideNumber (stateOf t []) (recordOf r)
+number t r = outsideNumber (stateOf t []) (ruleRecord r)
 
 module _ (t : List ℕ) (r : Record) {x : Bool} (xe : x ≡ badCaller (configuration t) (wordsOf t) (r .caller)) where
   pub outside-caller : {z : Answer} → x ≡ true → z ≡ said XbPrSd 0 0 → z ≡ said (number t r) 0 0
@@ -117,7 +117,7 @@ ready-judged {t} j e = record { good = j .good; header = e ∙ header-conf t; ha
 
 module _ (t s bytes : List ℕ) {m : List (List Bool)} {hall : List ℕ} (j : Ready t s m hall) (r : Record) (from n : ℕ) (f : from ≡ r .offset) (g : n ≡ r .length) where
   abbrev it : rules.Record
-  it = recordOf r
+  it = ruleRecord r
 
   well : Holds (wellFormed t (length s))
   well = holds (wellFormed t (length s)) (j .good)
@@ -136,7 +136,7 @@ module _ (t s bytes : List ℕ) {m : List (List Bool)} {hall : List ℕ} (j : Re
       let here : from + k ≤ length bytes = omega arith in
       let long : length part′ ≡ k = len ∙ ap length lent ∙ part-long bytes (r .offset) (r .length) (omega arith) ∙ sym (kn ∙ g) in
       record {
-        answered = ap recordOf ye ∙ ap (withAnswer it) (did .answered ∙ ap (λ (z : Outcome). z .answered) o);
+        answered = ap ruleRecord ye ∙ ap (withAnswer it) (did .answered ∙ ap (λ (z : Outcome). z .answered) o);
         table = did .table ∙ ap (λ (z : Outcome). z .state .table) o;
         store = did .store ∙ ap (λ (z : Outcome). z .state .store) o;
         bytes = part-back bytes part′ from k here long ∙ ap₂ (sets bytes) f (did .buffer ∙ ap (λ (z : Outcome). z .buffer) o);
@@ -148,7 +148,7 @@ module _ (t s bytes : List ℕ) {m : List (List Bool)} {hall : List ℕ} (j : Re
       let out : inside bytes it ≡ false = ap₂ (λ (a b : ℕ). leb (a + b) (length bytes)) (sym f) (sym g) ∙ lt-leb (from + n) (length bytes) h in
       let o = outside-is-refused (stateOf t s) bytes it out in
       record {
-        answered = ap recordOf ye ∙ ap (λ (z : Answer). withAnswer it (ruleAnswer z)) xe ∙ sym (ap (λ (z : Outcome). withAnswer it (z .answered)) o);
+        answered = ap ruleRecord ye ∙ ap (λ (z : Answer). withAnswer it (ruleAnswer z)) xe ∙ sym (ap (λ (z : Outcome). withAnswer it (z .answered)) o);
         table = sym (ap (λ (z : Outcome). z .state .table) o);
         store = sym (ap (λ (z : Outcome). z .state .store) o);
         bytes = sym (ap (λ (z : Outcome). sets bytes (r .offset) (z .buffer)) o ∙ sets-part bytes (r .offset) (r .length));
@@ -159,10 +159,10 @@ pub ready-kept : (t s bytes : List ℕ) (m : List (List Bool)) (hall : List ℕ)
     → Ran (stateOf t s) bytes r y t′ s′ bytes′ → Ready t′ s′ m hall
 ready-kept t s bytes m hall r y t′ s′ bytes′ j ran =
     let w = holds (wellFormed t (length s)) (j .good) in
-    let x = record-kept (stateOf t s) bytes (recordOf r) w in
-    let same = sym (ap configuration (ran .table) ∙ record-conf-kept (stateOf t s) bytes (recordOf r) w) in
+    let x = record-kept (stateOf t s) bytes (ruleRecord r) w in
+    let same = sym (ap configuration (ran .table) ∙ record-conf-kept (stateOf t s) bytes (ruleRecord r) w) in
     record {
-      good = rw (ran .table, ran .store) (tested (wellFormed (recordStep (stateOf t s) bytes (recordOf r) .state .table)
-          (length (recordStep (stateOf t s) bytes (recordOf r) .state .store))) x);
+      good = rw (ran .table, ran .store) (tested (wellFormed (recordStep (stateOf t s) bytes (ruleRecord r) .state .table)
+          (length (recordStep (stateOf t s) bytes (ruleRecord r) .state .store))) x);
       handed = record { matrix = j .handed .matrix ∙ ap flowMatrix same; told = j .handed .told ∙ ap hallOf same };
     }

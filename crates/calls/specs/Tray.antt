@@ -20,8 +20,8 @@ use Rattle.calls.specs.Did.{ruleAnswer}
 use Rattle.calls.specs.Handed.{Handed}
 
 -- the same numbers
-abbrev pub recordOf : Record → rules.Record
-recordOf r = record {
+abbrev pub ruleRecord : Record → rules.Record
+ruleRecord r = record {
   caller = r .caller;
   code = r .code;
   a = r .a;
@@ -32,8 +32,8 @@ recordOf r = record {
   answer = ruleAnswer (r .answer);
 }
 
-abbrev pub recordsOf : List Record → List rules.Record
-recordsOf rs = map recordOf rs
+abbrev pub ruleRecords : List Record → List rules.Record
+ruleRecords rs = map ruleRecord rs
 
 -- the record with its answer; its other fields are as they were
 abbrev pub answeredBy : Record → Answer → Record
@@ -50,20 +50,20 @@ answeredBy r x = record {
 
 -- what the public tray ensures: its answer, every table word, every stored byte, every record and every byte of the lent slice are those of the rules' tray
 pub record Trayed (s : State) (lent : List ℕ) (rs : List Record) (v : ℕ) (t′ s′ bytes′ : List ℕ) (rs′ : List Record) : Type 0 where
-  pub answer : v ≡ trayAnswer s (recordsOf rs)
-  pub table : t′ ≡ afterTray s lent (recordsOf rs) .state .table
-  pub store : s′ ≡ afterTray s lent (recordsOf rs) .state .store
-  pub bytes : bytes′ ≡ afterTray s lent (recordsOf rs) .bytes
-  pub records : recordsOf rs′ ≡ afterTray s lent (recordsOf rs) .records
+  pub answer : v ≡ trayAnswer s (ruleRecords rs)
+  pub table : t′ ≡ afterTray s lent (ruleRecords rs) .state .table
+  pub store : s′ ≡ afterTray s lent (ruleRecords rs) .state .store
+  pub bytes : bytes′ ≡ afterTray s lent (ruleRecords rs) .bytes
+  pub records : ruleRecords rs′ ≡ afterTray s lent (ruleRecords rs) .records
 
 -- ---- on the way there
 
 -- one record run
 pub record Ran (s : State) (lent : List ℕ) (r y : Record) (t′ s′ bytes′ : List ℕ) : Type 0 where
-  pub answered : recordOf y ≡ withAnswer (recordOf r) (recordStep s lent (recordOf r) .answered)
-  pub table : t′ ≡ recordStep s lent (recordOf r) .state .table
-  pub store : s′ ≡ recordStep s lent (recordOf r) .state .store
-  pub bytes : bytes′ ≡ sets lent (r .offset) (recordStep s lent (recordOf r) .buffer)
+  pub answered : ruleRecord y ≡ withAnswer (ruleRecord r) (recordStep s lent (ruleRecord r) .answered)
+  pub table : t′ ≡ recordStep s lent (ruleRecord r) .state .table
+  pub store : s′ ≡ recordStep s lent (ruleRecord r) .state .store
+  pub bytes : bytes′ ≡ sets lent (r .offset) (recordStep s lent (ruleRecord r) .buffer)
 
 -- a table that was judged: it is well formed for its store, and m and hall are what the check handed on of it
 pub record Ready (t s : List ℕ) (m : List (List Bool)) (hall : List ℕ) : Type 0 where

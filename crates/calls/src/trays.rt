@@ -12,7 +12,7 @@ ghost use Rattle.kept.proofs.Recorded.{outsideNumber};
 ghost use Rattle.calls.specs.World.{Known};
 ghost use Rattle.calls.specs.Left.{said};
 ghost use Rattle.calls.specs.Did.{stateOf};
-ghost use Rattle.calls.specs.Tray.{Ran, Ready, answeredBy, begun, recordOf, verdictOf};
+ghost use Rattle.calls.specs.Tray.{Ran, Ready, answeredBy, begun, ruleRecord, verdictOf};
 use crate::Answer;
 use crate::Record;
 use crate::bad_caller;
@@ -122,7 +122,7 @@ fn answered(r: Record, x: Answer) -> Record
 // A record whose part lies outside the byte slice: the caller, then the code, then the part.
 fn outside(t: &[u32], n: Header, r: Record) -> Answer
     requires { ⌜ Known (now t) n ⌝ }
-    ensures { λ x. ⌜ x ≡ said (outsideNumber (stateOf (now (t .entry)) []) (recordOf r)) 0 0 ⌝ }
+    ensures { λ x. ⌜ x ≡ said (outsideNumber (stateOf (now (t .entry)) []) (ruleRecord r)) 0 0 ⌝ }
 {
     if bad_caller(t, n, r.caller) {
         return refused(XB_PR_SD);

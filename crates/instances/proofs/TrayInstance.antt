@@ -11,7 +11,7 @@ use borrow.Author.Tests.{eqb-true, leb-true, ltb-true}
 use Rattle.rules.specs.Call17.{told, status}
 use Rattle.rules.specs.Step.{answer}
 use Rattle.rules.specs.Observer.{observer}
-use Rattle.rules.specs.Tray.{Record, inside, recordRule, recordStep, Tray, inOrder, mostRecords, trayAnswer, afterTray, staysIn, remainingIn, asked, within, seen, hidden, Apart, SameParts}
+use Rattle.rules.specs.Tray.{Record, inside, recordRule, recordStep, Tray, inOrder, mostRecords, trayAnswer, afterTray, staysIn, remainingIn, asked, inPart, seen, hidden, Apart, SameParts}
 use Rattle.laws.proofs.Tests.{and-left, and-right, or-rest, both-ways, refuted, split, cond-true, cond-false, failed}
 use Rattle.laws.proofs.Below.{all-at}
 use Rattle.promises.proofs.Tray.{tray-runs}
@@ -26,30 +26,30 @@ around h C n (r ∷ rs) = cond (staysIn h C r) (leb (r .offset + r .length) n) (
 
 module _ (h : List ℕ) (C : ℕ → Bool) (n i : ℕ) where
   pub seen-below : (rs : List Record) → around h C n rs ≡ true → seen h C rs i ≡ true → i < n
-  unfolding around seen within
+  unfolding around seen inPart
   seen-below [] e s = both-ways false s refl
   seen-below (r ∷ rs) e s =
       let here = and-left (cond (staysIn h C r) (leb (r .offset + r .length) n) (leb n (r .offset))) (around h C n rs) e in
       let rest = and-right (cond (staysIn h C r) (leb (r .offset + r .length) n) (leb n (r .offset))) (around h C n rs) e in
-      split (i < n) (staysIn h C r && within r i)
+      split (i < n) (staysIn h C r && inPart r i)
       (λ t.
-      let ends = leb-true (r .offset + r .length) n (sym (cond-true (staysIn h C r) _ _ (and-left (staysIn h C r) (within r i) t)) ∙ here) in
-      let l = ltb-true i (r .offset + r .length) (and-right (leb (r .offset) i) (ltb i (r .offset + r .length)) (and-right (staysIn h C r) (within r i) t)) in
+      let ends = leb-true (r .offset + r .length) n (sym (cond-true (staysIn h C r) _ _ (and-left (staysIn h C r) (inPart r i) t)) ∙ here) in
+      let l = ltb-true i (r .offset + r .length) (and-right (leb (r .offset) i) (ltb i (r .offset + r .length)) (and-right (staysIn h C r) (inPart r i) t)) in
       omega arith)
-      (λ f. seen-below rs rest (or-rest (staysIn h C r && within r i) (seen h C rs i) s f))
+      (λ f. seen-below rs rest (or-rest (staysIn h C r && inPart r i) (seen h C rs i) s f))
 
   pub hidden-above : (rs : List Record) → around h C n rs ≡ true → hidden h C rs i ≡ true → n ≤ i
-  unfolding around hidden within
+  unfolding around hidden inPart
   hidden-above [] e s = both-ways false s refl
   hidden-above (r ∷ rs) e s =
       let here = and-left (cond (staysIn h C r) (leb (r .offset + r .length) n) (leb n (r .offset))) (around h C n rs) e in
       let rest = and-right (cond (staysIn h C r) (leb (r .offset + r .length) n) (leb n (r .offset))) (around h C n rs) e in
-      split (n ≤ i) (not (staysIn h C r) && within r i)
+      split (n ≤ i) (not (staysIn h C r) && inPart r i)
       (λ t.
-      let begins = leb-true n (r .offset) (sym (cond-false (staysIn h C r) _ _ (failed (staysIn h C r) (and-left (not (staysIn h C r)) (within r i) t))) ∙ here) in
-      let l = leb-true (r .offset) i (and-left (leb (r .offset) i) (ltb i (r .offset + r .length)) (and-right (not (staysIn h C r)) (within r i) t)) in
+      let begins = leb-true n (r .offset) (sym (cond-false (staysIn h C r) _ _ (failed (staysIn h C r) (and-left (not (staysIn h C r)) (inPart r i) t))) ∙ here) in
+      let l = leb-true (r .offset) i (and-left (leb (r .offset) i) (ltb i (r .offset + r .length)) (and-right (not (staysIn h C r)) (inPart r i) t)) in
       omega arith)
-      (λ f. hidden-above rs rest (or-rest (not (staysIn h C r) && within r i) (hidden h C rs i) s f))
+      (λ f. hidden-above rs rest (or-rest (not (staysIn h C r) && inPart r i) (hidden h C rs i) s f))
 
 pub divided : (h : List ℕ) (C : ℕ → Bool) (n : ℕ) (rs : List Record) → around h C n rs ≡ true → Apart h C rs
 divided h C n rs e i s = refuted (hidden h C rs i) (λ t. let a = seen-below h C n i rs e s in let b = hidden-above h C n i rs e t in omega arith)
@@ -79,7 +79,7 @@ bytes′ = replicate 16 0 ++ replicate 16 7
 
 -- to open this is to open the rules' definitions that the trays compute with
 unfoldable pub open-trays : Unit {0}
-unfolding open-rules status told inside recordRule recordStep inOrder trayAnswer afterTray remainingIn asked within seen hidden around
+unfolding open-rules status told inside recordRule recordStep inOrder trayAnswer afterTray remainingIn asked inPart seen hidden around
 open-trays = tt
 
 abbrev low : ℕ → Bool

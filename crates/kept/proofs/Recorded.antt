@@ -12,7 +12,7 @@ use Rattle.rules.specs.WellFormed.{wellFormed}
 use Rattle.rules.specs.Errors.{XbPrSd, XbdKcl, XbSz}
 use Rattle.rules.specs.Rule.{_⇒_, firstRefusal, Rule}
 use Rattle.rules.specs.Step.{State, answer, Outcome, badCaller, badCode, carriedOut, wholeRule, step, next}
-use Rattle.rules.specs.Tray.{Record, partOf, callIn, inside, recordRule, recordStep}
+use Rattle.rules.specs.Tray.{Record, partOf, recordCall, inside, recordRule, recordStep}
 use Rattle.laws.proofs.Tests.{cond-true, cond-false, cond-both, split}
 use Rattle.laws.proofs.Claims.{tested}
 use Rattle.kept.proofs.Kept.{Well, kept, conf-kept}
@@ -37,10 +37,10 @@ module _ (s : State) (bytes : List ℕ) (r : Record) where
   unfolding carriedOut
   same-carried k j e f = rw (e, f) refl
 
-  pub inside-is-step : Well s → inside bytes r ≡ true → recordStep s bytes r ≡ step s (callIn bytes r)
+  pub inside-is-step : Well s → inside bytes r ≡ true → recordStep s bytes r ≡ step s (recordCall bytes r)
   unfolding recordStep step recordRule wholeRule
   inside-is-step w e =
-      same-carried (recordRule conf s bytes r) (wholeRule conf s (callIn bytes r)) refl
+      same-carried (recordRule conf s bytes r) (wholeRule conf s (recordCall bytes r)) refl
       (rw (e, tested (wellFormed (s .table) (length (s .store))) w) refl)
 
   pub not-zero : outsideNumber s r ≡ 0 → ⊥
@@ -60,15 +60,15 @@ module _ (s : State) (bytes : List ℕ) (r : Record) where
   outside-is-refused e = stopped (recordRule conf s bytes r) (outsideNumber s r) (rw e refl) not-zero
 
   -- what a record leaves is what its call leaves, or the state as it was
-  pub state-is : Well s → recordStep s bytes r .state ≡ cond (inside bytes r) (next s (callIn bytes r)) s
+  pub state-is : Well s → recordStep s bytes r .state ≡ cond (inside bytes r) (next s (recordCall bytes r)) s
   state-is w = split _ (inside bytes r)
-      (λ e. ap (λ (o : Outcome). o .state) (inside-is-step w e) ∙ sym (cond-true (inside bytes r) (next s (callIn bytes r)) s e))
-      (λ e. ap (λ (o : Outcome). o .state) (outside-is-refused e) ∙ sym (cond-false (inside bytes r) (next s (callIn bytes r)) s e))
+      (λ e. ap (λ (o : Outcome). o .state) (inside-is-step w e) ∙ sym (cond-true (inside bytes r) (next s (recordCall bytes r)) s e))
+      (λ e. ap (λ (o : Outcome). o .state) (outside-is-refused e) ∙ sym (cond-false (inside bytes r) (next s (recordCall bytes r)) s e))
 
   -- a table stays well formed, and its configuration as it was
   pub record-kept : Well s → Well (recordStep s bytes r .state)
-  record-kept w = rw (state-is w) (cond-both Well (inside bytes r) (next s (callIn bytes r)) s (λ e. kept s (callIn bytes r) w) (λ e. w))
+  record-kept w = rw (state-is w) (cond-both Well (inside bytes r) (next s (recordCall bytes r)) s (λ e. kept s (recordCall bytes r) w) (λ e. w))
 
   pub record-conf-kept : Well s → configuration (recordStep s bytes r .state .table) ≡ conf
-  record-conf-kept w = rw (state-is w) (cond-both (λ (x : State). configuration (x .table) ≡ conf) (inside bytes r) (next s (callIn bytes r)) s
-      (λ e. conf-kept s (callIn bytes r) w) (λ e. refl))
+  record-conf-kept w = rw (state-is w) (cond-both (λ (x : State). configuration (x .table) ≡ conf) (inside bytes r) (next s (recordCall bytes r)) s
+      (λ e. conf-kept s (recordCall bytes r) w) (λ e. refl))

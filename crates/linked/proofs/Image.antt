@@ -69,7 +69,7 @@ module _ (m : Reloaded) where
   store-left = m .last .1 .0
 
 -- "Image then reload gives equal table and store"
-pub image-then-reload : (n : Told) (i : Written) (m : Reloaded) → rules.Words (table i)
+pub image-then-reload : (n : Told) (i : Written) (m : Reloaded) → rules.AreWords (table i)
     → asked-of n ≡ table i → bytes-of n ≡ length (store i) → i .answer ≡ XOK → image m ≡ take (n .answer) (out-left i)
     → length (table-lent m) ≡ length (table i) → length (store-lent m) ≡ length (store i)
     → (m .answer ≡ XOK) × (table-left m ≡ table i) × (store-left m ≡ store i)
@@ -86,7 +86,7 @@ image-then-reload n i m w a b ok e p q =
     )
 
 -- "an accepted image, written again, gives equal bytes"
-pub reload-then-image : (m : Reloaded) (i : Written) → rules.Bytes (image m) → m .answer ≡ XOK → table i ≡ table-left m → store i ≡ store-left m
+pub reload-then-image : (m : Reloaded) (i : Written) → rules.AreBytes (image m) → m .answer ≡ XOK → table i ≡ table-left m → store i ≡ store-left m
     → length (image m) ≤ length (out i) → (i .answer ≡ XOK) × (out-left i ≡ image m ++ drop (length (image m)) (out i))
 reload-then-image m i b ok a s l =
     let t′ : table i ≡ reloadTable (table-lent m) (store-lent m) (image m) = a ∙ m .allowed .1 .0 in

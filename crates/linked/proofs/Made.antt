@@ -20,14 +20,14 @@ use Rattle.monitor.proofs.monitor_call.Kinds.{ps, r}
 use Rattle.monitor.proofs.monitor_call.Reads.{Learnt}
 
 -- one call: what it is lent and told, what it answers, and what it leaves of each slice, as the contract allows
-pub record Done : Type 0 where
+pub record DoneCall : Type 0 where
   pub lifetimes : Lfts 3
   pub lent : Dens lifetimes ps
   pub answer : resT r lifetimes .Denot
   pub last : Lasts (endedOf 3 ps r) lifetimes lent
   pub allowed : Learnt lifetimes lent answer (atExit (endedOf 3 ps r) lifetimes lent last)
 
-module _ (d : Done) where
+module _ (d : DoneCall) where
   -- the state that it finds, and the call that it is
   abbrev pub found : State
   found = stateOf (d .lent .0 .now) (d .lent .1 .0 .now)
@@ -45,7 +45,7 @@ module _ (d : Done) where
 -- a run from one state to another: its calls, and what each caller got; every call finds what the one before it left
 pub data Made : State → List Call → List Reply → State → Type 0 where
   none : {s : State} → Made s [] [] s
-  more : {ks : List Call} {ys : List Reply} {u : State} (d : Done) → Made (left d) ks ys u → Made (found d) (made d ∷ ks) (got d ∷ ys) u
+  more : {ks : List Call} {ys : List Reply} {u : State} (d : DoneCall) → Made (left d) ks ys u → Made (found d) (made d ∷ ks) (got d ∷ ys) u
 
 -- what those calls got whose callers' slots lie in the cells of C
 pub gotBy : List ℕ → (ℕ → Bool) → List Call → List Reply → List Reply
@@ -56,10 +56,10 @@ gotBy h C (k ∷ ks) (y ∷ ys) = cond (stays h C k) (y ∷ gotBy h C ks ys) (go
 -- ---- such a run is the rules' run
 
 -- one call is a step
-step-left : (d : Done) → left d ≡ next (found d) (made d)
+step-left : (d : DoneCall) → left d ≡ next (found d) (made d)
 step-left d = ap₂ stateOf (d .allowed .table) (d .allowed .store)
 
-step-got : (d : Done) → got d ≡ reply (found d) (made d)
+step-got : (d : DoneCall) → got d ≡ reply (found d) (made d)
 unfolding reply
 step-got d = λ i. record { answered = d .allowed .answered i; buffer = d .allowed .buffer i }
 
@@ -76,7 +76,7 @@ all-got h C (more {ks = ks} d m) = rw (all-got h C m, step-left d, step-got d)
 -- ---- regrades, by what the calls were answered and what they found (rules/specs/Regrade has the same of the rules' run)
 
 -- what the set is told of a call
-unfoldable pub eventBy : List ℕ → (ℕ → Bool) → Done → List (Event Call)
+unfoldable pub eventBy : List ℕ → (ℕ → Bool) → DoneCall → List (Event Call)
 eventBy h C d =
     let k : Call = made d in
     cond (stays h C k) (remains k ∷ [])
@@ -89,17 +89,17 @@ eventsBy h C none = []
 eventsBy h C (more d m) = eventBy h C d ++ eventsBy h C m
 
 -- no remaining regrade comes as far as the search for a slot of a cell outside the set
-unfoldable pub asksBy : Done → Bool
+unfoldable pub asksBy : DoneCall → Bool
 asksBy d = eqb (made d .code) regradeCode && (eqb (d .answer .error) XOK || eqb (d .answer .error) XnoSpace)
 
 pub AsksNoneBy : List ℕ → (ℕ → Bool) → {s u : State} {ks : List Call} {ys : List Reply} → Made s ks ys u → Type 0
 AsksNoneBy h C none = Unit {0}
 AsksNoneBy h C (more d m) = (stays h C (made d) ≡ true → asksBy d ≡ true → C (made d .b) ≡ true) × AsksNoneBy h C m
 
-error-told : (d : Done) → d .answer .error ≡ step (found d) (made d) .answered .error
+error-told : (d : DoneCall) → d .answer .error ≡ step (found d) (made d) .answered .error
 error-told d = ap (λ (x : rules.Answer). x .error) (d .allowed .answered)
 
-event-told : (h : List ℕ) (C : ℕ → Bool) (d : Done) → eventBy h C d ≡ event h C (found d) (made d)
+event-told : (h : List ℕ) (C : ℕ → Bool) (d : DoneCall) → eventBy h C d ≡ event h C (found d) (made d)
 unfolding eventBy event accepted
 event-told h C d = rw (error-told d)
 

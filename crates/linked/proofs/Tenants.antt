@@ -15,14 +15,14 @@ use Rattle.secrecy.proofs.Tenants.{tenants-closed}
 use Rattle.linked.proofs.Made.{Made, gotBy, eventsBy}
 use Rattle.linked.proofs.Demand3 as calls
 use Rattle.linked.proofs.Trays as trays
-use Rattle.linked.proofs.Trays.{Done, found, tray, bytes, Same}
+use Rattle.linked.proofs.Trays.{DoneTray, found, tray, bytes, Same}
 
 pub tenants-see : (T : ℕ → Bool) {s t u v : State} {ks js : List Call} {ys zs : List Reply} (m : Made s ks ys u) (n : Made t js zs v) → Well s → Well t
     → let h : List ℕ = configuration (s .table) in let C : ℕ → Bool = tenants h T in Agree C s t → eventsBy h C m ≡ eventsBy h C n
     → (guardWithin h C ≡ true → NamesNone h C ks) → (gotBy h C ks ys ≡ gotBy h C js zs) × Agree C u v
 tenants-see T {s} m n ws wt = calls.as-asked (tenants (configuration (s .table)) T) m n ws wt (tenants-closed (configuration (s .table)) T)
 
-pub tenants-trays : (T : ℕ → Bool) (d e : Done) → Well (found d) → Well (found e)
+pub tenants-trays : (T : ℕ → Bool) (d e : DoneTray) → Well (found d) → Well (found e)
     → let h : List ℕ = configuration (found d .table) in let C : ℕ → Bool = tenants h T in Agree C (found d) (found e)
     → Premises h C (tray d) (tray e) (bytes d) (bytes e) → eventsIn h C (found d) (bytes d) (tray d) ≡ eventsIn h C (found e) (bytes e) (tray e)
     → (guardWithin h C ≡ true → NamesNone h C (callsIn (tray d))) → Same C d e

@@ -1,6 +1,6 @@
 -- Demand 3 of trays through the exported `monitor_tray`.
 --
--- Two trays are handed to it, each on a well-formed table and store and with a byte slice of its own (`Done`: of each its contract is known, and nothing else). C is a
+-- Two trays are handed to it, each on a well-formed table and store and with a byte slice of its own (`DoneTray`: of each its contract is known, and nothing else). C is a
 -- set of cells that holds with each cell every cell flowing to it, the two states agree on all that the set may see, and 02's premises hold of the two trays. Then
 -- both answer 0, the records of callers in the set got the same answers, their parts hold the same bytes, and the tables and stores agree. It follows from the
 -- contract and from crates/secrecy/proofs/Tray. Of regrades the premise is CR 9's, as there: of the records that each tray was lent, on the state and the bytes that it found.
@@ -33,31 +33,31 @@ use Rattle.secrecy.proofs.Regrades.{NoRegrade}
 use Rattle.secrecy.proofs.Tray as secrecy
 use Rattle.secrecy.proofs.Tray.{Premises, SameTrays}
 use Rattle.calls.specs.Did.{stateOf}
-use Rattle.calls.specs.Tray.{recordsOf, Trayed}
+use Rattle.calls.specs.Tray.{ruleRecords, Trayed}
 use Rattle.monitor.proofs.monitor_tray.{signature, ended, clauses}
 
 -- one tray: what the function is lent, what it answers, and what it leaves of each slice, as its contract allows
-pub record Done : Type 0 where
+pub record DoneTray : Type 0 where
   pub lifetimes : Lfts 4
   pub lent : Args signature lifetimes
   pub answer : Res signature lifetimes
   pub last : Lasts ended lifetimes lent
   pub allowed : Trayed (stateOf (lent .0 .now) (lent .1 .0 .now)) (lent .1 .1 .1 .0 .now) (lent .1 .1 .0 .now) answer (last .0) (last .1 .0) (last .1 .1 .1 .0) (last .1 .1 .0)
 
-module _ (d : Done) where
+module _ (d : DoneTray) where
   -- the state that it finds, the records and the bytes
   abbrev pub found : State
   found = stateOf (d .lent .0 .now) (d .lent .1 .0 .now)
 
   abbrev pub tray : List rules.Record
-  tray = recordsOf (d .lent .1 .1 .0 .now)
+  tray = ruleRecords (d .lent .1 .1 .0 .now)
 
   abbrev pub bytes : List ℕ
   bytes = d .lent .1 .1 .1 .0 .now
 
   -- what it leaves of them
   abbrev pub leaves : Tray
-  leaves = left (stateOf (d .last .0) (d .last .1 .0)) (d .last .1 .1 .1 .0) (recordsOf (d .last .1 .1 .0))
+  leaves = left (stateOf (d .last .0) (d .last .1 .0)) (d .last .1 .1 .1 .0) (ruleRecords (d .last .1 .1 .0))
 
   -- that is what the rules' tray leaves
   pub leaves-is : leaves ≡ afterTray found bytes tray
@@ -74,10 +74,10 @@ same-trays : (h : List ℕ) (C : ℕ → Bool) (rs : List rules.Record) (x y u v
 same-trays h C rs x y u v e f s = rw (e, f) s
 
 -- both answer 0, and the set sees the same of what they leave
-abbrev pub Same : (C : ℕ → Bool) (d e : Done) → Type 0
+abbrev pub Same : (C : ℕ → Bool) (d e : DoneTray) → Type 0
 Same C d e = (d .answer ≡ XOK) × (e .answer ≡ XOK) × SameTrays (configuration (found d .table)) C (tray d) (leaves d) (leaves e)
 
-module _ (C : ℕ → Bool) (d e : Done) (wd : Well (found d)) (we : Well (found e)) (cl : Closed (configuration (found d .table)) C) (a : Agree C (found d) (found e))
+module _ (C : ℕ → Bool) (d e : DoneTray) (wd : Well (found d)) (we : Well (found e)) (cl : Closed (configuration (found d .table)) C) (a : Agree C (found d) (found e))
     (p : Premises (configuration (found d .table)) C (tray d) (tray e) (bytes d) (bytes e)) where
   abbrev h : List ℕ
   h = configuration (found d .table)

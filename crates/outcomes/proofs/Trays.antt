@@ -16,7 +16,7 @@ use denote.Triple.Clauses.{Lasts, atExit}
 use Rattle.rules.specs.Tray as rules
 use Rattle.calls.specs.declared.Record.{Record}
 use Rattle.calls.specs.Did.{stateOf}
-use Rattle.calls.specs.Tray.{recordsOf, Trayed}
+use Rattle.calls.specs.Tray.{ruleRecords, Trayed}
 use Rattle.calls.proofs.tray as calls
 use Rattle.monitor.proofs.monitor_tray as monitor
 use Rattle.outcomes.proofs.Exact.{one, both}
@@ -53,12 +53,12 @@ recordBy r = record {
   answer = record { error = r .answer .error; first = r .answer .first; second = r .answer .second };
 }
 
-again : (rs : List Record) → map recordBy (recordsOf rs) ≡ rs
+again : (rs : List Record) → map recordBy (ruleRecords rs) ≡ rs
 unfolding recordBy
 again [] = refl
 again (r ∷ rs) = ap (λ (l : List Record). r ∷ l) (again rs)
 
-one-list : {rs qs : List Record} → recordsOf rs ≡ recordsOf qs → rs ≡ qs
+one-list : {rs qs : List Record} → ruleRecords rs ≡ ruleRecords qs → rs ≡ qs
 one-list {rs} {qs} e = sym (again rs) ∙ ap (map recordBy) e ∙ again qs
 
 -- any two outcomes that the contract allows are equal: the answer, and what is left of table, store, records and bytes

@@ -7,12 +7,12 @@ use Prim.Native.Nat.{ℕ, _^_, _<_}
 use lib.ListN.{length}
 use Rattle.rules.specs.Replay.{listing}
 use Rattle.session.specs.Turn.{newSession, blankTable}
-use Rattle.session.proofs.Whole.{Handed, handed-out}
+use Rattle.session.proofs.Whole.{HandedOn, handed-out}
 use Rattle.player.specs.declared.Report.{Report}
 use Rattle.player.specs.Went.{Replayed}
 
 module _ (r : Report) (p : Replayed r) where
-  all-of : (input : List ℕ) → length input < 2 ^ 64 → Handed newSession (blankTable (p .table)) (p .store) (p .buffer) [] 0 input (p .text)
+  all-of : (input : List ℕ) → length input < 2 ^ 64 → HandedOn newSession (blankTable (p .table)) (p .store) (p .buffer) [] 0 input (p .text)
       → p .text ≡ listing input
   all-of input = handed-out (p .table) (p .store) (p .buffer) (p .lent) newSession (blankTable (p .table)) (refl, refl) input (p .text)
 

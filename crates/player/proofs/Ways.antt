@@ -14,8 +14,8 @@ use Rattle.session.specs.declared.Session.{Session}
 use Rattle.session.specs.declared.Stepped.{Stepped}
 use Rattle.session.specs.Turn.{newSession, blankTable, finishText, Written}
 use Rattle.session.specs.Play.{play, Played}
-use Rattle.session.proofs.Ready.{mostWords, mostBytes}
-use Rattle.session.proofs.Whole.{Lent, Handed, played, read as reads-on, stopped, finished}
+use Rattle.session.proofs.Ready.{mostReplayWords, mostReplayBytes}
+use Rattle.session.proofs.Whole.{Lent, HandedOn, played, read as reads-on, stopped, finished}
 use Rattle.player.specs.declared.Progress.{Progress}
 use Rattle.player.specs.declared.Report.{Report}
 use Rattle.player.specs.Went.{Counts, Way, Pieced, Went, Replayed}
@@ -139,8 +139,8 @@ one-more a w e = record {
 
 -- memory of just the size that the largest script takes
 pub record Sized (t st l : List ℕ) : Type 0 where
-  pub words : length t ≡ mostWords
-  pub bytes : length st ≡ mostBytes
+  pub words : length t ≡ mostReplayWords
+  pub bytes : length st ≡ mostReplayBytes
   pub buffer : length l ≡ maxBuffer
 
 abbrev report : ℕ → ℕ → Bool → Bool → Report
@@ -156,7 +156,7 @@ module _ (t : List ℕ) {st l : List ℕ} {x : Session} {t₀ : List ℕ} (e : (
     buffer = omega (arith, m .buffer);
   }
 
-  from-start : (ys text : List ℕ) → Handed x t₀ st l [] 0 ys text → Handed newSession (blankTable t) st l [] 0 ys text
+  from-start : (ys text : List ℕ) → HandedOn x t₀ st l [] 0 ys text → HandedOn newSession (blankTable t) st l [] 0 ys text
   from-start ys text h = rw (e .0, e .1) at h
 
   -- the last turn

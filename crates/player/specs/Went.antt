@@ -1,5 +1,5 @@
 -- What the parts of replay's loop ensure, over the session: what is lent, what is handed on, and what is left to do.
--- `Handed x t st l s i ys text` (crates/session/proofs/Whole): a driver of a session x, to which the table t, the store st and the buffer l are lent, stands at
+-- `HandedOn x t st l s i ys text` (crates/session/proofs/Whole): a driver of a session x, to which the table t, the store st and the buffer l are lent, stands at
 -- place i of a piece s of the input, and has not read ys; what it hands on from there to the end is `text`.
 use mathlib.Core.Bool.{true, false}
 use mathlib.Core.List.{List, [], _++_}
@@ -8,7 +8,7 @@ use Prim.Native.Nat.{ℕ, _+_, _%_, _^_, _≤_}
 use lib.ListN.{length, take}
 use Rattle.session.specs.declared.Session.{Session}
 use Rattle.session.specs.Turn.{newSession, blankTable}
-use Rattle.session.proofs.Whole.{Lent, Handed}
+use Rattle.session.proofs.Whole.{Lent, HandedOn}
 use Rattle.player.specs.declared.Progress.{Progress}
 use Rattle.player.specs.declared.Report.{Report}
 
@@ -24,7 +24,7 @@ Counts m n s = n % 2 ^ 64 ≡ (m + length s) % 2 ^ 64
 pub record Way (x : Session) (t st l s : List ℕ) (i handed : ℕ) (x′ : Session) (t′ st′ l′ s′ : List ℕ) (i′ handed′ : ℕ) (read : List ℕ) : Type 0 where
   pub text : List ℕ
   pub counted : Counts handed handed′ text
-  pub leads : (ys more : List ℕ) → Handed x′ t′ st′ l′ s′ i′ ys more → Handed x t st l s i (read ++ ys) (text ++ more)
+  pub leads : (ys more : List ℕ) → HandedOn x′ t′ st′ l′ s′ i′ ys more → HandedOn x t st l s i (read ++ ys) (text ++ more)
 
 -- a piece s is played from its start as far as some place; where there is more to do, that is its end
 pub record Pieced (x : Session) (read handed : ℕ) (t st l s : List ℕ) (r : Progress) (t′ st′ l′ : List ℕ) : Type 0 where
@@ -43,7 +43,7 @@ pub record Went (x : Session) (read handed : ℕ) (t st l : List ℕ) (r : Progr
   pub way : r .ended ≡ false → Way x t st l [] 0 handed (r .session) t′ st′ l′ piece place (r .handed) input
   pub used-up : r .more ≡ true → length piece ≤ place
   pub going-on : r .more ≡ true → r .ended ≡ false
-  pub last : r .ended ≡ true → (text : List ℕ) × (Counts handed (r .handed) text) × Handed x t st l [] 0 input text
+  pub last : r .ended ≡ true → (text : List ℕ) × (Counts handed (r .handed) text) × HandedOn x t st l [] 0 input text
 
 -- a whole replay: a table, a store and a buffer of the size that the largest script takes are lent to a new session, input is read, and text handed on
 pub record Replayed (r : Report) : Type 0 where
@@ -56,6 +56,6 @@ pub record Replayed (r : Report) : Type 0 where
   pub read-counted : Counts 0 (r .read) input
   pub counted : Counts 0 (r .handed) text
   -- the input has ended: that is all of the text
-  pub ended : r .ended ≡ true → Handed newSession (blankTable table) store buffer [] 0 input text
+  pub ended : r .ended ≡ true → HandedOn newSession (blankTable table) store buffer [] 0 input text
   -- a bad line was written: that is all of the text, whatever is left of the input
-  pub over : r .ended ≡ false → r .over ≡ true → (ys : List ℕ) → Handed newSession (blankTable table) store buffer [] 0 (input ++ ys) text
+  pub over : r .ended ≡ false → r .over ≡ true → (ys : List ℕ) → HandedOn newSession (blankTable table) store buffer [] 0 (input ++ ys) text

@@ -30,8 +30,8 @@ use Rattle.promises.proofs.Mail.{wordOf, messageOf, Waiting, receives, 
 -- ---- bytes and words
 
 -- a buffer's bytes
-abbrev pub Bytes : List ℕ → Type 0
-Bytes b = AllOf (λ x. x < 256) b
+abbrev pub AreBytes : List ℕ → Type 0
+AreBytes b = AllOf (λ x. x < 256) b
 
 abbrev word : ℕ → ℕ → ℕ → ℕ → ℕ
 word a b c d = a * 16777216 + b * 65536 + c * 256 + d
@@ -56,12 +56,12 @@ four-bytes a b c d la lb lc ld = rw (first, second, third, fourth)
 record Split (b : List ℕ) (n : ℕ) : Type 0 where
   rest : List ℕ
   rest-length : length rest ≡ n
-  rest-bytes : Bytes rest
+  rest-bytes : AreBytes rest
   together : bytes4 (word4 b 0) ++ rest ≡ b
   next-word : word4 b 4 ≡ word4 rest 0
   next-but-one : word4 b 8 ≡ word4 rest 4
 
-first-four : (b : List ℕ) (n : ℕ) → Bytes b → length b ≡ 4 + n → Split b n
+first-four : (b : List ℕ) (n : ℕ) → AreBytes b → length b ≡ 4 + n → Split b n
 unfolding word4
 first-four [] n x e = absurd (omega arith)
 first-four (a ∷ []) n x e = absurd (omega arith)
@@ -80,7 +80,7 @@ none-left : (b : List ℕ) → length b ≡ 0 → b ≡ []
 none-left [] e = refl
 none-left (x ∷ b) e = absurd (omega arith)
 
-text-bytes : (b : List ℕ) → Bytes b → length b ≡ textBytes → bytes4 (word4 b 0) ++ (bytes4 (word4 b 4) ++ bytes4 (word4 b 8)) ≡ b
+text-bytes : (b : List ℕ) → AreBytes b → length b ≡ textBytes → bytes4 (word4 b 0) ++ (bytes4 (word4 b 4) ++ bytes4 (word4 b 8)) ≡ b
 text-bytes b x e =
     let one = first-four b 8 x e in
     let two = first-four (one .rest) 4 (one .rest-bytes) (one .rest-length) in
@@ -196,7 +196,7 @@ module _ (s : State) (k : Call) (n : ℕ) (d : Delivered s k n) where
   }
 
   -- as the sender's seid and the text
-  whole : Bytes (k .buffer) → messageOf (next s k) q n
+  whole : AreBytes (k .buffer) → messageOf (next s k) q n
       ≡ class process ∷ k .caller ∷ wordOf s (k .caller) serial / 256 ∷ wordOf s (k .caller) serial % 256 ∷ k .buffer
   unfolding new-word seidAt
   whole bytes =
@@ -211,7 +211,7 @@ module _ (s : State) (k : Call) (n : ℕ) (d : Delivered s k n) where
 -- ---- the statement
 
 -- after n receives by the receiver, its next one gives the message, whatever other calls were made
-pub comes-out-whole : (s : State) (k : Call) (n : ℕ) → Delivered s k n → Bytes (k .buffer) → let q : ℕ = indexOf (given s k) in
+pub comes-out-whole : (s : State) (k : Call) (n : ℕ) → Delivered s k n → AreBytes (k .buffer) → let q : ℕ = indexOf (given s k) in
     let sender : ℕ = wordOf s (k .caller) serial in
     (before : List Call) (k′ : Call) → receipts q before ≡ n → Unreleased q (next s k) before → receives q k′ ≡ true
     → (step (run (next s k) before) k′ .answered .error ≡ XOK)

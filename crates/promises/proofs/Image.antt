@@ -22,29 +22,29 @@ use Rattle.kept.proofs.Kept.{Well, run-kept, run-conf-kept}
 use Rattle.numerals.proofs.Round.{reads-back, was-written}
 
 -- words of 32 bits, and bytes: what lent slices have
-abbrev pub Words : List ℕ → Type 0
-Words t = (i : ℕ) → i < length t → getD t i 0 < 2 ^ 32
+abbrev pub AreWords : List ℕ → Type 0
+AreWords t = (i : ℕ) → i < length t → getD t i 0 < 2 ^ 32
 
-abbrev pub Bytes : List ℕ → Type 0
-Bytes s = (i : ℕ) → i < length s → getD s i 0 < 256
+abbrev pub AreBytes : List ℕ → Type 0
+AreBytes s = (i : ℕ) → i < length s → getD s i 0 < 256
 
 -- ---- the words of an image, read back
 
-words-tail : (v : ℕ) (t : List ℕ) → Words (v ∷ t) → Words t
+words-tail : (v : ℕ) (t : List ℕ) → AreWords (v ∷ t) → AreWords t
 words-tail v t w i l = w (suc i) (omega arith)
 
-words-cons : (v : ℕ) (t : List ℕ) → v < 2 ^ 32 → Words t → Words (v ∷ t)
+words-cons : (v : ℕ) (t : List ℕ) → v < 2 ^ 32 → AreWords t → AreWords (v ∷ t)
 words-cons v t h w zero l = h
 words-cons v t h w (suc i) l = w i (omega arith)
 
-bytes-rest : (a r s : List ℕ) → s ≡ a ++ r → Bytes s → Bytes r
+bytes-rest : (a r s : List ℕ) → s ≡ a ++ r → AreBytes s → AreBytes r
 bytes-rest a r s e b i l =
     let f : length s ≡ length a + length r = ap length e ∙ length-append a r in
     let g : getD s (length a + i) 0 ≡ getD r i 0 = ap (λ (x : List ℕ). getD x (length a + i) 0) e ∙ getD-append-add a r i 0 in
     rw g at (b (length a + i) (omega arith))
 
 -- numbers that stand at the front, as they are written
-pub words-back : (t vs rest : List ℕ) → Words t → numbersFrom vs (length t) (wordBytes t ++ rest) ≡ took (vs ++ t) rest
+pub words-back : (t vs rest : List ℕ) → AreWords t → numbersFrom vs (length t) (wordBytes t ++ rest) ≡ took (vs ++ t) rest
 unfolding wordBytes numbersFrom
 words-back [] vs rest w = ap (λ (x : List ℕ). took x rest) (sym (append-nil vs))
 words-back (v ∷ t) vs rest w =
@@ -59,7 +59,7 @@ pub record Stood (n : ℕ) (vs s ts rest : List ℕ) : Type 0 where
   pub after : ts ≡ vs ++ words
   pub bytes : s ≡ wordBytes words ++ rest
   pub many : length words ≡ n
-  pub small : Words words
+  pub small : AreWords words
 
 stood-none : (vs s ts rest : List ℕ) → took vs s ≡ took ts rest → Stood 0 vs s ts rest
 unfolding wordBytes
@@ -80,15 +80,15 @@ stood-one n v vs s r ts rest e l x =
     }
 
 -- the first of them, and those after it
-stood-next : (n : ℕ) (vs s ts rest : List ℕ) → Bytes s
-    → ((v : ℕ) (r : List ℕ) → Bytes r → numbersFrom (vs ++ (v ∷ [])) n r ≡ took ts rest → Stood n (vs ++ (v ∷ [])) r ts rest)
+stood-next : (n : ℕ) (vs s ts rest : List ℕ) → AreBytes s
+    → ((v : ℕ) (r : List ℕ) → AreBytes r → numbersFrom (vs ++ (v ∷ [])) n r ≡ took ts rest → Stood n (vs ++ (v ∷ [])) r ts rest)
     → (x : Taken ℕ) → number s ≡ x → numbersFrom vs (suc n) s ≡ took ts rest → Stood (suc n) vs s ts rest
 stood-next n vs s ts rest b again (took v r) e f =
     let w = was-written s v r b e in
     stood-one n v vs s r ts rest (w .0) (w .1) (again v r (bytes-rest (encoded v) r s (w .0) b) (sym (next-number vs n s v r e) ∙ f))
 stood-next n vs s ts rest b again bad e f = not-taken ts rest (sym (no-number vs n s e) ∙ f)
 
-pub words-stood : (n : ℕ) (vs s ts rest : List ℕ) → Bytes s → numbersFrom vs n s ≡ took ts rest → Stood n vs s ts rest
+pub words-stood : (n : ℕ) (vs s ts rest : List ℕ) → AreBytes s → numbersFrom vs n s ≡ took ts rest → Stood n vs s ts rest
 unfolding numbersFrom
 words-stood zero vs s ts rest b e = stood-none vs s ts rest e
 words-stood (suc n) vs s ts rest b e =
@@ -146,7 +146,7 @@ pub record TakenIn (t s image t′ s′ : List ℕ) : Type 0 where
   pub well : Holds (wellFormed t′ (length s′))
   pub words-stay : length t′ ≡ length t
   pub bytes-stay : length s′ ≡ length s
-  pub small : Words t′
+  pub small : AreWords t′
   pub is-image : image ≡ imageOf t′ s′
 
 module _ (t s image : List ℕ) where
@@ -155,7 +155,7 @@ module _ (t s image : List ℕ) where
       → (reloadAnswer t s image ≡ XbParam) × (reloadTable t s image ≡ t) × (reloadStore t s image ≡ s)
   reload-refused n = by-reading t s image _ (λ t′ s′ e. absurd (n (reloaded-by t s image t′ s′ e .answered))) (refused-by t s image)
 
-  taken-in-by : Bytes image → (t′ s′ : List ℕ) → readBack (length t) (length s) image ≡ took t′ s′ → TakenIn t s image t′ s′
+  taken-in-by : AreBytes image → (t′ s′ : List ℕ) → readBack (length t) (length s) image ≡ took t′ s′ → TakenIn t s image t′ s′
   unfolding imageOf
   taken-in-by b t′ s′ e =
       let h = held (length t) (length s) image t′ s′ e in
@@ -168,7 +168,7 @@ module _ (t s image : List ℕ) where
         is-image = rw (x .after) (x .bytes);
       }
 
-  pub reload-taken : Bytes image → reloadAnswer t s image ≡ XOK → TakenIn t s image (reloadTable t s image) (reloadStore t s image)
+  pub reload-taken : AreBytes image → reloadAnswer t s image ≡ XOK → TakenIn t s image (reloadTable t s image) (reloadStore t s image)
   reload-taken b e =
       by-reading t s image _
       (λ t′ s′ f. let r = reloaded-by t s image t′ s′ f in rw (r .table, r .store) (taken-in-by b t′ s′ f))
@@ -177,7 +177,7 @@ module _ (t s image : List ℕ) where
 -- ---- both
 
 -- the words and bytes of a well-formed table and store are read back, whatever follows them is not
-module _ (t s t₀ s₀ : List ℕ) (words : Words t) (as-long : length t₀ ≡ length t) where
+module _ (t s t₀ s₀ : List ℕ) (words : AreWords t) (as-long : length t₀ ≡ length t) where
   reads-words : (rest : List ℕ) → numbers (length t₀) (wordBytes t ++ rest) ≡ took t rest
   reads-words rest = rw as-long (words-back t [] rest words)
 
@@ -188,12 +188,12 @@ module _ (t s t₀ s₀ : List ℕ) (words : Words t) (as-long : length t₀ ≡
       (held-where (length t₀) (length s₀) (imageOf t s) t s (record { stands = reads-words s; rest = sym e; well = rw e w }))
 
 -- "Image then reload gives equal table and store": whatever stood in the lent table and store, if they are as long
-pub image-then-reload : (t s out t₀ s₀ : List ℕ) → Words t → imageAnswer t s out ≡ XOK → length t₀ ≡ length t → length s₀ ≡ length s
+pub image-then-reload : (t s out t₀ s₀ : List ℕ) → AreWords t → imageAnswer t s out ≡ XOK → length t₀ ≡ length t → length s₀ ≡ length s
     → Reloaded t₀ s₀ (take (imageLength t (length s)) (imageOut t s out)) t s
 image-then-reload t s out t₀ s₀ w e a b = rw (told-is-written t s out e .0) (takes-image t s t₀ s₀ w a b (written-for t s out e .0))
 
 -- "an accepted image, written again, gives equal bytes": as long, and the same
-pub reload-then-image : (t s image out : List ℕ) → Bytes image → reloadAnswer t s image ≡ XOK → length image ≤ length out
+pub reload-then-image : (t s image out : List ℕ) → AreBytes image → reloadAnswer t s image ≡ XOK → length image ≤ length out
     → let t′ : List ℕ = reloadTable t s image in let s′ : List ℕ = reloadStore t s image in
     (imageLength t′ (length s′) ≡ length image) × (imageAnswer t′ s′ out ≡ XOK) × (imageOut t′ s′ out ≡ image ++ drop (length image) out)
 reload-then-image t s image out b e l =
@@ -207,7 +207,7 @@ reload-then-image t s image out b e l =
     )
 
 -- "refuses .. any image that is cut, has bytes over": of two images, of which one is the other with bytes over, not both are taken
-module _ (t s image more : List ℕ) (b : Bytes image) (l : 1 ≤ length more) where
+module _ (t s image more : List ℕ) (b : AreBytes image) (l : 1 ≤ length more) where
   longer-refused : (t′ s′ : List ℕ) → readBack (length t) (length s) image ≡ took t′ s′
       → (t″ s″ : List ℕ) → readBack (length t) (length s) (image ++ more) ≡ took t″ s″ → ⊥
   longer-refused t′ s′ e t″ s″ f =
@@ -245,7 +245,7 @@ same-lengths s u w v e =
 -- the image of an evening, reloaded after any calls: the evening's state is there again. So every call is answered as it would have been
 -- then, a creating one with a seid that may have been handed out since. No run of calls has a reload in it: what is said of runs (Single,
 -- Gone, demand 3) is said between reloads.
-module _ (s : State) (ks : List Call) (out : List ℕ) (words : Words (s .table)) (taken : imageAnswer (s .table) (s .store) out ≡ XOK) where
+module _ (s : State) (ks : List Call) (out : List ℕ) (words : AreWords (s .table)) (taken : imageAnswer (s .table) (s .store) out ≡ XOK) where
   abbrev evening : List ℕ
   evening = take (imageLength (s .table) (length (s .store))) (imageOut (s .table) (s .store) out)
 

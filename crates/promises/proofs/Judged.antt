@@ -81,7 +81,7 @@ twiceOpen = write conf used ((at process 0 (heldAt file 1) ≔ opened) ∷ (at p
 abbrev right : List ℕ → Bool
 right t = test (wellFormed t bytes)
 
-pub record Judged : Type 0 where
+pub record Judgements : Type 0 where
   pub not-set-up : right filled ≡ false
   pub set-up : right (setUpTable filled bytes) ≡ true
   pub in-use : right used ≡ true
@@ -142,7 +142,7 @@ pub record Judged : Type 0 where
   pub word-too-many : right (used ++ 0 ∷ []) ≡ false
   pub byte-too-many : test (wellFormed used (bytes + 1)) ≡ false
 
-pub judged : Judged
+pub judged : Judgements
 unfolding open-table open-set-up
 judged =
     record {

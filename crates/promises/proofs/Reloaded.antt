@@ -17,14 +17,14 @@ use Rattle.promises.proofs.Opened.{open-table, open-set-up}
 use Rattle.laws.proofs.Below.{all-at}
 use Rattle.laws.proofs.Claims.{holds}
 use Rattle.kept.proofs.Kept.{Well}
-use Rattle.promises.proofs.Image.{Words, reloaded, written-where, answered-again}
+use Rattle.promises.proofs.Image.{AreWords, reloaded, written-where, answered-again}
 use Rattle.promises.proofs.Edges.{first-worn, creation, edges}
 
 -- the bytes that an evening writes
 abbrev pub evening : State → List ℕ → List ℕ
 evening s out = take (imageLength (s .table) (length (s .store))) (imageOut (s .table) (s .store) out)
 
-pub handed-out-again : (s : State) (k : Call) (out : List ℕ) → Words (s .table) → imageAnswer (s .table) (s .store) out ≡ XOK
+pub handed-out-again : (s : State) (k : Call) (out : List ℕ) → AreWords (s .table) → imageAnswer (s .table) (s .store) out ≡ XOK
     → step (reloaded (next s k) (evening s out)) k .answered ≡ step s k .answered
 unfolding run
 handed-out-again s k out words taken = ap (λ o. o .answered) (answered-again s (k ∷ []) out words taken k)
@@ -35,7 +35,7 @@ formed : Well first-worn
 unfolding open-table open-set-up
 formed = holds (wellFormed (first-worn .table) (length (first-worn .store))) refl
 
-small : Words (first-worn .table)
+small : AreWords (first-worn .table)
 unfolding open-table open-set-up
 small i l = ltb-true _ _ (all-at 146 (λ i. ltb (getD (first-worn .table) i 0) (2 ^ 32)) refl i l)
 

@@ -47,7 +47,7 @@ creates n = eqb n 1 || (eqb n 3 || (eqb n 7 || eqb n regradeCode))
 -- ---- one creating call
 
 -- the slot that a rule takes, the seid that it gives, and the serial that it leaves in the slot; no other slot comes to life or goes
-pub record Handed (h : List ℕ) (r : Addr → ℕ) (x : Rule) : Type 0 where
+pub record HandedOut (h : List ℕ) (r : Addr → ℕ) (x : Rule) : Type 0 where
   pub kind : Kind
   pub slot : ℕ
   pub in-range : slot < slots h kind
@@ -67,14 +67,14 @@ module _ (h : List ℕ) (r : Addr → ℕ) (k : Call) (me : Caller h r (k .calle
   handed-in : (c : ℕ) → c < cells h → (j : Kind) (x : Rule) → noSlot h r j c ≡ false
       → x .effects .first ≡ seid (class j) (freeSlot h r j c) (r (at j (freeSlot h r j c) serial) + 1)
       → over r (x .effects .words) (at j (freeSlot h r j c) serial) ≡ r (at j (freeSlot h r j c) serial) + 1
-      → ((l : Kind) (i : ℕ) → (l ≡ j → i ≡ freeSlot h r j c → ⊥) → over r (x .effects .words) (at l i live) ≡ r (at l i live)) → Handed h r x
+      → ((l : Kind) (i : ℕ) → (l ≡ j → i ≡ freeSlot h r j c → ⊥) → over r (x .effects .words) (at l i live) ≡ r (at l i live)) → HandedOut h r x
   handed-in c l j x room given left beside =
       let f = free-slot h r (me .shape) c l j room in
       record { kind = j; slot = freeSlot h r j c; in-range = f .in-range; not-worn = f .not-worn; given = given; left = left; beside = beside }
 
   handed : (j : Kind) (x : Rule) → noSlot h r j cell ≡ false → x .effects .first ≡ seid (class j) (free j) (r (at j (free j) serial) + 1)
       → over r (x .effects .words) (at j (free j) serial) ≡ r (at j (free j) serial) + 1
-      → ((l : Kind) (i : ℕ) → (l ≡ j → i ≡ free j → ⊥) → over r (x .effects .words) (at l i live) ≡ r (at l i live)) → Handed h r x
+      → ((l : Kind) (i : ℕ) → (l ≡ j → i ≡ free j → ⊥) → over r (x .effects .words) (at l i live) ≡ r (at l i live)) → HandedOut h r x
   handed = handed-in cell (in-run h (me .shape) process (k .caller) (me .in-range) .0)
 
   -- an object's serial, where its words are followed by an entry for it
@@ -94,7 +94,7 @@ module _ (h : List ℕ) (r : Addr → ℕ) (k : Call) (me : Caller h r (k .calle
       not-live : (l : Kind) (m p w : ℕ) → live < w → at l m live ≡ at process p w → ⊥
       not-live l m p w low e = let same : live ≡ w = ap (λ (b : Addr). b .word) e in omega arith
 
-  pub by-rule : (st : List ℕ) → creates (k .code) ≡ true → Clear (ruleOf h r st k .refusals) → Handed h r (ruleOf h r st k)
+  pub by-rule : (st : List ℕ) → creates (k .code) ≡ true → Clear (ruleOf h r st k .refusals) → HandedOut h r (ruleOf h r st k)
   unfolding ruleOf spawn buildSegment create regrade
   by-rule st t = split _ (eqb (k .code) 1)
       (λ e. rw (eqb-true (k .code) 1 e) (λ ok. handed process _ (ok .1 .1 .0) refl (spawned-word r (k .caller) (k .a) (k .b) (k .c) (free process) _ serial)
@@ -127,7 +127,7 @@ small : (s : State) → Well s → (j : Kind) (i : ℕ) → i < slots (configura
 small s w j i l = omega (arith, good-of (s .table) (length (s .store)) w .shape .few j)
 
 module _ (s : State) (k : Call) (w : Well s) (c : creates (k .code) ≡ true) (ok : step s k .answered .error ≡ XOK) where
-  created : Handed (configuration (s .table)) (rd (configuration (s .table)) (s .table)) (own s k)
+  created : HandedOut (configuration (s .table)) (rd (configuration (s .table)) (s .table)) (own s k)
   created = by-rule _ _ k (its-caller s k w ok) (s .store) c (own-clear s k ok)
 
   answered : step s k .answered .first ≡ seid (class (created .kind)) (created .slot) (rd (configuration (s .table)) (s .table) (at (created .kind) (created .slot) serial) + 1)

@@ -19,7 +19,7 @@ use Rattle.rules.specs.Call13.{block, readBlock}
 use Rattle.rules.specs.Call16.{messageBytes, receive}
 use Rattle.rules.specs.Call17.{statusBytes, told, statusOf, status}
 use Rattle.rules.specs.Step.{State, Call, Outcome, ruleOf, wholeRule, step, next, run}
-use Rattle.rules.specs.Tray.{Record, callIn, inside, recordStep, withAnswer, Tray, left, behind, inOrder, mostRecords, trayAnswer, afterTray}
+use Rattle.rules.specs.Tray.{Record, recordCall, inside, recordStep, withAnswer, Tray, left, behind, inOrder, mostRecords, trayAnswer, afterTray}
 use Rattle.laws.proofs.Tests.{cond-true, cond-false, cond-both, split, passed}
 use Rattle.laws.proofs.Claims.{tested}
 use Rattle.laws.proofs.Refusals.{Clear}
@@ -33,14 +33,14 @@ use Rattle.promises.proofs.Refusals
 
 -- a record's call made by itself
 unfoldable pub single : State → List ℕ → Record → Outcome
-single s bytes r = cond (inside bytes r) (step s (callIn bytes r)) (refusedOutside s bytes r)
+single s bytes r = cond (inside bytes r) (step s (recordCall bytes r)) (refusedOutside s bytes r)
 
 module _ (s : State) (bytes : List ℕ) (r : Record) where
   pub single-is : Well s → recordStep s bytes r ≡ single s bytes r
   unfolding single
   single-is w = split _ (inside bytes r)
-      (λ e. inside-is-step s bytes r w e ∙ sym (cond-true (inside bytes r) (step s (callIn bytes r)) (refusedOutside s bytes r) e))
-      (λ e. outside-is-refused s bytes r e ∙ sym (cond-false (inside bytes r) (step s (callIn bytes r)) (refusedOutside s bytes r) e))
+      (λ e. inside-is-step s bytes r w e ∙ sym (cond-true (inside bytes r) (step s (recordCall bytes r)) (refusedOutside s bytes r) e))
+      (λ e. outside-is-refused s bytes r e ∙ sym (cond-false (inside bytes r) (step s (recordCall bytes r)) (refusedOutside s bytes r) e))
 
 -- ---- the tray
 
@@ -65,7 +65,7 @@ made s bytes [] = []
 made s bytes (r ∷ rs) =
     let o : Outcome = recordStep s bytes r in
     let later : List Call = made (o .state) (sets bytes (r .offset) (o .buffer)) rs in
-    cond (inside bytes r) (callIn bytes r ∷ later) later
+    cond (inside bytes r) (recordCall bytes r ∷ later) later
 
 pub in-order-runs : (rs : List Record) (s : State) (bytes : List ℕ) → Well s → inOrder s bytes rs .state ≡ run s (made s bytes rs)
 unfolding inOrder made run
@@ -75,7 +75,7 @@ in-order-runs (r ∷ rs) s bytes w =
     let later : List Call = made (o .state) (sets bytes (r .offset) (o .buffer)) rs in
     in-order-runs rs (o .state) (sets bytes (r .offset) (o .buffer)) (record-kept s bytes r w)
     ∙ ap (λ (x : State). run x later) (state-is s bytes r w)
-    ∙ split (run (cond (inside bytes r) (next s (callIn bytes r)) s) later ≡ run s (cond (inside bytes r) (callIn bytes r ∷ later) later)) (inside bytes r)
+    ∙ split (run (cond (inside bytes r) (next s (recordCall bytes r)) s) later ≡ run s (cond (inside bytes r) (recordCall bytes r ∷ later) later)) (inside bytes r)
     (λ e. rw e refl)
     (λ e. rw e refl)
 

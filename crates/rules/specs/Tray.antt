@@ -30,8 +30,8 @@ pub record Record : Type 0 where
 abbrev pub partOf : List ℕ → Record → List ℕ
 partOf bytes r = part bytes (r .offset) (r .length)
 
-abbrev pub callIn : List ℕ → Record → Call
-callIn bytes r = record { caller = r .caller; code = r .code; a = r .a; b = r .b; c = r .c; buffer = partOf bytes r }
+abbrev pub recordCall : List ℕ → Record → Call
+recordCall bytes r = record { caller = r .caller; code = r .code; a = r .a; b = r .b; c = r .c; buffer = partOf bytes r }
 
 -- the part lies inside the slice: offset + length is a true sum, so an empty part at the very end does
 unfoldable pub inside : List ℕ → Record → Bool
@@ -41,7 +41,7 @@ inside bytes r = leb (r .offset + r .length) (length bytes)
 -- judged for them all.
 unfoldable pub recordRule : List ℕ → State → List ℕ → Record → Rule
 recordRule h s bytes r =
-    let own : Rule = ruleOf h (rd h (s .table)) (s .store) (callIn bytes r) in
+    let own : Rule = ruleOf h (rd h (s .table)) (s .store) (recordCall bytes r) in
     rule
     ((badCaller h (rd h (s .table)) (r .caller) ⇒ XbPrSd) ∷ (badCode (r .code) ⇒ XbdKcl) ∷ (not (inside bytes r) ⇒ XbSz) ∷ own .refusals)
     (own .effects)
@@ -91,7 +91,7 @@ afterTray s bytes rs = cond (eqb (trayAnswer s rs) XOK) (inOrder s bytes rs) (le
 
 -- a record is struck out as its call is
 abbrev pub staysIn : List ℕ → (ℕ → Bool) → Record → Bool
-staysIn h C r = stays h C (callIn [] r)
+staysIn h C r = stays h C (recordCall [] r)
 
 -- the records that are not struck out, with their answers; and what they ask, whatever stands in the room for their answers
 unfoldable pub remainingIn : List ℕ → (ℕ → Bool) → List Record → List Record
@@ -103,17 +103,17 @@ asked [] = []
 asked (r ∷ rs) = withAnswer r (answer 0 0 0) ∷ asked rs
 
 -- byte i lies in a record's part
-unfoldable pub within : Record → ℕ → Bool
-within r i = leb (r .offset) i && ltb i (r .offset + r .length)
+unfoldable pub inPart : Record → ℕ → Bool
+inPart r i = leb (r .offset) i && ltb i (r .offset + r .length)
 
 -- "the remaining calls' parts": byte i lies in one of them; and in one of "the struck-out ones'"
 unfoldable pub seen : List ℕ → (ℕ → Bool) → List Record → ℕ → Bool
 seen h C [] i = false
-seen h C (r ∷ rs) i = (staysIn h C r && within r i) || seen h C rs i
+seen h C (r ∷ rs) i = (staysIn h C r && inPart r i) || seen h C rs i
 
 unfoldable pub hidden : List ℕ → (ℕ → Bool) → List Record → ℕ → Bool
 hidden h C [] i = false
-hidden h C (r ∷ rs) i = (not (staysIn h C r) && within r i) || hidden h C rs i
+hidden h C (r ∷ rs) i = (not (staysIn h C r) && inPart r i) || hidden h C rs i
 
 -- a tray places "those parts apart from the struck-out ones'"
 abbrev pub Apart : List ℕ → (ℕ → Bool) → List Record → Type 0

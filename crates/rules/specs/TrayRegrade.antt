@@ -11,12 +11,12 @@ use Rattle.rules.specs.Errors.{XOK, XnoSpace}
 use Rattle.rules.specs.Call21.{carried}
 use Rattle.rules.specs.Step.{State, Call, answer, Outcome, regradeCode}
 use Rattle.rules.specs.Regrade.{into, Event, remains, refused, brings}
-use Rattle.rules.specs.Tray.{Record, partOf, callIn, recordStep, withAnswer, staysIn}
+use Rattle.rules.specs.Tray.{Record, partOf, recordCall, recordStep, withAnswer, staysIn}
 
 -- the calls that the records ask for, whatever their parts hold: "no regrade asks about a cell that doesn't flow to them" is NamesNone of these
 unfoldable pub callsIn : List Record → List Call
 callsIn [] = []
-callsIn (r ∷ rs) = callIn [] r ∷ callsIn rs
+callsIn (r ∷ rs) = recordCall [] r ∷ callsIn rs
 
 -- the record is accepted in state s with this byte slice
 unfoldable pub acceptedIn : State → List ℕ → Record → Bool
@@ -26,7 +26,7 @@ acceptedIn s bytes r = eqb (recordStep s bytes r .answered .error) XOK
 unfoldable pub eventIn : List ℕ → (ℕ → Bool) → State → List ℕ → Record → List (Event Record)
 eventIn h C s bytes r =
     cond (staysIn h C r) (remains (withAnswer r (answer 0 0 0)) ∷ [])
-    (cond (into h C (callIn bytes r))
+    (cond (into h C (recordCall bytes r))
     (cond (acceptedIn s bytes r) (brings (carried h (rd h (s .table)) (s .store) (r .caller) (r .a) (r .b) (r .c) (partOf bytes r))) refused ∷ [])
     [])
 

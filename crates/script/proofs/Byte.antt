@@ -11,7 +11,7 @@ use borrow.Author.Tests.{ltb-true, ltb-false, eqb-true, eqb-false, le-leb, lt-le
 use Rattle.rules.specs.Claim.{test}
 use Rattle.rules.specs.Layout.{headerWords, cells, subtypes}
 use Rattle.rules.specs.WellFormed.{configured as configuredOk, headerOk}
-use Rattle.rules.specs.Replay.{Taken, took, bad, numbersFrom, numbers, headerNumbers, numbersAfter, replayable, callNumbers, maxBuffer, callOf}
+use Rattle.rules.specs.Replay.{Taken, took, bad, numbersFrom, numbers, headerNumbers, numbersAfter, replayable, callNumbers, maxBuffer, callFrom}
 use Rattle.laws.proofs.Tests.{split, refuted, both-ways}
 use Rattle.laws.proofs.Claims.{holds}
 use Rattle.numerals.specs.declared.Part.{Part}
@@ -270,12 +270,12 @@ module _ (r : Reader) (t l : List ℕ) (b v : ℕ) (e : r .stage ≡ Numbers) (h
   length-of : getD nums′ 5 0 ≡ v
   length-of = ap (λ (j : ℕ). getD nums′ j 0) (sym fifth) ∙ getD-set-same (r .nums) (r .field) v 0 in-nums
 
-  numbers-whole : (s : List ℕ) → meaning r t l (b ∷ s) ≡ called (cond (leb v maxBuffer && leb v (length s)) (took (callOf nums′ (take v s)) (drop v s)) bad)
+  numbers-whole : (s : List ℕ) → meaning r t l (b ∷ s) ≡ called (cond (leb v maxBuffer && leb v (length s)) (took (callFrom nums′ (take v s)) (drop v s)) bad)
   unfolding callThen
   numbers-whole s =
       number-last Numbers r t l b e h (λ r t l s. refl) v s f ge
       ∙ ap (λ (vs : List ℕ). called (callThen (took vs s))) all-nums
-      ∙ ap (λ (n : ℕ). called (cond (leb n maxBuffer && leb n (length s)) (took (callOf nums′ (take n s)) (drop n s)) bad)) length-of
+      ∙ ap (λ (n : ℕ). called (cond (leb n maxBuffer && leb n (length s)) (took (callFrom nums′ (take n s)) (drop n s)) bad)) length-of
 
   -- no bytes follow
   no-bytes : v ≡ 0 → Called r t l (b ∷ []) (atCall nums′) t l []
@@ -304,7 +304,7 @@ module _ (r : Reader) (t l : List ℕ) (b v : ℕ) (e : r .stage ≡ Numbers) (h
         same = λ ys.
             numbers-whole ys
             ∙ rw (le-leb v maxBuffer x) (sym (at-stage Bytes (awaiting Bytes (v - 1) nums′) t l ys refl
-            ∙ ap (λ (n : ℕ). called (cond (leb n (length ys)) (took (callOf nums′ (take n ys)) (drop n ys)) bad)) all));
+            ∙ ap (λ (n : ℕ). called (cond (leb n (length ys)) (took (callFrom nums′ (take n ys)) (drop n ys)) bad)) all));
       }
 
   numbers-last : Told (numbersEnded r nums′ v .what) r t l (b ∷ []) (numbersEnded r nums′ v .reader) t l []
@@ -324,7 +324,7 @@ bytes-more : (nums g : List ℕ) (k b : ℕ) (s : List ℕ) → bytesThen nums g
 unfolding bytesThen
 bytes-more nums g k b s = rw (leb·suc-suc k (length s), append-snoc g b (take k s))
 
-bytes-none : (nums g s : List ℕ) → bytesThen nums g 0 s ≡ took (callOf nums g) s
+bytes-none : (nums g s : List ℕ) → bytesThen nums g 0 s ≡ took (callFrom nums g) s
 unfolding bytesThen
 bytes-none nums g s = rw (le-leb 0 (length s) (omega arith), append-nil g)
 
@@ -381,7 +381,7 @@ module _ (r : Reader) (t l : List ℕ) (b : ℕ) (e : r .stage ≡ Bytes) (h : G
         same = λ ys.
             byte-taken ys
             ∙ ap called (ap (λ (j : ℕ). bytesThen (r .nums) (take (r .field + 1) l′) j ys) none ∙ bytes-none (r .nums) (take (r .field + 1) l′) ys
-            ∙ ap (λ (j : ℕ). took (callOf (r .nums) (take j l′)) ys) all);
+            ∙ ap (λ (j : ℕ). took (callFrom (r .nums) (take j l′)) ys) all);
       }
 
   bytes-told : Told (byteTook r .what) r t l (b ∷ []) (byteTook r .reader) t l′ []

@@ -7,7 +7,7 @@ use lib.Dec.{leb}
 use lib.ListN.{length, getD, take, drop}
 use Rattle.rules.specs.Claim.{test}
 use Rattle.rules.specs.Step.{Call}
-use Rattle.rules.specs.Replay.{Taken, took, bad, number, numbersFrom, numbers, headerNumbers, numbersAfter, configurationIn, replayable, callNumbers, maxBuffer, callOf, callIn}
+use Rattle.rules.specs.Replay.{Taken, took, bad, number, numbersFrom, numbers, headerNumbers, numbersAfter, configurationIn, replayable, callNumbers, maxBuffer, callFrom, callIn}
 use Rattle.numerals.specs.declared.Part.{Part}
 use Rattle.numerals.specs.declared.Fed.{Fed}
 use Rattle.numerals.specs.declared.Fed.the-variants.{More, Done, Bad}
@@ -85,7 +85,7 @@ accepted bad = bad
 unfoldable pub callThen : Taken (List ℕ) → Taken Call
 callThen (took vs rest) =
     cond (leb (getD vs 5 0) maxBuffer && leb (getD vs 5 0) (length rest))
-    (took (callOf vs (take (getD vs 5 0) rest)) (drop (getD vs 5 0) rest))
+    (took (callFrom vs (take (getD vs 5 0) rest)) (drop (getD vs 5 0) rest))
     bad
 callThen bad = bad
 
@@ -94,4 +94,4 @@ unfolding callIn callThen
 call-in s = refl
 
 unfoldable pub bytesThen : List ℕ → List ℕ → ℕ → List ℕ → Taken Call
-bytesThen nums g k s = cond (leb k (length s)) (took (callOf nums (g ++ take k s)) (drop k s)) bad
+bytesThen nums g k s = cond (leb k (length s)) (took (callFrom nums (g ++ take k s)) (drop k s)) bad

@@ -6,7 +6,7 @@ use Prim.Native.Nat.{ℕ, suc, _+_, _-_, _*_, _≤_}
 use lib.ListN.{length, getD, take, drop}
 use Rattle.rules.specs.Layout.{maxCells, maxSubtypes, headerWords, cellWords, subtypeWords, configuration}
 use Rattle.rules.specs.Step.{Call}
-use Rattle.rules.specs.Replay.{Taken, took, bad, headerNumbers, numbersAfter, callNumbers, maxBuffer, callOf}
+use Rattle.rules.specs.Replay.{Taken, took, bad, headerNumbers, numbersAfter, callNumbers, maxBuffer, callFrom}
 use Rattle.numerals.proofs.Read.{Small}
 use Rattle.script.specs.declared.Stage.{Stage}
 use Rattle.script.specs.declared.Stage.the-variants.{Header, Body, Numbers, Bytes}
@@ -115,7 +115,7 @@ pub record Called (r : Reader) (t l s : List ℕ) (r′ : Reader) (t′ l′ res
   pub good : Good r′ t′ l′
   pub table : t′ ≡ t
   pub short : getD (r′ .nums) 5 0 ≤ maxBuffer
-  pub same : (ys : List ℕ) → meaning r t l (s ++ ys) ≡ called (took (callOf (r′ .nums) (take (getD (r′ .nums) 5 0) l′)) (rest ++ ys))
+  pub same : (ys : List ℕ) → meaning r t l (s ++ ys) ≡ called (took (callFrom (r′ .nums) (take (getD (r′ .nums) 5 0) l′)) (rest ++ ys))
 
 -- a fault
 pub record Faulty (r : Reader) (t l s : List ℕ) : Type 0 where

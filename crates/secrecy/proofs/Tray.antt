@@ -25,7 +25,7 @@ use Rattle.rules.specs.Copy.{Copy}
 use Rattle.rules.specs.Call21.{carried}
 use Rattle.rules.specs.Step.{State, Call, answer, Outcome, Reply, step, reply}
 use Rattle.rules.specs.Observer.{observer, Closed, Agree, stays}
-use Rattle.rules.specs.Tray.{Record, partOf, callIn, inside, recordRule, recordStep, withAnswer, Tray, inOrder, mostRecords, afterTray, staysIn, remainingIn, asked, within, seen, hidden, Apart, SameParts}
+use Rattle.rules.specs.Tray.{Record, partOf, recordCall, inside, recordRule, recordStep, withAnswer, Tray, inOrder, mostRecords, afterTray, staysIn, remainingIn, asked, inPart, seen, hidden, Apart, SameParts}
 use Rattle.rules.specs.Regrade.{into, accepted, Event, remains, withoutRefused, guardWithin, NamesNone}
 use Rattle.rules.specs.TrayRegrade.{callsIn, acceptedIn, eventIn, eventsIn, asksIn, AsksNoneIn}
 use Rattle.laws.proofs.Tests.{and-right, and-both, or-by-left, or-by-right, not-of, both-ways, refuted, split}
@@ -62,8 +62,8 @@ module _ (h : List ℕ) (C : ℕ → Bool) (P : ℕ → Bool) where
   -- a record whose part lies in P where it remains, and apart from P where it is struck out
   record Placed : Type 0 where
     it : Record
-    covered : staysIn h C it ≡ true → (i : ℕ) → within it i ≡ true → P i ≡ true
-    apart : staysIn h C it ≡ false → (i : ℕ) → within it i ≡ true → P i ≡ false
+    covered : staysIn h C it ≡ true → (i : ℕ) → inPart it i ≡ true → P i ≡ true
+    apart : staysIn h C it ≡ false → (i : ℕ) → inPart it i ≡ true → P i ≡ false
 
   -- two halls look alike: the states agree, and the byte slices do in P
   record Look (m n : Hall) : Type 0 where
@@ -86,7 +86,7 @@ module _ (h : List ℕ) (C : ℕ → Bool) (P : ℕ → Bool) where
   copied m r = carried h (rd h (m .state .table)) (m .state .store) (r .caller) (r .a) (r .b) (r .c) (partOf (m .bytes) r)
 
   abbrev brought : Hall → Record → Bool
-  brought m r = into h C (callIn (m .bytes) r) && acceptedIn (m .state) (m .bytes) r
+  brought m r = into h C (recordCall (m .bytes) r) && acceptedIn (m .state) (m .bytes) r
 
   label : Hall → Placed → Option (Event Record)
   label m k = label-if (staysIn h C (k .it)) (brought m (k .it)) (ask (k .it)) (copied m (k .it))
@@ -99,8 +99,8 @@ module _ (h : List ℕ) (C : ℕ → Bool) (P : ℕ → Bool) where
   Allowed m k = staysIn h C (k .it) ≡ true → asksIn (m .state) (m .bytes) (k .it) ≡ true → C (k .it .b) ≡ true
 
   -- a byte of a part
-  is-within : (r : Record) (i : ℕ) → r .offset ≤ i → i < r .offset + r .length → within r i ≡ true
-  unfolding within
+  is-within : (r : Record) (i : ℕ) → r .offset ≤ i → i < r .offset + r .length → inPart r i ≡ true
+  unfolding inPart
   is-within r i a b = and-both (leb (r .offset) i) (ltb i (r .offset + r .length)) (le-leb (r .offset) i a) (lt-ltb i (r .offset + r .length) b)
 
   fits : (x : List ℕ) (r : Record) → inside x r ≡ true → r .offset + r .length ≤ length x
@@ -126,7 +126,7 @@ module _ (h : List ℕ) (C : ℕ → Bool) (P : ℕ → Bool) where
       → (i : ℕ) → P i ≡ true → getD (m .bytes) i 0 ≡ getD (after m k .bytes) i 0
   apart-same m k f e t i q =
       let r = k .it in
-      let c : Call = callIn (m .bytes) r in
+      let c : Call = recordCall (m .bytes) r in
       let b = buffer-fits (m .state) c in
       let p = part-short (m .bytes) (r .offset) (r .length) in
       sym (ap (λ (y : Outcome). getD (sets (m .bytes) (r .offset) (y .buffer)) i 0) (inside-is-step (m .state) (m .bytes) r (f .formed) t)
@@ -137,7 +137,7 @@ module _ (h : List ℕ) (C : ℕ → Bool) (P : ℕ → Bool) where
   unfolding stays
   struck m k f cl e n =
       let r = k .it in
-      let c : Call = callIn (m .bytes) r in
+      let c : Call = recordCall (m .bytes) r in
       split _ (inside (m .bytes) r)
       (λ t.
       let o = inside-is-step (m .state) (m .bytes) r (f .formed) t in
@@ -153,9 +153,9 @@ module _ (h : List ℕ) (C : ℕ → Bool) (P : ℕ → Bool) where
   is-inside : (m : Hall) (r : Record) → WellUnder h (m .state) → brought m r ≡ true → inside (m .bytes) r ≡ true
   is-inside m r f e =
       inside-of h (m .state) f (m .bytes) r (acceptedIn (m .state) (m .bytes) r) (accepted-outside h (m .state) f (m .bytes) r)
-      (and-right (into h C (callIn (m .bytes) r)) (acceptedIn (m .state) (m .bytes) r) e)
+      (and-right (into h C (recordCall (m .bytes) r)) (acceptedIn (m .state) (m .bytes) r) e)
 
-  as-call : (m : Hall) (r : Record) → WellUnder h (m .state) → brought m r ≡ true → into h C (callIn (m .bytes) r) && accepted (m .state) (callIn (m .bytes) r) ≡ true
+  as-call : (m : Hall) (r : Record) → WellUnder h (m .state) → brought m r ≡ true → into h C (recordCall (m .bytes) r) && accepted (m .state) (recordCall (m .bytes) r) ≡ true
   as-call m r f e = rw (accepted-inside h (m .state) f (m .bytes) r (is-inside m r f e)) at e
 
   bring-alike : (m n : Hall) → WellUnder h (m .state) → WellUnder h (n .state) → Look m n → (k j : Placed) → staysIn h C (k .it) ≡ false → staysIn h C (j .it) ≡ false
@@ -163,8 +163,8 @@ module _ (h : List ℕ) (C : ℕ → Bool) (P : ℕ → Bool) where
   bring-alike m n f g a k j x y p q e =
       let t = is-inside m (k .it) f p in
       let u = is-inside n (j .it) g q in
-      let s : AgreeAt h C (step (m .state) (callIn (m .bytes) (k .it)) .state) (step (n .state) (callIn (n .bytes) (j .it)) .state) =
-      both-bring h C (m .state) (n .state) f g (a .states) (callIn (m .bytes) (k .it)) (callIn (n .bytes) (j .it)) (as-call m (k .it) f p) (as-call n (j .it) g q) e in
+      let s : AgreeAt h C (step (m .state) (recordCall (m .bytes) (k .it)) .state) (step (n .state) (recordCall (n .bytes) (j .it)) .state) =
+      both-bring h C (m .state) (n .state) f g (a .states) (recordCall (m .bytes) (k .it)) (recordCall (n .bytes) (j .it)) (as-call m (k .it) f p) (as-call n (j .it) g q) e in
       record {
         states = rw (inside-is-step (m .state) (m .bytes) (k .it) (f .formed) t, inside-is-step (n .state) (n .bytes) (j .it) (g .formed) u) s;
         long = length-sets (m .bytes) (k .it .offset) (out m (k .it) .buffer) ∙ a .long ∙ sym (length-sets (n .bytes) (j .it .offset) (out n (j .it) .buffer));
@@ -172,7 +172,7 @@ module _ (h : List ℕ) (C : ℕ → Bool) (P : ℕ → Bool) where
       }
 
   module _ (cl : Closed h C) (m n : Hall) (f : WellUnder h (m .state)) (g : WellUnder h (n .state)) (a : Look m n) (r : Record)
-      (stay : staysIn h C r ≡ true) (ok : asksIn (m .state) (m .bytes) r ≡ true → C (r .b) ≡ true) (covered : (i : ℕ) → within r i ≡ true → P i ≡ true) where
+      (stay : staysIn h C r ≡ true) (ok : asksIn (m .state) (m .bytes) r ≡ true → C (r .b) ≡ true) (covered : (i : ℕ) → inPart r i ≡ true → P i ≡ true) where
     abbrev Alike : Type 0
     Alike = (out m r .answered ≡ out n r .answered) × Look (onward m r) (onward n r)
 
@@ -180,7 +180,7 @@ module _ (h : List ℕ) (C : ℕ → Bool) (P : ℕ → Bool) where
     unfolding inside
     same-inside = rw (a .long) refl
 
-    same-call : inside (m .bytes) r ≡ true → callIn (m .bytes) r ≡ callIn (n .bytes) r
+    same-call : inside (m .bytes) r ≡ true → recordCall (m .bytes) r ≡ recordCall (n .bytes) r
     same-call t =
         let l = a .long in
         let i = fits (m .bytes) r t in
@@ -191,7 +191,7 @@ module _ (h : List ℕ) (C : ℕ → Bool) (P : ℕ → Bool) where
     within-both : inside (m .bytes) r ≡ true → Alike
     unfolding stays reply
     within-both t =
-        let c : Call = callIn (m .bytes) r in
+        let c : Call = recordCall (m .bytes) r in
         let x = inside-is-step (m .state) (m .bytes) r (f .formed) t in
         let y : out n r ≡ step (n .state) c =
         inside-is-step (n .state) (n .bytes) r (g .formed) (sym same-inside ∙ t) ∙ ap (step (n .state)) (sym (same-call t)) in
@@ -210,7 +210,7 @@ module _ (h : List ℕ) (C : ℕ → Bool) (P : ℕ → Bool) where
     same-number : outsideNumber (m .state) r ≡ outsideNumber (n .state) r
     unfolding stays
     same-number =
-        let e = same-caller h C cl (m .state) (n .state) f g (a .states) (callIn [] r) stay in
+        let e = same-caller h C cl (m .state) (n .state) f g (a .states) (recordCall [] r) stay in
         rw (f .configured, g .configured, e) refl
 
     outside-both : inside (m .bytes) r ≡ false → Alike
@@ -270,18 +270,18 @@ module _ (h : List ℕ) (C : ℕ → Bool) (P : ℕ → Bool) where
   placed (r ∷ rs) sub dis =
       record {
         it = r;
-        covered = λ m i w. sub i (or-by-left (staysIn h C r && within r i) (seen h C rs i) (and-both (staysIn h C r) (within r i) m w));
-        apart = λ m i w. dis i (or-by-left (not (staysIn h C r) && within r i) (hidden h C rs i) (and-both (not (staysIn h C r)) (within r i) (not-of (staysIn h C r) m) w));
+        covered = λ m i w. sub i (or-by-left (staysIn h C r && inPart r i) (seen h C rs i) (and-both (staysIn h C r) (inPart r i) m w));
+        apart = λ m i w. dis i (or-by-left (not (staysIn h C r) && inPart r i) (hidden h C rs i) (and-both (not (staysIn h C r)) (inPart r i) (not-of (staysIn h C r) m) w));
       }
-      ∷ placed rs (λ i e. sub i (or-by-right (staysIn h C r && within r i) (seen h C rs i) e))
-      (λ i e. dis i (or-by-right (not (staysIn h C r) && within r i) (hidden h C rs i) e))
+      ∷ placed rs (λ i e. sub i (or-by-right (staysIn h C r && inPart r i) (seen h C rs i) e))
+      (λ i e. dis i (or-by-right (not (staysIn h C r) && inPart r i) (hidden h C rs i) e))
 
   trace-is : (rs : List Record) (sub : (i : ℕ) → seen h C rs i ≡ true → P i ≡ true) (dis : (i : ℕ) → hidden h C rs i ≡ true → P i ≡ false) (m : Hall)
       → trace after label m (placed rs sub dis) ≡ withoutRefused (eventsIn h C (m .state) (m .bytes) rs)
   unfolding placed label eventsIn eventIn withoutRefused
   trace-is [] sub dis m = refl
   trace-is (r ∷ rs) sub dis m =
-      rw (trace-is rs _ _ (onward m r)) (pushed-if (staysIn h C r) (into h C (callIn (m .bytes) r)) (acceptedIn (m .state) (m .bytes) r) (ask r) (copied m r)
+      rw (trace-is rs _ _ (onward m r)) (pushed-if (staysIn h C r) (into h C (recordCall (m .bytes) r)) (acceptedIn (m .state) (m .bytes) r) (ask r) (copied m r)
       (eventsIn h C (onward m r .state) (onward m r .bytes) rs))
 
   views-is : (rs : List Record) (sub : (i : ℕ) → seen h C rs i ≡ true → P i ≡ true) (dis : (i : ℕ) → hidden h C rs i ≡ true → P i ≡ false) (m : Hall)
@@ -308,10 +308,10 @@ module _ (h : List ℕ) (C : ℕ → Bool) (P : ℕ → Bool) where
 -- byte i lies in the part of one of them
 anyOf : List Record → ℕ → Bool
 anyOf [] i = false
-anyOf (r ∷ rs) i = within r i || anyOf rs i
+anyOf (r ∷ rs) i = inPart r i || anyOf rs i
 
 seen-is : (h : List ℕ) (C : ℕ → Bool) (rs : List Record) (i : ℕ) → seen h C rs i ≡ anyOf (remainingIn h C (asked rs)) i
-unfolding seen remainingIn asked anyOf within
+unfolding seen remainingIn asked anyOf inPart
 seen-is h C [] i = refl
 seen-is h C (r ∷ rs) i = split _ (staysIn h C r) (λ e. rw (e, seen-is h C rs i) refl) (λ e. rw (e, seen-is h C rs i) refl)
 
@@ -399,18 +399,18 @@ module _ (C : ℕ → Bool) (s t : State) (ws : Well s) (wt : Well t) (cl : Clos
   right = record { formed = wt; configured = sym (a .configurations) }
 
   -- P is known of each record's call, and makes it quiet where it is struck out
-  quietly : (P : Call → Type 0) → ((s : State) (bytes : List ℕ) (r : Record) → WellUnder h s → P (callIn [] r) → stays h C (callIn bytes r) ≡ false
-      → into h C (callIn bytes r) && accepted s (callIn bytes r) ≡ false) → AllOf P (callsIn rs) → AllOf P (callsIn qs) → AsksNoneIn h C s x rs
+  quietly : (P : Call → Type 0) → ((s : State) (bytes : List ℕ) (r : Record) → WellUnder h s → P (recordCall [] r) → stays h C (recordCall bytes r) ≡ false
+      → into h C (recordCall bytes r) && accepted s (recordCall bytes r) ≡ false) → AllOf P (callsIn rs) → AllOf P (callsIn qs) → AsksNoneIn h C s x rs
       → SameTrays h C rs (afterTray s x rs) (afterTray t y qs)
   quietly P quiet n m unasked = two-trays C s t ws wt cl a rs qs x y p
       (only-records h C P quiet rs s x left n ∙ ap calls (p .asked-same) ∙ sym (only-records h C P quiet qs t y right m)) unasked
 
   -- demand 3 of trays as it was: no record of either is a regrade
   pub no-regrades : AllOf NoRegrade (callsIn rs) → AllOf NoRegrade (callsIn qs) → SameTrays h C rs (afterTray s x rs) (afterTray t y qs)
-  no-regrades n m = quietly NoRegrade (λ s bytes r f q o. quiet-other h C s (callIn bytes r) f q o) n m (other-asks-none-in h C rs s x n)
+  no-regrades n m = quietly NoRegrade (λ s bytes r f q o. quiet-other h C s (recordCall bytes r) f q o) n m (other-asks-none-in h C rs s x n)
 
   guarded : Guarded h C → AsksNoneIn h C s x rs → SameTrays h C rs (afterTray s x rs) (afterTray t y qs)
-  guarded g = quietly (λ k. Unit {0}) (λ s bytes r f q o. quiet-guarded h C g s (callIn bytes r) f q o) (all-calls (callsIn rs)) (all-calls (callsIn qs))
+  guarded g = quietly (λ k. Unit {0}) (λ s bytes r f q o. quiet-guarded h C g s (recordCall bytes r) f q o) (all-calls (callsIn rs)) (all-calls (callsIn qs))
 
   -- or there is no guard cell, whatever the records
   pub no-guard : guard h ≡ 0 → SameTrays h C rs (afterTray s x rs) (afterTray t y qs)

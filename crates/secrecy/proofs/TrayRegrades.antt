@@ -12,7 +12,7 @@ use Rattle.rules.specs.Errors.{XOK, XnoSpace}
 use Rattle.rules.specs.Step.{State, Call, Outcome, regradeCode, badCaller, badCode, step}
 use Rattle.rules.specs.Observer.{stays}
 use Rattle.rules.specs.Regrade.{into, accepted, withoutRefused, guardWithin, NamesNone, asks}
-use Rattle.rules.specs.Tray.{Record, callIn, inside, recordStep, staysIn, remainingIn, asked}
+use Rattle.rules.specs.Tray.{Record, recordCall, inside, recordStep, staysIn, remainingIn, asked}
 use Rattle.rules.specs.TrayRegrade.{callsIn, acceptedIn, eventIn, eventsIn, asksIn, AsksNoneIn}
 use Rattle.laws.proofs.Tests.{and-left, both-ways, split}
 use Rattle.laws.proofs.Written.{AllOf, nil, also}
@@ -30,13 +30,13 @@ outside-number s r =
     (λ e. split _ (badCode (r .code)) (λ f. rw (e, f) (refl, refl)) (λ f. rw (e, f) (refl, refl)))
 
 module _ (h : List ℕ) (s : State) (f : steps.WellUnder h s) (bytes : List ℕ) (r : Record) where
-  error-inside : inside bytes r ≡ true → recordStep s bytes r .answered .error ≡ step s (callIn bytes r) .answered .error
+  error-inside : inside bytes r ≡ true → recordStep s bytes r .answered .error ≡ step s (recordCall bytes r) .answered .error
   error-inside e = ap (λ (o : Outcome). o .answered .error) (inside-is-step s bytes r (f .formed) e)
 
   error-outside : inside bytes r ≡ false → recordStep s bytes r .answered .error ≡ outsideNumber s r
   error-outside e = ap (λ (o : Outcome). o .answered .error) (outside-is-refused s bytes r e)
 
-  pub accepted-inside : inside bytes r ≡ true → acceptedIn s bytes r ≡ accepted s (callIn bytes r)
+  pub accepted-inside : inside bytes r ≡ true → acceptedIn s bytes r ≡ accepted s (recordCall bytes r)
   unfolding acceptedIn accepted
   accepted-inside e = ap (λ (n : ℕ). eqb n XOK) (error-inside e)
 
@@ -44,7 +44,7 @@ module _ (h : List ℕ) (s : State) (f : steps.WellUnder h s) (bytes : List ℕ)
   unfolding acceptedIn
   accepted-outside e = ap (λ (n : ℕ). eqb n XOK) (error-outside e) ∙ outside-number s r .0
 
-  pub asks-inside : inside bytes r ≡ true → asksIn s bytes r ≡ asks s (callIn bytes r)
+  pub asks-inside : inside bytes r ≡ true → asksIn s bytes r ≡ asks s (recordCall bytes r)
   unfolding asksIn asks
   asks-inside e = ap (λ (n : ℕ). eqb (r .code) regradeCode && (eqb n XOK || eqb n XnoSpace)) (error-inside e)
 
@@ -70,8 +70,8 @@ names-none-in h C (r ∷ rs) s bytes f n = (
   λ m e.
       let t = inside-of h s f bytes r (asksIn s bytes r) (asks-outside h s f bytes r) e in
       let a = sym (asks-inside h s f bytes r t) ∙ e in
-      let x = steps.asking h s f (callIn bytes r) a in
-      n (asks-here h C s (callIn bytes r) f m a) .0 m (x .regrades) (x .cell),
+      let x = steps.asking h s f (recordCall bytes r) a in
+      n (asks-here h C s (recordCall bytes r) f m a) .0 m (x .regrades) (x .cell),
   names-none-in h C rs (recordStep s bytes r .state) (sets bytes (r .offset) (recordStep s bytes r .buffer)) (well-after h s f bytes r) (λ g. n g .1),
 )
 
@@ -79,21 +79,21 @@ names-none-in h C (r ∷ rs) s bytes f n = (
 
 -- P says what is known of each record's call
 module _ (h : List ℕ) (C : ℕ → Bool) (P : Call → Type 0)
-    (quiet : (s : State) (bytes : List ℕ) (r : Record) → steps.WellUnder h s → P (callIn [] r) → stays h C (callIn bytes r) ≡ false
-    → into h C (callIn bytes r) && accepted s (callIn bytes r) ≡ false) where
-  quiet-in : (s : State) (bytes : List ℕ) (r : Record) → steps.WellUnder h s → P (callIn [] r) → staysIn h C r ≡ false
-      → into h C (callIn bytes r) && acceptedIn s bytes r ≡ false
+    (quiet : (s : State) (bytes : List ℕ) (r : Record) → steps.WellUnder h s → P (recordCall [] r) → stays h C (recordCall bytes r) ≡ false
+    → into h C (recordCall bytes r) && accepted s (recordCall bytes r) ≡ false) where
+  quiet-in : (s : State) (bytes : List ℕ) (r : Record) → steps.WellUnder h s → P (recordCall [] r) → staysIn h C r ≡ false
+      → into h C (recordCall bytes r) && acceptedIn s bytes r ≡ false
   unfolding stays
   quiet-in s bytes r f p o = split _ (inside bytes r)
       (λ t. rw (accepted-inside h s f bytes r t) (quiet s bytes r f p o))
-      (λ t. rw (accepted-outside h s f bytes r t) (and-false (into h C (callIn bytes r))))
+      (λ t. rw (accepted-outside h s f bytes r t) (and-false (into h C (recordCall bytes r))))
 
   pub only-records : (rs : List Record) (s : State) (bytes : List ℕ) → steps.WellUnder h s → AllOf P (callsIn rs)
       → withoutRefused (eventsIn h C s bytes rs) ≡ calls (remainingIn h C (asked rs))
   unfolding eventsIn eventIn remainingIn asked withoutRefused callsIn
   only-records [] s bytes f nil = refl
   only-records (r ∷ rs) s bytes f (also p ps) =
-      calls-if (staysIn h C r) (into h C (callIn bytes r)) (acceptedIn s bytes r) _ _ (remainingIn h C (asked rs)) _ (quiet-in s bytes r f p)
+      calls-if (staysIn h C r) (into h C (recordCall bytes r)) (acceptedIn s bytes r) _ _ (remainingIn h C (asked rs)) _ (quiet-in s bytes r f p)
       (only-records rs (recordStep s bytes r .state) (sets bytes (r .offset) (recordStep s bytes r .buffer)) (well-after h s f bytes r) ps)
 
 -- no record is a regrade: none asks

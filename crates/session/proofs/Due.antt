@@ -13,7 +13,7 @@ use Rattle.rules.specs.Layout.{configuration}
 use Rattle.rules.specs.SetUp.{setUpTable}
 use Rattle.rules.specs.Rule.{firstRefusal, Rule, store}
 use Rattle.rules.specs.Step.{State, Call, carriedOut, wholeRule, step, next}
-use Rattle.rules.specs.Replay.{Taken, took, bad, configurationIn, replayable, callOf, script, scriptListing, line, heading, badConfiguration, startOf, listing}
+use Rattle.rules.specs.Replay.{Taken, took, bad, configurationIn, replayable, callFrom, script, scriptListing, line, heading, badConfiguration, startOf, listing}
 use Rattle.laws.proofs.Tests.{split, cond-true, cond-false, cond-both}
 use Rattle.laws.proofs.Written.{length-write}
 use Rattle.laws.proofs.Stored.{length-store}
@@ -32,7 +32,7 @@ use Rattle.script.proofs.Script.{piece-told, at-start, at-call, at-end}
 use Rattle.session.specs.declared.Session.{Session}
 use Rattle.session.specs.Turn.{newSession, faultText, finishText, Turn, wordsOf, bytesOf, accepts, tableReady, storeReady, outcomeOf, oneMore, afterCall, acted, turn}
 use Rattle.session.proofs.Calls.{scriptText, callsText, callText, calls-none, calls-cons}
-use Rattle.session.proofs.Ready.{mostWords, mostBytes, accepts-replayable, begins}
+use Rattle.session.proofs.Ready.{mostReplayWords, mostReplayBytes, accepts-replayable, begins}
 
 -- ---- what is due for what is being read, where n calls were made and the state is st
 unfoldable pub due : ℕ → State → Meaning → List ℕ
@@ -74,8 +74,8 @@ toCome x t st l s =
 -- a session that can come up, and is not over
 pub record Fine (x : Session) (t st l s : List ℕ) : Type 0 where
   pub good : Good (x .reader) t l
-  pub long : mostWords ≤ length t
-  pub wide : mostBytes ≤ length st
+  pub long : mostReplayWords ≤ length t
+  pub wide : mostReplayBytes ≤ length st
   pub count : x .lines + length s < 2 ^ 64
   pub words : isCalling (x .reader) ≡ true → x .words ≤ length t
   pub bytes : isCalling (x .reader) ≡ true → x .bytes ≤ length st
@@ -211,7 +211,7 @@ module _ (x : Session) (t st l : List ℕ) (b : ℕ) (s ys : List ℕ) (going : 
   hands-configuration : Told what.Configuration r t l (b ∷ s) r′ (p .table) (p .buffer) (p .rest) → Hands x t st l (b ∷ s) ys (acted what.Configuration x st p)
   unfolding acted
   hands-configuration o =
-      let long′ : mostWords ≤ length (p .table) = rw (o .size) (h .long) in
+      let long′ : mostReplayWords ≤ length (p .table) = rw (o .size) (h .long) in
       let same : accepts (p .table) st ≡ test (replayable (configuration (p .table))) = accepts-replayable (p .table) st (o .counts) long′ (h .wide) in
       record {
         text =
@@ -237,10 +237,10 @@ module _ (x : Session) (t st l : List ℕ) (b : ℕ) (s ys : List ℕ) (going : 
 
   -- a call is whole
   hands-outcome : Called r t l (b ∷ s) r′ (p .table) (p .buffer) (p .rest)
-      → Hands x t st l (b ∷ s) ys (afterCall x st p (step (stateOf x (p .table) st) (callOf (r′ .nums) (take (getD (r′ .nums) 5 0) (p .buffer)))))
+      → Hands x t st l (b ∷ s) ys (afterCall x st p (step (stateOf x (p .table) st) (callFrom (r′ .nums) (take (getD (r′ .nums) 5 0) (p .buffer)))))
   unfolding due callText
   hands-outcome o =
-      let k : Call = callOf (r′ .nums) (take (getD (r′ .nums) 5 0) (p .buffer)) in
+      let k : Call = callFrom (r′ .nums) (take (getD (r′ .nums) 5 0) (p .buffer)) in
       let w : x .words ≤ length (p .table) = rw (o .table) (h .words (o .stage)) in
       let one : x .lines + 1 ≡ oneMore (x .lines) = sym (mod-eq-of-lt (let c = h .count in let n = length-append s ys in omega arith)) in
       record {
@@ -268,7 +268,7 @@ module _ (x : Session) (t st l : List ℕ) (b : ℕ) (s ys : List ℕ) (going : 
   hands-call : Told what.Call r t l (b ∷ s) r′ (p .table) (p .buffer) (p .rest) → Hands x t st l (b ∷ s) ys (acted what.Call x st p)
   unfolding acted outcomeOf
   hands-call o =
-      subst (λ (n : ℕ). Hands x t st l (b ∷ s) ys (afterCall x st p (step (stateOf x (p .table) st) (callOf (r′ .nums) (take n (p .buffer)))))) (sym (min-eq-left (o .short)))
+      subst (λ (n : ℕ). Hands x t st l (b ∷ s) ys (afterCall x st p (step (stateOf x (p .table) st) (callFrom (r′ .nums) (take n (p .buffer)))))) (sym (min-eq-left (o .short)))
       (hands-outcome o)
 
 -- ---- any turn

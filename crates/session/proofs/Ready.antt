@@ -23,11 +23,11 @@ use Rattle.output.proofs.Laws.{take-sets}
 use Rattle.session.specs.Turn.{wordsAsked, wordsOf, bytesOf, accepts, tableReady, storeReady}
 
 -- room for the largest table and store that replay takes
-abbrev pub mostWords : ℕ
-mostWords = wordsAtMost maxReplaySlots
+abbrev pub mostReplayWords : ℕ
+mostReplayWords = wordsAtMost maxReplaySlots
 
-abbrev pub mostBytes : ℕ
-mostBytes = maxReplayBlocks * blockBytes
+abbrev pub mostReplayBytes : ℕ
+mostReplayBytes = maxReplayBlocks * blockBytes
 
 take-replicate : (a m n : ℕ) → m ≤ n → take m (replicate n a) ≡ replicate m a
 take-replicate a zero n h = refl
@@ -35,7 +35,7 @@ take-replicate a (suc m) zero h = absurd (omega arith)
 take-replicate a (suc m) (suc n) h = ap (λ (l : List ℕ). a ∷ l) (take-replicate a m n (omega arith))
 
 -- the table t begins with its configuration; st is a store
-module _ (t st : List ℕ) (few : Fits (getD t 0 0) (getD t 6 0)) (long : mostWords ≤ length t) (wide : mostBytes ≤ length st) where
+module _ (t st : List ℕ) (few : Fits (getD t 0 0) (getD t 6 0)) (long : mostReplayWords ≤ length t) (wide : mostReplayBytes ≤ length st) where
   abbrev h : List ℕ
   h = configuration t
 

@@ -6,7 +6,7 @@ use native.Mathlib.Omega.{arith}
 use native.Mathlib.Decide.{decLt}
 use lib.Dec.{ltb, leb, eqb}
 use lib.ListN.{length, getD, take, drop, length-drop}
-use Rattle.rules.specs.Replay.{Taken, took, bad, maxGroups, numberFrom, number, numbersFrom, numbers, callNumbers, maxBuffer, callOf, callIn}
+use Rattle.rules.specs.Replay.{Taken, took, bad, maxGroups, numberFrom, number, numbersFrom, numbers, callNumbers, maxBuffer, callFrom, callIn}
 use Rattle.numerals.proofs.Read.{last-group, other-group}
 use Rattle.script.proofs.Going.{thenNumbers, going, going-start, callThen, call-in}
 
@@ -48,7 +48,7 @@ call-then-leaves : (m : ℕ) (x : Taken (List ℕ)) → Leaves m x → Leaves m 
 unfolding callThen
 call-then-leaves m bad h = tt
 call-then-leaves m (took vs rest) h =
-    leaves-if (leb (getD vs 5 0) maxBuffer && leb (getD vs 5 0) (length rest)) m (took (callOf vs (take (getD vs 5 0) rest)) (drop (getD vs 5 0) rest)) bad
+    leaves-if (leb (getD vs 5 0) maxBuffer && leb (getD vs 5 0) (length rest)) m (took (callFrom vs (take (getD vs 5 0) rest)) (drop (getD vs 5 0) rest)) bad
     (let e = length-drop (getD vs 5 0) rest in omega arith) tt
 
 pub call-leaves : (b : ℕ) (s : List ℕ) → Leaves (length s) (callIn (b ∷ s))

@@ -13,7 +13,7 @@ use Rattle.rules.specs.Layout.{blockBytes, file, slots, blocks}
 use Rattle.rules.specs.Errors.{XOK, ascii}
 use Rattle.rules.specs.SetUp.{setUpAnswer, setUpTable}
 use Rattle.rules.specs.Step.{Call, Answer, Outcome, answer, step}
-use Rattle.rules.specs.Replay.{maxReplayBlocks, maxBuffer, callOf, line, heading, badConfiguration, badScript}
+use Rattle.rules.specs.Replay.{maxReplayBlocks, maxBuffer, callFrom, line, heading, badConfiguration, badScript}
 use Rattle.laws.proofs.Tests.{cond-true, cond-false, cond-both}
 use Rattle.output.specs.Wrote.{Wrote}
 use Rattle.output.proofs.Laws.{none, as-text}
@@ -140,17 +140,17 @@ prepared t st tw w fb q m a new st′ e₁ e₂ e₃ e₄ e₅ e₆ e₇ e₈ n 
 -- ---- a call is run
 pub ran : (x : Session) (n : ℕ) (nums t st l out : List ℕ) (at w v q k : ℕ) (o : Outcome) (a : Answer) (tn sn bn : List ℕ) (r : ℕ) (out′ : List ℕ)
     → w ≡ min (x .words) (length t) → v ≡ min (x .bytes) (length st) → q ≡ min (getD nums 5 0) maxBuffer → k ≡ min q (length l)
-    → o ≡ step (record { table = take w t; store = take v st }) (callOf nums (take k l))
+    → o ≡ step (record { table = take w t; store = take v st }) (callFrom nums (take k l))
     → a ≡ o .answered → tn ≡ o .state .table → sn ≡ o .state .store → bn ≡ o .buffer
     → length tn ≡ length (take w t) → length sn ≡ length (take v st) → length bn ≡ length (take k l)
     → Wrote out at (line n (getD nums 1 0) a (take k (bn ++ drop k l))) r out′
     → Ran (outcomeOf x nums t st l) n nums t st l out at r (tn ++ drop w t) (sn ++ drop v st) (bn ++ drop k l) out′
 unfolding outcomeOf
 ran x n nums t st l out at w v q k o a tn sn bn r out′ ew ev eq ek eo ea et es eb nt ns nb wr =
-    let same : o ≡ step (record { table = take (x .words) t; store = take (x .bytes) st }) (callOf nums (take (min (getD nums 5 0) maxBuffer) l)) = eo
-    ∙ ap₂ (λ (y z : List ℕ). step (record { table = y; store = z }) (callOf nums (take k l))) (ap (λ (j : ℕ). take j t) ew ∙ take-min (x .words) t)
+    let same : o ≡ step (record { table = take (x .words) t; store = take (x .bytes) st }) (callFrom nums (take (min (getD nums 5 0) maxBuffer) l)) = eo
+    ∙ ap₂ (λ (y z : List ℕ). step (record { table = y; store = z }) (callFrom nums (take k l))) (ap (λ (j : ℕ). take j t) ew ∙ take-min (x .words) t)
     (ap (λ (j : ℕ). take j st) ev ∙ take-min (x .bytes) st)
-    ∙ ap (λ (y : List ℕ). step (record { table = take (x .words) t; store = take (x .bytes) st }) (callOf nums y))
+    ∙ ap (λ (y : List ℕ). step (record { table = take (x .words) t; store = take (x .bytes) st }) (callFrom nums y))
     (ap (λ (j : ℕ). take j l) ek ∙ take-min q l ∙ ap (λ (j : ℕ). take j l) eq) in
     let long : length bn ≡ k = nb ∙ length-take-le k l (omega arith) in
     record {

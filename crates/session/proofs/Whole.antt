@@ -16,7 +16,7 @@ use Rattle.session.specs.declared.Session.{Session}
 use Rattle.session.specs.declared.Stepped.{Stepped}
 use Rattle.session.specs.Turn.{newSession, blankTable, finishText, Turn, turn, Written, Turned}
 use Rattle.session.specs.Play.{playIn, play, Played}
-use Rattle.session.proofs.Ready.{mostWords, mostBytes}
+use Rattle.session.proofs.Ready.{mostReplayWords, mostReplayBytes}
 use Rattle.session.proofs.Due.{Fine, toCome, Hands, over-nothing, turn-hands, turn-taken, turn-rest, finish-hands, start-hands}
 use Rattle.session.proofs.Ways.{stands}
 use Rattle.session.proofs.Playing.{play-none, play-full, play-one, play-rest}
@@ -63,11 +63,11 @@ play-leads (suc n) x t st l s ys i room = elim (decLt 0 (length s)) [
 
 -- room for the largest table, store and buffer that replay takes; what stands there does not matter
 pub record Lent (t st l : List ℕ) : Type 0 where
-  pub table : mostWords ≤ length t
-  pub store : mostBytes ≤ length st
+  pub table : mostReplayWords ≤ length t
+  pub store : mostReplayBytes ≤ length st
   pub buffer : maxBuffer ≤ length l
 
-blank : (t : List ℕ) → mostWords ≤ length t → Roomy (blankTable t)
+blank : (t : List ℕ) → mostReplayWords ≤ length t → Roomy (blankTable t)
 blank t h =
     record { room = rw (length-set t headerNumbers 0) (omega arith); zero7 = getD-set-same t headerNumbers 0 0 (omega arith) }
 
@@ -89,21 +89,21 @@ whole t st l input text m n d = driven d (λ e. fine-start t st l input m n) ∙
 
 -- A driver of the code is at place i of a piece s of the input; ys is what it has not read. It lends one table, store and buffer all through, and each time some output
 -- with room for a line. All that is said of `start`, `step`, `play` and `finish` here is what they ensure. The last list is the text: what stands in the outputs.
-pub data Handed : Session → List ℕ → List ℕ → List ℕ → List ℕ → ℕ → List ℕ → List ℕ → Type 0 where
+pub data HandedOn : Session → List ℕ → List ℕ → List ℕ → List ℕ → ℕ → List ℕ → List ℕ → Type 0 where
   stepped : (x : Session) (t st l s : List ℕ) (i : ℕ) (ys o : List ℕ) (at : ℕ) (r : Stepped) (t′ st′ l′ o′ text : List ℕ) → at + lineBytes ≤ length o
       → Turned (turn x t st l (drop i s) i) o at r t′ st′ l′ o′
-      → Handed (r .session) t′ st′ l′ s (r .next) ys text
-      → Handed x t st l s i ys (drop at (take (r .end) o′) ++ text)
+      → HandedOn (r .session) t′ st′ l′ s (r .next) ys text
+      → HandedOn x t st l s i ys (drop at (take (r .end) o′) ++ text)
   played : (x : Session) (t st l s : List ℕ) (i : ℕ) (ys o : List ℕ) (r : Stepped) (t′ st′ l′ o′ text : List ℕ)
       → Played (play x t st l (drop i s) i (length o)) o r t′ st′ l′ o′
-      → Handed (r .session) t′ st′ l′ s (r .next) ys text
-      → Handed x t st l s i ys (take (r .end) o′ ++ text)
+      → HandedOn (r .session) t′ st′ l′ s (r .next) ys text
+      → HandedOn x t st l s i ys (take (r .end) o′ ++ text)
   -- the piece is used up: some more is read
-  read : (x : Session) (t st l s : List ℕ) (i : ℕ) (s′ ys text : List ℕ) → length s ≤ i → Handed x t st l s′ 0 ys text → Handed x t st l s i (s′ ++ ys) text
-  stopped : (x : Session) (t st l s : List ℕ) (i : ℕ) (ys : List ℕ) → x .over ≡ true → Handed x t st l s i ys []
+  read : (x : Session) (t st l s : List ℕ) (i : ℕ) (s′ ys text : List ℕ) → length s ≤ i → HandedOn x t st l s′ 0 ys text → HandedOn x t st l s i (s′ ++ ys) text
+  stopped : (x : Session) (t st l s : List ℕ) (i : ℕ) (ys : List ℕ) → x .over ≡ true → HandedOn x t st l s i ys []
   -- nothing more is to be read
   finished : (x : Session) (t st l s : List ℕ) (i : ℕ) (o : List ℕ) (r : ℕ) (o′ : List ℕ) → length s ≤ i → lineBytes ≤ length o → Written o 0 (finishText x) r o′
-      → Handed x t st l s i [] (take r o′)
+      → HandedOn x t st l s i [] (take r o′)
 
 -- so the session is driven
 goes-as : (s ys text : List ℕ) (k : Turn) (r : Stepped) (t′ st′ l′ : List ℕ) → r .session ≡ k .session → t′ ≡ k .table → st′ ≡ k .store → l′ ≡ k .buffer
@@ -111,7 +111,7 @@ goes-as : (s ys text : List ℕ) (k : Turn) (r : Stepped) (t′ st′ l′ : Lis
     → Driven (r .session) t′ st′ l′ (drop (r .next) s ++ ys) text → Driven (k .session) (k .table) (k .store) (k .buffer) (k .rest ++ ys) text
 goes-as s ys text k r t′ st′ l′ e₁ e₂ e₃ e₄ e₅ d = rw (← e₁, ← e₂, ← e₃, ← e₄, e₅) d
 
-handed : {x : Session} {t st l s : List ℕ} {i : ℕ} {ys text : List ℕ} → Handed x t st l s i ys text → Driven x t st l (drop i s ++ ys) text
+handed : {x : Session} {t st l s : List ℕ} {i : ℕ} {ys text : List ℕ} → HandedOn x t st l s i ys text → Driven x t st l (drop i s ++ ys) text
 handed (stepped x t st l s i ys o at r t′ st′ l′ o′ text m p h) =
     let k : Turn = turn x t st l (drop i s) i in
     subst (λ (z : List ℕ). Driven x t st l (drop i s ++ ys) (z ++ text)) (sym (stands o at (k .text) (r .end) o′ m (p .written)))
@@ -131,7 +131,7 @@ handed (finished x t st l s i o r o′ m n w) =
 
 -- THE WHOLE: whatever pieces an input comes in, what the code hands out for it is its listing
 pub handed-out : (t st l : List ℕ) → Lent t st l → (x : Session) (t′ : List ℕ) → (x ≡ newSession) × (t′ ≡ blankTable t)
-    → (input text : List ℕ) → length input < 2 ^ 64 → Handed x t′ st l [] 0 input text → text ≡ listing input
+    → (input text : List ℕ) → length input < 2 ^ 64 → HandedOn x t′ st l [] 0 input text → text ≡ listing input
 handed-out t st l m x t′ e input text n h =
     whole t st l input text m n (subst (λ (z : List ℕ). Driven newSession z st l input text) (e .1) (subst (λ (z : Session). Driven z t′ st l input text) (e .0) (handed h)))
 

@@ -11,7 +11,7 @@ use Rattle.rules.specs.Layout.{blockBytes, process, segment, file, recordWords,
 use Rattle.rules.specs.Errors.{XOK}
 use Rattle.rules.specs.SetUp.{setUpAnswer, setUpTable}
 use Rattle.rules.specs.Step.{Outcome, step}
-use Rattle.rules.specs.Replay.{headerNumbers, maxReplayBlocks, maxReplaySlots, maxBuffer, callOf, line, heading, badConfiguration, badScript}
+use Rattle.rules.specs.Replay.{headerNumbers, maxReplayBlocks, maxReplaySlots, maxBuffer, callFrom, line, heading, badConfiguration, badScript}
 use Rattle.script.specs.declared.Reader.{Reader}
 use Rattle.script.specs.declared.What.{What}
 use Rattle.script.specs.declared.What.the-variants.{More, Configuration, Call, Fault}
@@ -84,7 +84,7 @@ storeReady st = sets st 0 (replicate (length st) 0)
 -- ---- a call is whole: its numbers are nums, its bytes stand at the front of the buffer l (a reader takes no more than maxBuffer of them)
 unfoldable pub outcomeOf : Session → List ℕ → List ℕ → List ℕ → List ℕ → Outcome
 outcomeOf x nums t st l =
-    step (record { table = take (x .words) t; store = take (x .bytes) st }) (callOf nums (take (min (getD nums 5 0) maxBuffer) l))
+    step (record { table = take (x .words) t; store = take (x .bytes) st }) (callFrom nums (take (min (getD nums 5 0) maxBuffer) l))
 
 abbrev pub oneMore : ℕ → ℕ
 oneMore n = (n + 1) % 2 ^ 64

@@ -4,14 +4,14 @@ use lib.ListN.{length, replicate}
 use borrow.Author.Needs.{needs}
 use Rattle.rules.specs.Replay.{maxBuffer}
 use Rattle.laws.proofs.Tests.{passed}
-use Rattle.session.proofs.Ready.{mostWords, mostBytes}
+use Rattle.session.proofs.Ready.{mostReplayWords, mostReplayBytes}
 use Rattle.player.proofs.Ways.{Sofar, nothing-yet, one-more, Sized, replayed, used-up}
 use Rattle.player.proofs.replay.Statement.{statement}
 use Rattle.player.proofs.replay.Tie as tie
 
 abbrev Inv-loop : tie.InvT-loop
 Inv-loop table₀ store₀ buf₀ out₀ input₀ session₀ read₀ handed₀ turns₀ table store buf out input session read handed turns =
-    (length table ≡ mostWords) × (length store ≡ mostBytes) × (length buf ≡ maxBuffer) × (length out ≡ 65536) × (length input ≡ 65536)
+    (length table ≡ mostReplayWords) × (length store ≡ mostReplayBytes) × (length buf ≡ maxBuffer) × (length out ≡ 65536) × (length input ≡ 65536)
     × Sofar session₀ table₀ store₀ buf₀ session table store buf read handed × Sized table₀ store₀ buf₀
 
 abbrev μ-loop : tie.MeasureT-loop
@@ -62,7 +62,7 @@ returns : tie.Need-returns Inv-loop μ-loop
 returns c =
     let turned = c .before .before .before .before .before .before .before .before in
     let going = turned .before .before .before .before .before .before .before in
-    replayed (replicate mostWords 0) (going .before .before .start .ensures) (going .loop .inv .5) (going .loop .inv .6) (turned .turn .ensures)
+    replayed (replicate mostReplayWords 0) (going .before .before .start .ensures) (going .loop .inv .5) (going .loop .inv .6) (turned .turn .ensures)
 
 sub-turns : tie.Need-sub-turns Inv-loop μ-loop
 sub-turns c = search needs
@@ -84,7 +84,7 @@ loop-again c =
     )
 
 returns-2 : tie.Need-returns-2 Inv-loop μ-loop
-returns-2 c = used-up (replicate mostWords 0) (c .before .before .before .start .ensures) (c .before .loop .inv .5) (c .before .loop .inv .6)
+returns-2 c = used-up (replicate mostReplayWords 0) (c .before .before .before .start .ensures) (c .before .loop .inv .5) (c .before .loop .inv .6)
 
 pub replay-spec : {M : Type 1} → statement M
 replay-spec =

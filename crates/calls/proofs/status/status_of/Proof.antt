@@ -1,5 +1,5 @@
 -- `status::status_of` meets its contract: refused, or the sixteen bytes of the object that is seen.
-use Rattle.calls.proofs.Statuses.{Judged, judged-by, class-small, in-cells, status-refused, status-done}
+use Rattle.calls.proofs.Statuses.{StatusJudged, judged-by, class-small, in-cells, status-refused, status-done}
 use Rattle.calls.proofs.Names.{bits-small}
 use Rattle.layout.specs.Kinds.{kindOf}
 use mathlib.Core.Path.{_∙_}
@@ -14,7 +14,7 @@ seen c = c .before .before .before
 abbrev start : tie.After-find → tie.Start
 start c = seen c .before .before .before .before
 
-judged : (c : tie.After-find) → Judged (start c .args .t .now) (start c .args .n) (start c .args .c) (kindOf (start c .args .kind)) (start c .args .s)
+judged : (c : tie.After-find) → StatusJudged (start c .args .t .now) (start c .args .n) (start c .args .c) (kindOf (start c .args .kind)) (start c .args .s)
     (start c .args .buffer .now)
     (seen c .look .result) (c .find .result)
 judged c = judged-by (start c .pre .0) (kindOf (start c .args .kind)) _ _ (seen c .look .ensures) (c .before .before .or-refuse .ensures) (c .find .ensures)
