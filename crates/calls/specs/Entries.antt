@@ -33,7 +33,7 @@ givenUpAt t k entry object n own kept =
 unfoldable pub fourAt : List ℕ → ℕ → ℕ → ℕ → ℕ → ℕ → List ℕ
 fourAt t i a b c d = set (set (set (set t i a) (i + 1) b) (i + 2) c) (i + 3) d
 
--- a new object's record of eight words
+-- the first eight words of a new object's record
 unfoldable pub madeAt : List ℕ → ℕ → ℕ → ℕ → ℕ → ℕ → ℕ → ℕ → ℕ → List ℕ
 madeAt t i s u g b x y z = fourAt (fourAt t i 1 s u g) (i + 4) b x y z
 

@@ -139,7 +139,8 @@ pub(crate) fn put_four(t: &mut [u32], i: usize, a: u32, b: u32, c: u32, d: u32)
     put(t, i + 3, d);
 }
 
-// The record of a new segment or file. It begins at a place; x and y are the words behind the bits, and the last counts the holders.
+// The first eight words of the record of a new segment or file, which begins at a place; x and y are the words behind the bits, and the eighth counts the holders. A file's
+// ninth, its subtype, is put by create.
 pub(crate) fn make(
     t: &mut [u32],
     from: usize,

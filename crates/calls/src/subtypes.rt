@@ -32,6 +32,7 @@ use rules::SUBTYPE_CELL;
 use rules::SUBTYPE_CLASS;
 use rules::SUBTYPE_GROUP;
 use rules::SUBTYPE_OWNER;
+use rules::SUBTYPE_SERIAL;
 use rules::XBAD_ST_CAP;
 use rules::XBAD_SUBTYPE_MATCH;
 use words::wide;
@@ -77,7 +78,7 @@ pub(crate) fn look_subtype(
         cell,
         own: cell == c.cell,
         flows,
-        present: serial_of(s) == 1,
+        present: serial_of(s) == SUBTYPE_SERIAL,
         mine: owner == my_owner,
         rights,
     }
@@ -103,7 +104,8 @@ pub(crate) fn held_by(t: &[u32], n: Header, p: u32, by: u32) -> Capability
     }
 }
 
-// What refuses a create under a subtype, after the number e found so far; with `by` 0 it is under none. "A subtype of the caller's cell held for reading and writing."
+// What refuses a create under a subtype, after the number e found so far; with `by` 0 it is under none. Create may name "a subtype of the caller's cell held
+// for reading and writing".
 pub(crate) fn may_create_under(e: u32, t: &[u32], n: Header, c: Caller, by: u32) -> u32
     requires { ⌜ Sound (now t) n c ⌝ }
     ensures { λ r. ⌜ r ≡ refusing e (createUnder (configuration (now (t .entry))) (wordsOf (now (t .entry))) (c .slot) by) ⌝ }

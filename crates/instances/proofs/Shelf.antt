@@ -9,6 +9,8 @@ use Rattle.rules.specs.Layout.{file, at, rd, opens, subtype}
 use Rattle.rules.specs.Seid.{class, subtypeClass, seid}
 use Rattle.rules.specs.WellFormed.{wellFormed}
 use Rattle.rules.specs.SetUp.{freshTable}
+use Rattle.rules.specs.Call12.{setBits}
+use Rattle.rules.specs.Call14.{blockWritten, writeBlock}
 use Rattle.rules.specs.Step.{State, Call, Reply, answer, run}
 use Rattle.rules.specs.Observer.{replies}
 use Rattle.laws.proofs.Claims.{holds}
@@ -62,3 +64,30 @@ listed = replies-judged shelf (λ c. true) fresh calls fresh-formed ∙ refl
 pub left : (rd shelf (run fresh calls .table) (at file 0 subtype) ≡ one) × (rd shelf (run fresh calls .table) (at file 0 opens) ≡ 2)
 unfolding shelf fresh calls judged runJudged open-rules
 left = (rw (run-judged fresh calls fresh-formed) refl, rw (run-judged fresh calls fresh-formed) refl)
+
+-- ---- each refusal in its place
+
+abbrev block : ℕ → ℕ → Call
+block k a = record { caller = 0; code = k; a = a; b = 0; c = 0; buffer = replicate 512 0 }
+
+abbrev unchanged : ℕ → Reply
+unchanged e = record { answered = answer e 0 0; buffer = replicate 512 0 }
+
+-- the first subtype is held for both, the second for reading alone; a file is created with the first, and there is room for no other. Creates: of a descriptor that there isn't
+-- (35), of one that holds a file (35), of the second subtype (36), each before 26; and with bad modes (7, before 35). Opens that clash: without the subtype (35, before 19), and
+-- with it (19). With the file's bits gone, an open without the subtype is 16, before 35. Block calls on a subtype: a read and a write (12), and a write where it is held for
+-- reading alone (21, before 12).
+unfoldable pub asks : List Call
+asks =
+    call 0 8 one 3 0 ∷ call 0 8 two 1 0 ∷ call 0 7 420 3 1
+    ∷ call 0 7 420 3 17 ∷ call 0 7 420 3 3 ∷ call 0 7 420 3 2 ∷ call 0 7 420 4 17
+    ∷ call 0 8 paper 15 0 ∷ call 0 8 paper 15 1 ∷ call 0 12 paper 0 0 ∷ call 0 8 paper 1 0
+    ∷ block 13 0 ∷ block 14 0 ∷ block 14 1 ∷ []
+
+pub refused : replies shelf (λ c. true) fresh asks
+    ≡ said 0 0 0 ∷ said 0 1 0 ∷ said 0 paper 2
+    ∷ said 35 0 0 ∷ said 35 0 0 ∷ said 36 0 0 ∷ said 7 0 0
+    ∷ said 35 0 0 ∷ said 19 0 0 ∷ said 0 0 0 ∷ said 16 0 0
+    ∷ unchanged 12 ∷ unchanged 12 ∷ unchanged 21 ∷ []
+unfolding shelf fresh asks judged repliesJudged setBits writeBlock blockWritten open-rules
+refused = replies-judged shelf (λ c. true) fresh asks fresh-formed ∙ refl

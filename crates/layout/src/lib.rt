@@ -184,7 +184,7 @@ impl Header {
         }
     }
 
-    // Where a subtype's words begin; those past the last subtype's, the configuration's end.
+    // Where the words of subtype i begin; with i the number of subtypes, where the configuration ends.
     pub fn subtype_at(self, i: u32) -> usize
         ensures { λ r. ⌜ (r ≡ subtypeOf self i) × (r < 2 ^ 37) ⌝ }
     {

@@ -191,7 +191,7 @@ pub set-up-table : (t : List ℕ) (m : ℕ) → Holds (canSetUp t m) → setUpTa
 unfolding setUpTable
 set-up-table t m w = rw (tested (canSetUp t m) w)
 
--- "Set-up reads the header and cell words in the table and refuses bad ones or wrong lengths": otherwise what it leaves is well formed
+-- "Set-up reads the header and cell words in the table and refuses bad ones or wrong lengths" (02, CR 11: and the subtypes' words): otherwise what it leaves is well formed
 pub set-up-formed : (t : List ℕ) (m : ℕ) → Holds (canSetUp t m) → Holds (wellFormed (setUpTable t m) m)
 unfolding canSetUp wellFormed lengthsExact
 set-up-formed t m w =

@@ -4,21 +4,19 @@ ghost use mathlib.Core.Bool.{_&&_};
 ghost use Prim.Native.Nat.{_<_};
 ghost use lib.Dec.{eqb};
 ghost use Rattle.rules.specs.Layout.{configuration, subtypeCell};
-ghost use Rattle.rules.specs.Seid.{subtypeClass, serialOf, isSeid};
+ghost use Rattle.rules.specs.Seid.{subtypeClass, subtypeSerial, serialOf, isSeid};
 ghost use Rattle.table.specs.Shape.{Framed};
 use layout::Header;
 use rules::SUBTYPE_CELL;
 use rules::SUBTYPE_CLASS;
+use rules::SUBTYPE_SERIAL;
 use words::wide;
 
-// No subtype is ever freed: all have the first serial.
-const FIRST_SERIAL: u32 = 1;
-
-// Whether s is the identifier of a subtype that there is.
+// Whether s is the identifier of a subtype that there is. None is ever freed: all have the first serial.
 pub(crate) fn named(n: Header, s: u32) -> bool
-    ensures { λ r. ⌜ r ≡ isSeid subtypeClass (n .subtypes) s && eqb (serialOf s) 1 ⌝ }
+    ensures { λ r. ⌜ r ≡ isSeid subtypeClass (n .subtypes) s && eqb (serialOf s) subtypeSerial ⌝ }
 {
-    layout::is_seid(SUBTYPE_CLASS, n.subtypes, s) & (layout::serial_of(s) == FIRST_SERIAL)
+    layout::is_seid(SUBTYPE_CLASS, n.subtypes, s) & (layout::serial_of(s) == SUBTYPE_SERIAL)
 }
 
 // The cell of a subtype.
