@@ -30,7 +30,6 @@ use Rattle.promises.proofs.Stale.{given}
 
 -- process q holds object i by entry d: one of its own cell, which the entry names
 pub record HoldsBy (h : List ℕ) (r : Addr → ℕ) (q : ℕ) (j : Kind) (i d : ℕ) : Type 0 where
-  pub some : r (at process q (heldAt j d)) ≡ 0 → ⊥
   pub form : formed h j (r (at process q (heldAt j d))) ≡ true
   pub own-cell : inOwnCell h q j (r (at process q (heldAt j d))) ≡ true
   pub names : present r j (r (at process q (heldAt j d))) ≡ true
@@ -190,7 +189,6 @@ module _ (s : State) (k : Call) (w : Well s) (is-release : k .code ≡ 2) where
       let x = fine-of h r (good-of (s .table) (length (s .store)) w .records) .entry j o q d ql l in
       let c = eqb-true _ _ mine in
       none d l (record {
-        some = some;
         form = form;
         own-cell = mine;
         names = present-is r j _ (record { is-live = x .current-live n c; same-serial = x .current-serial n c });
