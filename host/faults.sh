@@ -10,7 +10,7 @@ work=target/stand-in
 # All stand-ins are built at one place, so that rustc compiles anew only what the fault changes in the one before.
 tried=$work/tried
 export STAND_IN_FLAGS="-C opt-level=1 -C codegen-units=16 -C lto=off -C incremental=$work/incremental"
-export TRIAL_CALLS=${TRIAL_CALLS:-400000} TRIAL_RUNS=${TRIAL_RUNS:-3000} TRIAL_SCRIPTS=${TRIAL_SCRIPTS:-800} TRIAL_TRAYS=${TRIAL_TRAYS:-1500}
+export TRIAL_CALLS=${TRIAL_CALLS:-400000} TRIAL_RUNS=${TRIAL_RUNS:-3000} TRIAL_SCRIPTS=${TRIAL_SCRIPTS:-800} TRIAL_TRAYS=${TRIAL_TRAYS:-1500} TRIAL_QUICK=${TRIAL_QUICK:-400}
 
 cargo build --release --offline --locked --quiet --package trial --example try_library || exit 2
 program=${CARGO_TARGET_DIR:-target}/release/examples/try_library
@@ -45,8 +45,8 @@ names=("$@")
 
 build || exit 2
 failed=0
-for trial in differential secrecy trays images replay; do
-    TRIAL_CALLS=20000 TRIAL_RUNS=300 TRIAL_SCRIPTS=100 TRIAL_TRAYS=300 TRIAL_IMAGES=20 try "$trial"
+for trial in differential secrecy trays quick images replay; do
+    TRIAL_CALLS=20000 TRIAL_RUNS=300 TRIAL_SCRIPTS=100 TRIAL_TRAYS=300 TRIAL_QUICK=100 TRIAL_IMAGES=20 try "$trial"
     [ $? = 0 ] || { keep sound; echo "the sound stand-in fails $trial: see host/$work/sound/$trial.log"; exit 1; }
 done
 

@@ -10,13 +10,14 @@
  *
  * - A pointer is not NULL, not even with length 0, is aligned for its type, and is good for as many words, bytes or records as the
  *   length beside it says: to read and, where it is not const, to write.
- * - Nothing that is lent overlaps: table, store, and buffer or image; of a tray, table, store, `records` and `buffers`.
+ * - Nothing that is lent overlaps: table, store, and buffer, image or working slice; of a tray, table, store, `records`, `buffers` and the
+ *   working slice.
  * - Nothing else reads or writes it until the call returns: no other thread, no signal handler, no device, no other mapping of it.
  * - `caller` is the slot of the process that really calls. No program may choose it: that is how the monitor knows who asks.
  * - A process gets its own calls' answers and buffers and what its views show, and nothing else of table and store. An image has every
- *   cell's secrets in it: it is kept as the table and the store are.
+ *   cell's secrets in it: it is kept as the table and the store are. So is a working slice, which tells of every cell.
  * - Between calls table and store stay as the last call left them. A well-formed table that somebody forged is believed.
- * - The stack has room: monitor_reload takes some 133 KiB of it, whatever the table's length; the other functions less than 6 KiB.
+ * - The stack has room: monitor_reload takes some 133 KiB of it, whatever the table's length; the other functions less than 8 KiB.
  *
  * Threads. The library has no state of its own, so calls on different tables may be made at once. Two calls at once on one table are
  * the host's fault: it must keep them apart, by a lock or by having one thread make them.
@@ -59,11 +60,11 @@ enum monitor_code {
 /* The refusals; 0 is success. A refusal has changed nothing. */
 enum monitor_error {
     MONITOR_XOK = 0, /* done */
-    MONITOR_XbTab = 1, /* the table is not well formed, or a length is wrong */
+    MONITOR_XbTab = 1, /* the table is not well formed, a length is wrong, or a working slice is not the table's */
     MONITOR_XbPrSd = 2, /* no such process */
     MONITOR_XbdKcl = 3, /* no such call */
     MONITOR_XbParam = 4, /* an argument is out of range, or a configuration, an image or a tray is bad */
-    MONITOR_XbSz = 5, /* the buffer has the wrong length */
+    MONITOR_XbSz = 5, /* a buffer or a working slice has the wrong length */
     MONITOR_XbSgSz = 6, /* no size for a segment */
     MONITOR_XbadModes = 7, /* no valid open modes */
     MONITOR_XnSgDes = 8, /* no designator has that number */
@@ -207,6 +208,10 @@ enum monitor_error {
      MONITOR_FILE_WORDS * (size_t)(files))
 #define MONITOR_STORE_BYTES(files, blocks) ((size_t)(files) * (size_t)(blocks) * MONITOR_BLOCK_BYTES)
 
+/* No working slice is longer. monitor_work_length tells the exact length. */
+#define MONITOR_WORK_WORDS(cells, processes, segments, files)                                                                \
+    (3 * (size_t)(cells) + (size_t)(processes) + (size_t)(segments) + (size_t)(files) + (size_t)(processes) * (size_t)(files))
+
 /* No image is longer: a word takes up to five bytes. monitor_image_length tells the exact length. */
 #define MONITOR_IMAGE_BYTES(words, bytes) (5 * (size_t)(words) + (size_t)(bytes))
 
@@ -277,6 +282,36 @@ typedef struct {
  */
 uint32_t monitor_tray(uint32_t *table, size_t words, uint8_t *store, size_t bytes,
                       monitor_record *records, size_t count, uint8_t *buffers, size_t length);
+
+/*
+ * Quick trays. A working slice has, in 32-bit words, what a table says of its free slots and of its open files, in an order in which they
+ * are quickly found:
+ *
+ * - for processes, then segments, then files, and cell by cell, a list of the cell's slots that can be taken: how many there are, then
+ *   256 * serial + slot of each, falling, then zeros; in all one word more than the cell has slots;
+ * - cell by cell, process by process of the cell, a word for each file of the cell: bit d is set where descriptor d of that process holds
+ *   an identifier of that file's slot.
+ *
+ * It is filled once, and serves from one quick tray to the next as long as nothing else changes the table.
+ */
+
+/* How many words the table's working slice has; 0 if the table is bad. */
+size_t monitor_work_length(const uint32_t *table, size_t words, size_t store_bytes);
+
+/*
+ * Fills a working slice, whatever stands in it. 0; or 1 for a bad table, then 5 if `work_words` is not exactly the slice's length, and it
+ * stays as it was.
+ */
+uint32_t monitor_work(const uint32_t *table, size_t words, size_t store_bytes, uint32_t *work, size_t work_words);
+
+/*
+ * As monitor_tray, with the table's working slice behind what that takes: the answers, the table, the store and the bytes are those of a
+ * tray, and the slice is the table's again. Of the refusals 4 and 1 come first, as in a tray, then 1 for a working slice that is not the
+ * table's; nothing is changed then, records and slice included.
+ */
+uint32_t monitor_quick_tray(uint32_t *table, size_t words, uint8_t *store, size_t bytes,
+                            monitor_record *records, size_t count, uint8_t *buffers, size_t buffer_bytes,
+                            uint32_t *work, size_t work_words);
 
 /*
  * The evening image: every word of the table in seven-bit groups, the low group first and the high bit on all but the last, then the

@@ -38,11 +38,11 @@ macro_rules! errors {
 }
 
 errors! {
-    XbTab = 1, "the table is not well formed, or a length is wrong";
+    XbTab = 1, "the table is not well formed, a length is wrong, or a working slice is not the table's";
     XbPrSd = 2, "no such process";
     XbdKcl = 3, "no such call";
     XbParam = 4, "an argument is out of range, or a configuration, an image or a tray is bad";
-    XbSz = 5, "the buffer has the wrong length";
+    XbSz = 5, "a buffer or a working slice has the wrong length";
     XbSgSz = 6, "no size for a segment";
     XbadModes = 7, "no valid open modes";
     XnSgDes = 8, "no designator has that number";

@@ -68,6 +68,12 @@ pub const fn image_bytes(words: usize, bytes: usize) -> usize {
     5 * words + bytes
 }
 
+/// No working slice of a table is longer, by the header's numbers: three lists of slots for each cell, and a word for each process and
+/// file of one cell.
+pub const fn work_words(cells: usize, processes: usize, segments: usize, files: usize) -> usize {
+    3 * cells + processes + segments + files + processes * files
+}
+
 /// Words of the header.
 pub mod header {
     /// The number of cells.

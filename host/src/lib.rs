@@ -22,8 +22,8 @@
 //! # Ok::<(), Error>(())
 //! ```
 //!
-//! [`setup`], [`well_formed`], [`call`], [`view`], [`view_part`], [`tray`], [`image`] and [`reload`] are the library's functions over slices, for hosts that
-//! keep their own memory or hand calls through by their numbers:
+//! [`setup`], [`well_formed`], [`call`], [`view`], [`view_part`], [`tray`], [`work`], [`quick_tray`], [`image`] and [`reload`] are the library's
+//! functions over slices, for hosts that keep their own memory or hand calls through by their numbers:
 //!
 //! ```
 //! use monitor::{Cell, Code, Error, Hall};
@@ -78,7 +78,8 @@ pub use error::Error;
 pub use hall::{Cell, Hall, Level, Subtype};
 pub use owner::{Caller, Descriptor, Designator, Monitor, Page};
 pub use raw::{
-    Answer, Part, Record, TRAY_RECORDS, call, image, image_length, reload, setup, tray, view, view_part, well_formed,
+    Answer, Part, Record, TRAY_RECORDS, call, image, image_length, quick_tray, reload, setup, tray, view, view_part,
+    well_formed, work, work_length,
 };
 pub use rights::{Access, Bits, Modes};
 pub use seid::{Kind, Seid};

@@ -42,6 +42,26 @@ mod c {
             buffers: *mut u8,
             length: usize,
         ) -> u32;
+        pub fn monitor_work_length(table: *const u32, words: usize, store_bytes: usize) -> usize;
+        pub fn monitor_work(
+            table: *const u32,
+            words: usize,
+            store_bytes: usize,
+            work: *mut u32,
+            work_words: usize,
+        ) -> u32;
+        pub fn monitor_quick_tray(
+            table: *mut u32,
+            words: usize,
+            store: *mut u8,
+            bytes: usize,
+            records: *mut Record,
+            count: usize,
+            buffers: *mut u8,
+            buffer_bytes: usize,
+            work: *mut u32,
+            work_words: usize,
+        ) -> u32;
         pub fn monitor_image_length(table: *const u32, words: usize, store_bytes: usize) -> usize;
         pub fn monitor_image(
             table: *const u32,
@@ -195,6 +215,51 @@ pub fn tray(table: &mut [u32], store: &mut [u8], records: &mut [Record], buffers
     })
 }
 
+/// How many words the table's working slice has; None if the table is not well formed. No slice has more than
+/// [`work_words`](crate::layout::work_words) tells.
+pub fn work_length(table: &[u32], store_bytes: usize) -> Option<usize> {
+    // SAFETY: pointer and length are those of a slice; the library only reads it.
+    let length = unsafe { c::monitor_work_length(table.as_ptr(), table.len(), store_bytes) };
+    (length != 0).then_some(length)
+}
+
+/// Fills a working slice, whatever stands in it: the free slots of each cell, and the open descriptors of each file. A bad table is
+/// refused with XbTab, then a slice that is not exactly as long as [`work_length`] says with XbSz, and the slice stays as it was.
+pub fn work(table: &[u32], store_bytes: usize, work: &mut [u32]) -> Result<(), Error> {
+    // SAFETY: the pointers and lengths are those of two slices, of which the library only reads one; the other is lent to this call
+    // alone. Any lengths and contents are allowed.
+    Error::told(unsafe { c::monitor_work(table.as_ptr(), table.len(), store_bytes, work.as_mut_ptr(), work.len()) })
+}
+
+/// As [`tray`], with the table's working slice behind what that takes: the answers, the table, the store and the bytes are those of a
+/// tray, and the slice is the table's again, ready for the next one. After the refusals of a tray a slice that is not the table's is
+/// refused with XbTab too; a refusal changes nothing, the slice included. What changes the table otherwise, a single call say, may leave
+/// the slice behind: [`work`] fills it anew.
+pub fn quick_tray(
+    table: &mut [u32],
+    store: &mut [u8],
+    records: &mut [Record],
+    buffers: &mut [u8],
+    work: &mut [u32],
+) -> Result<(), Error> {
+    // SAFETY: the pointers and lengths are those of five slices that are lent to this call alone, so they do not overlap; any lengths
+    // and contents are allowed, and a Record is ten words as in monitor.h.
+    Error::told(unsafe {
+        c::monitor_quick_tray(
+            table.as_mut_ptr(),
+            table.len(),
+            store.as_mut_ptr(),
+            store.len(),
+            records.as_mut_ptr(),
+            records.len(),
+            buffers.as_mut_ptr(),
+            buffers.len(),
+            work.as_mut_ptr(),
+            work.len(),
+        )
+    })
+}
+
 /// The length of the image of a table and a store of that length; None if the table is not well formed.
 pub fn image_length(table: &[u32], store_bytes: usize) -> Option<usize> {
     // SAFETY: pointer and length are those of a slice; the library only reads it.
@@ -222,7 +287,7 @@ pub fn image(table: &[u32], store: &[u8], out: &mut [u8]) -> Result<(), Error> {
 /// The words are judged on the stack before the table is written. However small the table, the room of the largest is taken there:
 /// four bytes for each of its words, 132,896, and on x86-64 some 3 KiB more. A thread whose stack is smaller overruns it, and the process
 /// is ended: no refusal tells of it. Rust's threads have 2 MiB unless they are given less; of the library's other functions none takes
-/// 6 KiB.
+/// 8 KiB.
 pub fn reload(table: &mut [u32], store: &mut [u8], image: &[u8]) -> Result<(), Error> {
     // SAFETY: the pointers and lengths are those of three slices, of which the library only reads the last; the others are lent to
     // this call alone, so none overlaps another. Any lengths and contents are allowed.

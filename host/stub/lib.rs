@@ -1,7 +1,9 @@
 //! A stand-in for the proved library: the plain monitor behind the C functions. It serves to try out the tests themselves,
 //! sound and with faults put in (see faults.sh); it is no part of what is delivered.
 
-use plain::{Record, Request, call, check, image, image_length, reload, setup, tray, view};
+use plain::{
+    Record, Request, call, check, image, image_length, quick_tray, reload, setup, tray, view, work, work_length,
+};
 use std::slice::{from_raw_parts, from_raw_parts_mut};
 
 #[repr(C)]
@@ -127,4 +129,44 @@ pub unsafe extern "C" fn monitor_tray(
     let (table, store) = unsafe { (from_raw_parts_mut(table, words), from_raw_parts_mut(store, bytes)) };
     let (records, buffers) = unsafe { (from_raw_parts_mut(records, count), from_raw_parts_mut(buffers, length)) };
     tray(table, store, records, buffers) as u32
+}
+
+/// # Safety
+/// As monitor.h says.
+#[unsafe(no_mangle)]
+pub unsafe extern "C" fn monitor_work_length(table: *const u32, words: usize, store_bytes: usize) -> usize {
+    work_length(unsafe { from_raw_parts(table, words) }, store_bytes)
+}
+
+/// # Safety
+/// As monitor.h says.
+#[unsafe(no_mangle)]
+pub unsafe extern "C" fn monitor_work(
+    table: *const u32,
+    words: usize,
+    store_bytes: usize,
+    out: *mut u32,
+    length: usize,
+) -> u32 {
+    work(unsafe { from_raw_parts(table, words) }, store_bytes, unsafe { from_raw_parts_mut(out, length) }) as u32
+}
+
+/// # Safety
+/// As monitor.h says.
+#[unsafe(no_mangle)]
+pub unsafe extern "C" fn monitor_quick_tray(
+    table: *mut u32,
+    words: usize,
+    store: *mut u8,
+    bytes: usize,
+    records: *mut Record,
+    count: usize,
+    buffers: *mut u8,
+    buffer_bytes: usize,
+    slice: *mut u32,
+    slice_words: usize,
+) -> u32 {
+    let (table, store) = unsafe { (from_raw_parts_mut(table, words), from_raw_parts_mut(store, bytes)) };
+    let (records, buffers) = unsafe { (from_raw_parts_mut(records, count), from_raw_parts_mut(buffers, buffer_bytes)) };
+    quick_tray(table, store, records, buffers, unsafe { from_raw_parts_mut(slice, slice_words) }) as u32
 }

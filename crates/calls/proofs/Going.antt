@@ -100,14 +100,14 @@ module _ (t₀ s₀ b₀ : List ℕ) (rs : List Record) (m : List (List Bool)) (
           let l : length (take n rs) ≡ n = length-take-le n rs e in
           ap (λ (l : List Record). inOrder (stateOf t s) b (ruleRecords l)) (drop-of-length-le (take n rs) {i = i} (omega arith))
 
-      all-run : n ≡ length rs → inOrder (stateOf t₀ s₀) b₀ (ruleRecords rs) ≡ left (stateOf t s) b (ruleRecords zs)
+      pub all-run : n ≡ length rs → inOrder (stateOf t₀ s₀) b₀ (ruleRecords rs) ≡ left (stateOf t s) b (ruleRecords zs)
       all-run e =
           let l = g .long in
           let all : take n rs ≡ rs = take-all n rs (omega arith) in
           ap (λ (l : List Record). inOrder (stateOf t₀ s₀) b₀ (ruleRecords l)) (sym all) ∙ g .whole ∙ ap (ahead (ruleRecords (take i zs))) nothing-left
           ∙ ap (left (stateOf t s) b) (append-nil (ruleRecords (take i zs)) ∙ ap ruleRecords (take-all i zs (omega arith)))
 
-      none-run : n ≡ 0 → left (stateOf t₀ s₀) b₀ (ruleRecords rs) ≡ left (stateOf t s) b (ruleRecords zs)
+      pub none-run : n ≡ 0 → left (stateOf t₀ s₀) b₀ (ruleRecords rs) ≡ left (stateOf t s) b (ruleRecords zs)
       unfolding inOrder
       none-run e =
           let w = g .within in
@@ -142,6 +142,10 @@ pub due-fits : (b : Bool) (n k : ℕ) → n ≡ cond b k 0 → n ≤ k
 due-fits true n k e = omega arith
 due-fits false n k e = omega arith
 
+-- where anything is due, the verdict is 0
+pub good-if-due : (v n k : ℕ) → n ≡ cond (eqb v 0) k 0 → 0 < n → v ≡ 0
+good-if-due v n k e l = split _ (eqb v 0) (eqb-true v 0) (λ z. absurd (let f : n ≡ 0 = e ∙ cond-false (eqb v 0) k 0 z in omega arith))
+
 -- what the judging came to: the answer is the rules', and where anything is due the table is ready
 module _ (t s : List ℕ) (rs : List Record) (hall : List ℕ) (he : hall ≡ begun t (length s) (length rs)) (v : ℕ) (ve : v ≡ verdictOf hall (length rs)) where
   pub answer-is : v ≡ trayAnswer (stateOf t s) (ruleRecords rs)
@@ -156,9 +160,7 @@ module _ (t s : List ℕ) (rs : List Record) (hall : List ℕ) (he : hall ≡ be
         record { good = r .good; handed = record { matrix = me ∙ ap matrixIn he ∙ r .handed .matrix; told = he ∙ r .handed .told } }
 
     pub ready-if-due : (n : ℕ) → n ≡ cond (eqb v 0) (length rs) 0 → 0 < n → Ready t s m hall
-    ready-if-due n e l = split _ (eqb v 0)
-        (λ z. ready-here (eqb-true v 0 z))
-        (λ z. absurd (let f : n ≡ 0 = e ∙ cond-false (eqb v 0) (length rs) 0 z in omega arith))
+    ready-if-due n e l = ready-here (good-if-due v n (length rs) e l)
 
 -- a turn, as the loop's variant has it: how far it is, the state, the bytes and the records, and that it goes on
 pub record Turn (t₀ s₀ b₀ : List ℕ) (rs : List Record) (m : List (List Bool)) (hall : List ℕ) (n : ℕ) : Type 0 where

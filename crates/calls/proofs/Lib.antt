@@ -23,5 +23,9 @@ pub mod Codes
 pub mod Whole
 pub mod ViewLaws
 pub mod TrayLaws
+pub mod QuickLaws
+pub mod QuickPlaces
+pub mod QuickSteps
 pub mod Going
+pub mod GoingQuick
 pub mod Again

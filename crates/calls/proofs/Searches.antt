@@ -24,7 +24,8 @@ use Rattle.ids.specs.Seid.{seidOf}
 use Rattle.ids.proofs.Parts.{seid-fits}
 use Rattle.calls.specs.declared.Caller.{Caller}
 use Rattle.calls.specs.declared.room.Slot.{Slot}
-use Rattle.calls.specs.World.{Known, Sound, wordsOf, holdable, firstBy, freeTest, serialAt, freeAt, emptyTest, emptyAt}
+use Rattle.calls.specs.World.{Known, Sound, wordsOf, holdable, firstBy, freeAt, emptyTest, emptyAt}
+use Rattle.lists.specs.Free.{freeTest, serialAt}
 use Rattle.calls.specs.Seen.{slotFound}
 use Rattle.calls.proofs.Worlds.{spot, shape, cells-is, first-by-kind, first-bound}
 
@@ -36,8 +37,11 @@ pub first-fits : {t : List ℕ} {n : Header} → Known t n → (k c : ℕ) → c
 first-fits {t} {n} known k c l m = omega (arith, first-bound (configuration t) k c (cells (configuration t)) (omega (arith, cells-is known)))
 
 -- the caller's cell is one of the table's
+pub home-here : {t : List ℕ} {n : Header} {c : Caller} → Sound t n c → c .cell < cells (configuration t)
+home-here {t} {n} {c} s = rw (s .home) (in-run (configuration t) (shape (s .known)) process (c .slot) (s .caller) .0)
+
 pub home-in : {t : List ℕ} {n : Header} {c : Caller} → Sound t n c → c .cell < n .cells
-home-in {t} {n} {c} s = rw (s .home, cells-is (s .known)) (in-run (configuration t) (shape (s .known)) process (c .slot) (s .caller) .0)
+home-in s = rw (cells-is (s .known)) (home-here s)
 
 -- ---- the loop of that search: of the slots from one on up to i, `best` is the choice and `least` its serial; before there is one, the end and the largest serial
 

@@ -59,7 +59,7 @@ module _ (hall : List ℕ) (count : ℕ) where
   verdict-by l b e = ap (λ (b : Bool). cond b XOK XbTab) (sym e) ∙ sym (cond-false (ltb mostRecords count) XbParam _ l)
 
 -- a well-formed table's first cell flows to itself
-corner-flows : (t : List ℕ) (n : ℕ) → test (wellFormed t n) ≡ true → corner (hallOf (configuration t)) ≡ true
+pub corner-flows : (t : List ℕ) (n : ℕ) → test (wellFormed t n) ≡ true → corner (hallOf (configuration t)) ≡ true
 unfolding flows
 corner-flows t n e =
     let h : List ℕ = configuration t in

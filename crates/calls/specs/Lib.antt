@@ -15,3 +15,4 @@ pub mod Told
 pub mod Did
 pub mod View
 pub mod Tray
+pub mod Quick

@@ -12,6 +12,7 @@ use Rattle.rules.specs.Modes.{validModes}
 use Rattle.rules.specs.WellFormed.{configured, recordsOk, wellFormed}
 use Rattle.layout.specs.declared.Header.{Header}
 use Rattle.layout.specs.Header.{headerOf}
+use Rattle.lists.specs.Free.{freeTest, serialAt}
 use Rattle.calls.specs.declared.Caller.{Caller}
 use Rattle.calls.specs.Handed.{Handed}
 
@@ -49,15 +50,7 @@ cellBy h k i = lowest (λ c. ltb i (firstBy h k c + cellWord h c k)) (cells h) 0
 
 -- ---- searches in the table's words
 
--- slot i isn't live and has serial below 65535; the records begin at base and are so many words long
-unfoldable pub freeTest : List ℕ → ℕ → ℕ → ℕ → Bool
-freeTest t base size i = eqb (getD t (base + size * i + live) 0) 0 && ltb (getD t (base + size * i + serial) 0) maxSerial
-
--- its serial
-unfoldable pub serialAt : List ℕ → ℕ → ℕ → ℕ → ℕ
-serialAt t base size i = getD t (base + size * i + serial) 0
-
--- the one of n slots from i on that has the smallest serial, the lowest among equals
+-- the one of n slots from i on that has the smallest serial, the lowest among equals; the records begin at base and are so many words long
 unfoldable pub freeAt : List ℕ → ℕ → ℕ → ℕ → ℕ → ℕ
 freeAt t base size n i = least (freeTest t base size) (serialAt t base size) n i
 

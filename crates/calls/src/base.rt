@@ -60,9 +60,3 @@ pub(crate) fn write(t: &mut [u32], n: Header, kind: Kind, i: u32, j: usize, v: u
 {
     put(t, n.record_at(kind, i) + j, v);
 }
-
-pub(crate) fn one_less(n: u32) -> u32
-    ensures { λ r. ⌜ r ≡ n - 1 ⌝ }
-{
-    if n == 0 { 0 } else { n - 1 }
-}

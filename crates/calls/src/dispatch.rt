@@ -1,4 +1,4 @@
-// A call on a judged table, by its code. Creating calls take the slot that the search finds.
+// A call on a judged table, by its code. Creating calls take the slot that is found, by a search or in a working slice that is lent; open is told what such a slice tells.
 ghost use mathlib.Core.Path.{_≡_};
 ghost use mathlib.Core.List.{List};
 ghost use Prim.Native.Nat.{ℕ, _≤_};
@@ -9,6 +9,7 @@ ghost use Rattle.layout.specs.Header.{headerOf};
 ghost use Rattle.calls.specs.World.{Sound};
 ghost use Rattle.calls.specs.Handed.{Handed};
 ghost use Rattle.calls.specs.Did.{Plain, Through, ruleIn};
+ghost use Rattle.calls.specs.Quick.{OwnIfLent};
 use crate::Answer;
 use crate::Caller;
 use crate::blocks::read_block;
@@ -23,11 +24,13 @@ use crate::mail::post;
 use crate::mail::receive;
 use crate::map::page_access;
 use crate::map::remap;
+use crate::objects::or_self;
 use crate::processes::release_process;
 use crate::processes::spawn;
+use crate::quick::foretold;
+use crate::quick::slot_for;
 use crate::regrade::regrade;
 use crate::regrade::slot_in;
-use crate::room::free_slot;
 use crate::segments::access_of;
 use crate::segments::build_segment;
 use crate::segments::rendezvous;
@@ -68,23 +71,24 @@ fn on_processes_and_segments(
     n: Header,
     m: &[[bool; MAX_CELLS]; MAX_CELLS],
     hall: &[u8; HALL_BYTES],
+    w: &[u32],
     me: Caller,
     code: u32,
     a: u32,
     b: u32,
     c: u32,
 ) -> Answer
-    requires { ⌜ Sound (now t) n me × Handed (configuration (now t)) (now m) (now hall) × (1 ≤ code) × (code ≤ 6) ⌝ }
+    requires { ⌜ Sound (now t) n me × Handed (configuration (now t)) (now m) (now hall) × OwnIfLent (now t) (now w) × (1 ≤ code) × (code ≤ 6) ⌝ }
     ensures { λ r. ⌜ ((s buffer : List ℕ) → Plain (now (t .entry)) (me .slot) code a b c r (now (t .exit)) s buffer) ⌝ }
 {
     match code {
         SPAWN_CODE => {
-            let q = free_slot(t, n, Kind::Process, me.cell);
+            let q = slot_for(t, w, Kind::Process, me.cell);
             spawn(t, n, me, q, a, b, c)
         }
         RELEASE_PROCESS_CODE => release_process(t, n, *m, hall, me, a),
         BUILD_SEGMENT_CODE => {
-            let g = free_slot(t, n, Kind::Segment, me.cell);
+            let g = slot_for(t, w, Kind::Segment, me.cell);
             build_segment(t, n, me, g, a, b, c)
         }
         RENDEZVOUS_CODE => rendezvous(t, n, *m, hall, me, a, b),
@@ -99,21 +103,26 @@ fn on_files(
     n: Header,
     m: &[[bool; MAX_CELLS]; MAX_CELLS],
     hall: &[u8; HALL_BYTES],
+    w: &[u32],
     me: Caller,
     code: u32,
     a: u32,
     b: u32,
     c: u32,
 ) -> Answer
-    requires { ⌜ Sound (now t) n me × Handed (configuration (now t)) (now m) (now hall) × (7 ≤ code) × (code ≤ 12) ⌝ }
+    requires { ⌜ Sound (now t) n me × Handed (configuration (now t)) (now m) (now hall) × OwnIfLent (now t) (now w) × (7 ≤ code) × (code ≤ 12) ⌝ }
     ensures { λ r. ⌜ ((s buffer : List ℕ) → Plain (now (t .entry)) (me .slot) code a b c r (now (t .exit)) s buffer) ⌝ }
 {
     match code {
         CREATE_CODE => {
-            let f = free_slot(t, n, Kind::File, me.cell);
+            let f = slot_for(t, w, Kind::File, me.cell);
             create(t, n, me, f, a, b, c)
         }
-        OPEN_CODE => open(t, n, *m, hall, me, a, b, c),
+        OPEN_CODE => {
+            let s = or_self(t, n, me, a);
+            let x = foretold(t, n, hall, w, me, s, b);
+            open(t, n, *m, hall, me, a, b, c, x)
+        }
         CLOSE_CODE => give_up(t, n, me, Kind::File, a, XBAD_OD, XBAD_OD),
         LINK_CODE => link(t, n, *m, hall, me, a),
         UNLINK_CODE => unlink(t, n, *m, hall, me, a),
@@ -175,6 +184,7 @@ pub(crate) fn carry_out(
     store: &mut [u8],
     m: &[[bool; MAX_CELLS]; MAX_CELLS],
     hall: &[u8; HALL_BYTES],
+    w: &[u32],
     me: Caller,
     code: u32,
     a: u32,
@@ -182,15 +192,15 @@ pub(crate) fn carry_out(
     c: u32,
     buffer: &mut [u8],
 ) -> Answer
-    requires { ⌜ Sound (now t) (headerOf (configuration (now t))) me × Handed (configuration (now t)) (now m) (now hall) × (length (now store) ≡ storeBytes (configuration (now t))) × (1 ≤ code) × (code ≤ lastCode) ⌝ }
+    requires { ⌜ Sound (now t) (headerOf (configuration (now t))) me × Handed (configuration (now t)) (now m) (now hall) × (length (now store) ≡ storeBytes (configuration (now t))) × OwnIfLent (now t) (now w) × (1 ≤ code) × (code ≤ lastCode) ⌝ }
     ensures { λ r. ⌜ Through (now (t .entry)) (now (store .entry)) (now (buffer .entry)) (ruleIn (now (t .entry)) (now (store .entry)) (me .slot) code a b c (now (buffer .entry))) r (now (t .exit)) (now (store .exit)) (now (buffer .exit)) ⌝ }
 {
     let n = header_of(t);
     if code <= SET_ACCESS_CODE {
-        return on_processes_and_segments(t, n, m, hall, me, code, a, b, c);
+        return on_processes_and_segments(t, n, m, hall, w, me, code, a, b, c);
     }
     if code <= SET_BITS_CODE {
-        return on_files(t, n, m, hall, me, code, a, b, c);
+        return on_files(t, n, m, hall, w, me, code, a, b, c);
     }
     if code <= ACCESS_CODE {
         return on_contents(t, store, n, m, hall, me, code, a, b, c, buffer);
@@ -198,6 +208,6 @@ pub(crate) fn carry_out(
     if code <= PAGE_ACCESS_CODE {
         return on_map(t, n, m, hall, me, code, a, b, c);
     }
-    let g = slot_in(t, n, b);
+    let g = slot_in(t, n, w, b);
     regrade(t, store, n, *m, hall, me, g, a, b, c, buffer)
 }

@@ -11,7 +11,6 @@ ghost use Rattle.layout.specs.Kinds.{kindOf};
 ghost use Rattle.calls.specs.World.{Known, wordsOf, holdable};
 ghost use Rattle.calls.specs.Entries.{entryOf, entryFrom, freedAt, lessAt, givenUpAt, takenUpAt, fourAt, madeAt};
 use crate::Caller;
-use crate::base::one_less;
 use crate::base::read;
 use crate::pages::clear_pages;
 use crate::room::cell_of;
@@ -23,6 +22,7 @@ use rules::BITS;
 use rules::LINKS;
 use rules::LIVE;
 use rules::OWNER;
+use words::one_less;
 use words::put;
 use words::word;
 

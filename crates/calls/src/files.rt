@@ -5,6 +5,7 @@ ghost use mathlib.Core.List.{List};
 ghost use Prim.Native.Nat.{ℕ, _<_};
 ghost use lib.Dec.{eqb};
 ghost use Rattle.rules.specs.Layout.{file, configuration, flowMatrix};
+ghost use Rattle.rules.specs.Seid.{orSelf};
 ghost use Rattle.rules.specs.Rule.{write};
 ghost use Rattle.rules.specs.Call07.{create};
 ghost use Rattle.rules.specs.Call08.{clashes, openFile, openSubtype, openSeid};
@@ -16,12 +17,12 @@ ghost use Rattle.calls.specs.World.{Known, Sound, wordsOf, holdable, Cla
 ghost use Rattle.calls.specs.Handed.{Handed};
 ghost use Rattle.calls.specs.Left.{Left};
 ghost use Rattle.calls.specs.Refusing.{refusing};
+ghost use Rattle.calls.specs.Quick.{untold, Tells};
 ghost use Rattle.calls.specs.Seen.{slotFound};
 ghost use Rattle.calls.specs.Calls.{giveUpRule, openTests};
 use crate::Answer;
 use crate::Caller;
 use crate::base::answered;
-use crate::base::one_less;
 use crate::base::or_refuse;
 use crate::base::read;
 use crate::base::refused;
@@ -82,6 +83,7 @@ use rules::XNO_SPACE;
 use rules::XOD_SPACE;
 use rules::XOK;
 use rules::XSH_SG;
+use words::one_less;
 use words::put;
 use words::wide;
 
@@ -192,6 +194,42 @@ fn busy(t: &[u32], n: Header, c: Caller, e: u32, own: bool, s: u32, b: u32, most
     false
 }
 
+// What is known of an open's clash before it is searched for: the quick engine's masks tell.
+pub(crate) struct Foretold {
+    pub known: bool,
+    pub clash: bool,
+}
+
+pub(crate) fn untold() -> Foretold
+    ensures { λ r. ⌜ r ≡ untold ⌝ }
+{
+    Foretold {
+        known: false,
+        clash: false,
+    }
+}
+
+// The same as `busy`, where it may be known already.
+fn is_busy(
+    t: &[u32],
+    n: Header,
+    c: Caller,
+    e: u32,
+    own: bool,
+    s: u32,
+    b: u32,
+    most: u32,
+    x: Foretold,
+) -> bool
+    requires { ⌜ Sound (now t) n c × (e ≡ 0 → own ≡ true → Clashable (now t) n (c .cell) s b most) × Tells (now t) (c .cell) s b x ⌝ }
+    ensures { λ r. ⌜ r ≡ eqb e 0 && (own && clashes (configuration (now (t .entry))) (wordsOf (now (t .entry))) (c .cell) s b) ⌝ }
+{
+    if x.known {
+        return (e == XOK) & (own & x.clash);
+    }
+    busy(t, n, c, e, own, s, b, most)
+}
+
 // What refuses before the search: the modes, "find" (a read needs flow to the caller, any write the own cell), and the owner bits.
 fn may_open(f: Seen, b: u32) -> u32
     ensures { λ r. ⌜ r ≡ refusing 0 (openTests f b) ⌝ }
@@ -212,8 +250,9 @@ fn open_file(
     s: u32,
     b: u32,
     by: u32,
+    x: Foretold,
 ) -> Answer
-    requires { ⌜ Sound (now t) n c × Handed (configuration (now t)) (now m) (now hall) ⌝ }
+    requires { ⌜ Sound (now t) n c × Handed (configuration (now t)) (now m) (now hall) × Tells (now t) (c .cell) s b x ⌝ }
     ensures { λ r. ⌜ ((buffer : List ℕ) → Left (now (t .entry)) (λ h q. openFile h q (c .slot) s b by buffer) r (now (t .exit))) ⌝ }
 {
     let f = look(t, n, m, hall, c, Kind::File, s);
@@ -222,7 +261,7 @@ fn open_file(
     let under = read(t, n, Kind::File, f.slot, SUBTYPE);
     let e = may_open(f, b);
     let e = may_open_under(e, t, n, c.slot, under, b, by);
-    let clashing = busy(t, n, c, e, f.own, s, b, opens);
+    let clashing = is_busy(t, n, c, e, f.own, s, b, opens, x);
     let e = or_refuse(e, clashing, XBUSY);
     let e = or_refuse(e, ENTRIES <= wide(d), XOD_SPACE);
     if e != XOK {
@@ -272,15 +311,16 @@ pub(crate) fn open(
     a: u32,
     b: u32,
     by: u32,
+    x: Foretold,
 ) -> Answer
-    requires { ⌜ Sound (now t) n c × Handed (configuration (now t)) m (now hall) ⌝ }
+    requires { ⌜ Sound (now t) n c × Handed (configuration (now t)) m (now hall) × Tells (now t) (c .cell) (orSelf (wordsOf (now t)) (c .slot) a) b x ⌝ }
     ensures { λ r. ⌜ ((buffer : List ℕ) → Left (now (t .entry)) (λ h q. openSeid h q (c .slot) a b by buffer) r (now (t .exit))) ⌝ }
 {
     let s = or_self(t, n, c, a);
     if class_of(s) == SUBTYPE_CLASS {
         return open_subtype(t, n, &m, c, s, b);
     }
-    open_file(t, n, &m, hall, c, s, b, by)
+    open_file(t, n, &m, hall, c, s, b, by, x)
 }
 
 // 10. Link.

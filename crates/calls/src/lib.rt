@@ -9,6 +9,7 @@ ghost use Rattle.rules.specs.Step.{badCaller, badCode, step};
 ghost use Rattle.calls.specs.World.{Known, wordsOf};
 ghost use Rattle.calls.specs.Did.{Did, stateOf, callOf};
 ghost use Rattle.calls.specs.Tray.{Ready, Trayed};
+ghost use Rattle.calls.specs.Quick.{RightIn, QuickTrayed};
 ghost use Rattle.calls.specs.View.{viewPart};
 use crate::base::read;
 use crate::base::refused;
@@ -16,11 +17,14 @@ use crate::blocks::hidden;
 use crate::blocks::shown;
 use crate::dispatch::carry_out;
 use crate::objects::cell_in;
+use crate::quick::carry_out_by;
 use crate::trays::begin;
+use crate::trays::begin_quick;
 use crate::trays::due;
 use crate::trays::matrix_in;
 use crate::trays::matrix_of;
 use crate::trays::run;
+use crate::trays::run_quick;
 use crate::trays::verdict;
 use layout::HALL_BYTES;
 use layout::Header;
@@ -44,6 +48,7 @@ mod map;
 mod objects;
 mod pages;
 mod processes;
+mod quick;
 mod regrade;
 mod room;
 mod segments;
@@ -128,7 +133,38 @@ pub(crate) fn call_judged(
     }
     let cell = cell_in(hall, Kind::Process, caller);
     let me = Caller { slot: caller, cell };
-    carry_out(t, store, m, hall, me, code, a, b, c, buffer)
+    let none = [0u32; 0];
+    carry_out(t, store, m, hall, &none, me, code, a, b, c, buffer)
+}
+
+// The same by the quick engine: the working slice is right before and after.
+pub(crate) fn call_quick(
+    t: &mut [u32],
+    store: &mut [u8],
+    m: &[[bool; MAX_CELLS]; MAX_CELLS],
+    hall: &[u8; HALL_BYTES],
+    w: &mut [u32],
+    caller: u32,
+    code: u32,
+    a: u32,
+    b: u32,
+    c: u32,
+    buffer: &mut [u8],
+) -> Answer
+    requires { ⌜ Ready (now t) (now store) (now m) (now hall) × RightIn (now t) (now w) ⌝ }
+    ensures { λ r. ⌜ Did (step (stateOf (now (t .entry)) (now (store .entry))) (callOf caller code a b c (now (buffer .entry)))) r (now (t .exit)) (now (store .exit)) (now (buffer .exit)) ⌝ }
+    ensures { λ _. ⌜ RightIn (now (t .exit)) (now (w .exit)) ⌝ }
+{
+    let n = header_of(t);
+    if bad_caller(t, n, caller) {
+        return refused(XB_PR_SD);
+    }
+    if bad_code(code) {
+        return refused(XBD_KCL);
+    }
+    let cell = cell_in(hall, Kind::Process, caller);
+    let me = Caller { slot: caller, cell };
+    carry_out_by(t, store, m, hall, w, me, code, a, b, c, buffer)
 }
 
 // One call. The whole table is judged first; the cells that the judging finds, and which of them may flow to which, are handed on.
@@ -202,6 +238,29 @@ pub fn tray(table: &mut [u32], store: &mut [u8], records: &mut [Record], bytes: 
     while i < n {
         let r = records[i];
         records[i] = run(table, store, bytes, &m, &hall, r);
+        i += 1;
+    }
+    error
+}
+
+// The same by the quick engine: a working slice is lent too, and is judged with the table. It finds free slots and clashes without a search.
+pub fn quick_tray(
+    table: &mut [u32],
+    store: &mut [u8],
+    records: &mut [Record],
+    bytes: &mut [u8],
+    work: &mut [u32],
+) -> u32
+    ensures { λ r. ⌜ QuickTrayed (stateOf (now (table .entry)) (now (store .entry))) (now (bytes .entry)) (now (work .entry)) (now (records .entry)) r (now (table .exit)) (now (store .exit)) (now (bytes .exit)) (now (records .exit)) (now (work .exit)) ⌝ }
+{
+    let hall = begin_quick(table, store.len(), records.len(), work);
+    let m = matrix_of(hall);
+    let error = verdict(hall, records.len());
+    let n = due(error, records.len());
+    let mut i = 0;
+    while i < n {
+        let r = records[i];
+        records[i] = run_quick(table, store, bytes, work, &m, &hall, r);
         i += 1;
     }
     error

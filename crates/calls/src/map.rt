@@ -13,7 +13,6 @@ ghost use Rattle.calls.specs.Map.{held, takenBy, runOf, remapTests};
 use crate::Answer;
 use crate::Caller;
 use crate::base::answered;
-use crate::base::one_less;
 use crate::base::or_refuse;
 use crate::base::read;
 use crate::base::refused;
@@ -41,6 +40,7 @@ use rules::XOK;
 use rules::XOUT_SG_ALD_UMP;
 use rules::XVRT_MM_CFL;
 use words::first;
+use words::one_less;
 use words::wide;
 
 // Some page holds designator d.

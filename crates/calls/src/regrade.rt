@@ -11,6 +11,7 @@ ghost use Rattle.calls.specs.World.{Known, Sound, wordsOf};
 ghost use Rattle.calls.specs.Handed.{Handed};
 ghost use Rattle.calls.specs.Entries.{madeAt};
 ghost use Rattle.calls.specs.Regrade.{Apart, Copyable, FoundIn, RegradeLeft};
+ghost use Rattle.calls.specs.Quick.{OwnIfLent};
 use crate::Answer;
 use crate::Caller;
 use crate::base::answered;
@@ -22,8 +23,8 @@ use crate::blocks::to_read;
 use crate::entries::entry_of;
 use crate::entries::make;
 use crate::objects::look;
+use crate::quick::slot_for;
 use crate::room::Slot;
-use crate::room::free_slot;
 use ids::seid;
 use layout::HALL_BYTES;
 use layout::Header;
@@ -49,13 +50,13 @@ const GROUP_BYTES: usize = 2;
 
 const BUFFER_BYTES: usize = 4;
 
-// The slot that the search finds in cell b. A cell that the table does not have has none: the call is refused for it.
-pub(crate) fn slot_in(t: &[u32], n: Header, b: u32) -> Slot
-    requires { ⌜ Known (now t) n ⌝ }
+// The slot that is found in cell b. A cell that the table does not have has none: the call is refused for it.
+pub(crate) fn slot_in(t: &[u32], n: Header, w: &[u32], b: u32) -> Slot
+    requires { ⌜ Known (now t) n × OwnIfLent (now t) (now w) ⌝ }
     ensures { λ r. ⌜ FoundIn (now (t .entry)) b r ⌝ }
 {
     if b < n.cells {
-        return free_slot(t, n, Kind::File, b);
+        return slot_for(t, w, Kind::File, b);
     }
     Slot {
         index: 0,

@@ -8,7 +8,6 @@ ghost use Rattle.calls.specs.Refusing.{refusing};
 ghost use Rattle.calls.specs.Seen.{seenSubtype, capabilityOf};
 ghost use Rattle.calls.specs.Calls.{createUnder, openUnder};
 use crate::Caller;
-use crate::base::one_less;
 use crate::base::or_refuse;
 use crate::base::read;
 use crate::entries::entry_of;
@@ -35,6 +34,7 @@ use rules::SUBTYPE_OWNER;
 use rules::SUBTYPE_SERIAL;
 use rules::XBAD_ST_CAP;
 use rules::XBAD_SUBTYPE_MATCH;
+use words::one_less;
 use words::wide;
 use words::word;
 

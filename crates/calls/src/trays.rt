@@ -13,12 +13,14 @@ ghost use Rattle.calls.specs.World.{Known};
 ghost use Rattle.calls.specs.Left.{said};
 ghost use Rattle.calls.specs.Did.{stateOf};
 ghost use Rattle.calls.specs.Tray.{Ran, Ready, answeredBy, begun, ruleRecord, verdictOf};
+ghost use Rattle.calls.specs.Quick.{RightIn, begunQuick};
 use crate::Answer;
 use crate::Record;
 use crate::bad_caller;
 use crate::bad_code;
 use crate::base::refused;
 use crate::call_judged;
+use crate::call_quick;
 use layout::FLOWS_AT;
 use layout::HALL_BYTES;
 use layout::Header;
@@ -51,6 +53,22 @@ pub(crate) fn begin(t: &mut [u32], store_bytes: usize, count: usize) -> [u8; HAL
     }
     table::judge(t, store_bytes, &mut hall);
     hall
+}
+
+// The same for a quick tray: zeros too where the working slice isn't the table's. The slice stays.
+pub(crate) fn begin_quick(
+    t: &mut [u32],
+    store_bytes: usize,
+    count: usize,
+    w: &mut [u32],
+) -> [u8; HALL_BYTES]
+    ensures { λ hall. ⌜ (hall ≡ begunQuick (now (t .entry)) «store_bytes» «count» (now (w .entry))) × (now (t .exit) ≡ now (t .entry)) × (now (w .exit) ≡ now (w .entry)) ⌝ }
+{
+    let hall = begin(t, store_bytes, count);
+    if work::fits(t, store_bytes, w) {
+        return hall;
+    }
+    [0u8; HALL_BYTES]
 }
 
 // Row c of the flow matrix, by what the judging handed on.
@@ -159,6 +177,42 @@ pub(crate) fn run(
             r.b,
             r.c,
             &mut bytes[from..end],
+        );
+        return answered(r, x);
+    }
+    let n = header_of(t);
+    answered(r, outside(t, n, r))
+}
+
+// The same by the quick engine: the working slice is right before and after.
+pub(crate) fn run_quick(
+    t: &mut [u32],
+    store: &mut [u8],
+    bytes: &mut [u8],
+    w: &mut [u32],
+    m: &[[bool; MAX_CELLS]; MAX_CELLS],
+    hall: &[u8; HALL_BYTES],
+    r: Record,
+) -> Record
+    requires { ⌜ Ready (now t) (now store) (now m) (now hall) × RightIn (now t) (now w) ⌝ }
+    ensures { λ y. ⌜ Ran (stateOf (now (t .entry)) (now (store .entry))) (now (bytes .entry)) r y (now (t .exit)) (now (store .exit)) (now (bytes .exit)) ⌝ }
+    ensures { λ _. ⌜ RightIn (now (t .exit)) (now (w .exit)) ⌝ }
+{
+    let from = wide(r.offset);
+    let to = from + wide(r.length);
+    if to <= bytes.len() {
+        let x = call_quick(
+            t,
+            store,
+            m,
+            hall,
+            w,
+            r.caller,
+            r.code,
+            r.a,
+            r.b,
+            r.c,
+            &mut bytes[from..to],
         );
         return answered(r, x);
     }

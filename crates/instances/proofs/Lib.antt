@@ -2,6 +2,7 @@
 pub mod Carried
 pub mod Instance
 pub mod TrayInstance
+pub mod QuickInstance
 pub mod Desk
 pub mod TrayDesk
 pub mod Shelf

@@ -70,7 +70,7 @@ module _ (d : DoneTray) where
   says 𝓤 H A mem rn = refl
 
 -- trays that are equal look the same
-same-trays : (h : List ℕ) (C : ℕ → Bool) (rs : List rules.Record) (x y u v : Tray) → x ≡ u → y ≡ v → SameTrays h C rs u v → SameTrays h C rs x y
+pub same-trays : (h : List ℕ) (C : ℕ → Bool) (rs : List rules.Record) (x y u v : Tray) → x ≡ u → y ≡ v → SameTrays h C rs u v → SameTrays h C rs x y
 same-trays h C rs x y u v e f s = rw (e, f) s
 
 -- both answer 0, and the set sees the same of what they leave

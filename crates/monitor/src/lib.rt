@@ -7,9 +7,11 @@ ghost use Rattle.rules.specs.Claim.{test};
 ghost use Rattle.rules.specs.WellFormed.{wellFormed};
 ghost use Rattle.rules.specs.SetUp.{setUpAnswer, setUpTable};
 ghost use Rattle.rules.specs.Step.{step};
+ghost use Rattle.rules.specs.Work.{workLength, fillAnswer, filled};
 ghost use Rattle.rules.specs.Image.{imageLength, imageAnswer, imageOut, reloadAnswer, reloadTable, reloadStore};
 ghost use Rattle.calls.specs.Did.{Did, stateOf, callOf};
 ghost use Rattle.calls.specs.Tray.{Trayed};
+ghost use Rattle.calls.specs.Quick.{QuickTrayed};
 ghost use Rattle.calls.specs.View.{viewPart};
 use calls::Answer;
 use calls::Part;
@@ -96,4 +98,32 @@ pub extern "C" fn monitor_tray(
     ensures { λ r. ⌜ Trayed (stateOf (now (table .entry)) (now (store .entry))) (now (buffers .entry)) (now (records .entry)) r (now (table .exit)) (now (store .exit)) (now (buffers .exit)) (now (records .exit)) ⌝ }
 {
     calls::tray(table, store, records, buffers)
+}
+
+#[no_mangle]
+pub extern "C" fn monitor_work_length(table: &[u32], store_bytes: usize) -> usize
+    ensures { λ r. ⌜ r ≡ workLength (now (table .entry)) «store_bytes» ⌝ }
+{
+    work::work_length(table, store_bytes)
+}
+
+#[no_mangle]
+pub extern "C" fn monitor_work(table: &[u32], store_bytes: usize, work: &mut [u32]) -> u32
+    ensures { λ r. ⌜ r ≡ fillAnswer (now (table .entry)) «store_bytes» (now (work .entry)) ⌝ }
+    ensures { λ _. ⌜ now (work .exit) ≡ filled (now (table .entry)) «store_bytes» (now (work .entry)) ⌝ }
+{
+    work::fill(table, store_bytes, work)
+}
+
+#[no_mangle]
+pub extern "C" fn monitor_quick_tray(
+    table: &mut [u32],
+    store: &mut [u8],
+    records: &mut [Record],
+    buffers: &mut [u8],
+    work: &mut [u32],
+) -> u32
+    ensures { λ r. ⌜ QuickTrayed (stateOf (now (table .entry)) (now (store .entry))) (now (buffers .entry)) (now (work .entry)) (now (records .entry)) r (now (table .exit)) (now (store .exit)) (now (buffers .exit)) (now (records .exit)) (now (work .exit)) ⌝ }
+{
+    calls::quick_tray(table, store, records, buffers, work)
 }

@@ -12,6 +12,9 @@ pub mod Text
 pub mod Script
 pub mod Table
 pub mod Image
+pub mod Lists
+pub mod Marks
+pub mod Work
 pub mod Calls
 pub mod Monitor
 pub mod Trays

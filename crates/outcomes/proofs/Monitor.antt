@@ -3,6 +3,7 @@ use mathlib.Core.Path.{refl}
 use Rattle.monitor.proofs as code
 use Rattle.outcomes.proofs.Exact.{Exact, one, both}
 use Rattle.outcomes.proofs.Image.{image-length, image, reload}
+use Rattle.outcomes.proofs.Work.{work-length, fill}
 use Rattle.outcomes.proofs.Calls.{call, view-part}
 
 pub monitor-setup : Exact code.monitor_setup.Kinds.ps code.monitor_setup.Kinds.r code.monitor_setup.Reads.Asked code.monitor_setup.Reads.Learnt
@@ -25,3 +26,9 @@ monitor-reload = reload
 
 pub monitor-view : Exact code.monitor_view.Kinds.ps code.monitor_view.Kinds.r code.monitor_view.Reads.Asked code.monitor_view.Reads.Learnt
 monitor-view = view-part
+
+pub monitor-work-length : Exact code.monitor_work_length.Kinds.ps code.monitor_work_length.Kinds.r code.monitor_work_length.Reads.Asked code.monitor_work_length.Reads.Learnt
+monitor-work-length = work-length
+
+pub monitor-work : Exact code.monitor_work.Kinds.ps code.monitor_work.Kinds.r code.monitor_work.Reads.Asked code.monitor_work.Reads.Learnt
+monitor-work = fill

@@ -3,6 +3,9 @@ use mathlib.Core.Path.{refl}
 use Rattle.table.proofs as code
 use Rattle.outcomes.proofs.Exact.{Exact, one, both}
 
+pub can-set-up : Exact code.can_set_up.Kinds.ps code.can_set_up.Kinds.r code.can_set_up.Reads.Asked code.can_set_up.Reads.Learnt
+can-set-up = (λ κs a. tt, λ κs a z z′ w w′ p q. (one p q, refl))
+
 pub judge : Exact code.judge.Kinds.ps code.judge.Kinds.r code.judge.Reads.Asked code.judge.Reads.Learnt
 judge = (λ κs a. tt, λ κs a z z′ w w′ p q. (one (p .0) (q .0), both refl (both refl (both (one (p .1) (q .1)) refl))))
 

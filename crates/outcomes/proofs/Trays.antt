@@ -1,4 +1,4 @@
--- The public functions to which records are lent: `calls::tray` and `monitor_tray`. Of a function that is lent a slice of structs Rattle makes no module `Reads`; its
+-- The public functions to which records are lent: `calls::tray`, `calls::quick_tray`, `monitor_tray` and `monitor_quick_tray`. Of a function that is lent a slice of structs Rattle makes no module `Reads`; its
 -- contract is what Rattle states of it, `clauses`: it asks nothing (`asks`), and it says `Said` (`says`), word for word. So here too each statement is about the
 -- contract that stands in the source.
 use mathlib.Core.Path.{_≡_, refl, sym, ap, _∙_}
@@ -17,8 +17,11 @@ use Rattle.rules.specs.Tray as rules
 use Rattle.calls.specs.declared.Record.{Record}
 use Rattle.calls.specs.Did.{stateOf}
 use Rattle.calls.specs.Tray.{ruleRecords, Trayed}
+use Rattle.calls.specs.Quick.{QuickTrayed}
 use Rattle.calls.proofs.tray as calls
+use Rattle.calls.proofs.quick_tray as calls-quick
 use Rattle.monitor.proofs.monitor_tray as monitor
+use Rattle.monitor.proofs.monitor_quick_tray as monitor-quick
 use Rattle.outcomes.proofs.Exact.{one, both}
 
 -- what the contract says of the slices lent (a), the answer (z) and what is left of each slice (w)
@@ -72,3 +75,38 @@ tray κs a z z′ w w′ p q = (
 pub monitor-tray : (κs : Lfts 4) (a : Args monitor.signature κs) (z z′ : Res monitor.signature κs) (w w′ : Lasts monitor.ended κs a)
     → Said κs a z w → Said κs a z′ w′ → (z ≡ z′) × (w ≡ w′)
 monitor-tray = tray
+
+-- ---- with a working slice, which is lent last
+
+abbrev pub QuickSaid : (κs : Lfts 5) (a : Args calls-quick.signature κs) → Res calls-quick.signature κs → Lasts calls-quick.ended κs a → Type 0
+QuickSaid κs a z w =
+    QuickTrayed (stateOf (a .0 .now) (a .1 .0 .now)) (a .1 .1 .1 .0 .now) (a .1 .1 .1 .1 .0 .now) (a .1 .1 .0 .now) z (w .0) (w .1 .0) (w .1 .1 .1 .0) (w .1 .1 .0)
+    (w .1 .1 .1 .1 .0)
+
+module _ {M : Type 1} (𝓤 : URA M) (H : Heap 𝓤) (A : Atoms 𝓤) (mem : Memory → SProp 𝓤) (rn : Routine → Fun 𝓤) (κs : Lfts 5) (a : Args calls-quick.signature κs) where
+  pub quick-asks : calls-quick.clauses 𝓤 H A mem rn κs a .requires tt ≡ emp 𝓤
+  quick-asks = refl
+
+  pub quick-says : (z : Res calls-quick.signature κs) (w : Lasts calls-quick.ended κs a)
+      → calls-quick.clauses 𝓤 H A mem rn κs a .ensures tt z (atExit calls-quick.ended κs a w) ≡ fact 𝓤 (QuickSaid κs a z w)
+  quick-says z w = refl
+
+  pub monitor-quick-asks : monitor-quick.clauses 𝓤 H A mem rn κs a .requires tt ≡ emp 𝓤
+  monitor-quick-asks = refl
+
+  pub monitor-quick-says : (z : Res monitor-quick.signature κs) (w : Lasts monitor-quick.ended κs a)
+      → monitor-quick.clauses 𝓤 H A mem rn κs a .ensures tt z (atExit monitor-quick.ended κs a w) ≡ fact 𝓤 (QuickSaid κs a z w)
+  monitor-quick-says z w = refl
+
+-- any two outcomes are equal: the answer, and what is left of table, store, records, bytes and working slice
+pub quick-tray : (κs : Lfts 5) (a : Args calls-quick.signature κs) (z z′ : Res calls-quick.signature κs) (w w′ : Lasts calls-quick.ended κs a)
+    → QuickSaid κs a z w → QuickSaid κs a z′ w′ → (z ≡ z′) × (w ≡ w′)
+quick-tray κs a z z′ w w′ p q = (
+  one (p .answer) (q .answer),
+  both (one (p .table) (q .table)) (both (one (p .store) (q .store)) (both (one-list (one (p .records) (q .records))) (both (one (p .bytes) (q .bytes))
+      (both (one (p .work) (q .work)) refl)))),
+)
+
+pub monitor-quick-tray : (κs : Lfts 5) (a : Args monitor-quick.signature κs) (z z′ : Res monitor-quick.signature κs) (w w′ : Lasts monitor-quick.ended κs a)
+    → QuickSaid κs a z w → QuickSaid κs a z′ w′ → (z ≡ z′) × (w ≡ w′)
+monitor-quick-tray = quick-tray

@@ -21,5 +21,8 @@ put-zeros = (λ κs a. tt, λ κs a z z′ w w′ p q. (refl, both (one p q) ref
 pub wide : Exact code.wide.Kinds.ps code.wide.Kinds.r code.wide.Reads.Asked code.wide.Reads.Learnt
 wide = (λ κs a. tt, λ κs a z z′ w w′ p q. (one p q, refl))
 
+pub one-less : Exact code.one_less.Kinds.ps code.one_less.Kinds.r code.one_less.Reads.Asked code.one_less.Reads.Learnt
+one-less = (λ κs a. tt, λ κs a z z′ w w′ p q. (one p q, refl))
+
 pub first : Exact code.first.Kinds.ps code.first.Kinds.r code.first.Reads.Asked code.first.Reads.Learnt
 first = (λ κs a. tt, λ κs a z z′ w w′ p q. (one p q, refl))

@@ -29,3 +29,4 @@ pub mod Tray
 pub mod Finding
 pub mod Printed
 pub mod View
+pub mod Quick

@@ -34,5 +34,6 @@ pub mod Demand3
 pub mod Viewed
 pub mod TrayRegrades
 pub mod Tray
+pub mod Quick
 pub mod Tenants
 pub mod AfterSetUp

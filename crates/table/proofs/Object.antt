@@ -2,7 +2,7 @@
 use mathlib.Core.Path.{_≡_, refl, sym, ap, _∙_}
 use mathlib.Core.Bool.{Bool, false, _&&_, true≢false}
 use mathlib.Core.List.{List}
-use Prim.Native.Nat.{ℕ, zero, suc, _+_, _%_, _<_}
+use Prim.Native.Nat.{ℕ, _+_, _%_, _<_}
 use native.Mathlib.Omega.{arith}
 use lib.Dec.{leb, eqb}
 use lib.ListN.{length, getD, replicate}
@@ -12,6 +12,7 @@ use Rattle.rules.specs.Layout.{maxSlots, maxBits, maxLinks, entries, Kind, segm
 use Rattle.rules.specs.WellFormed.{recordOk, segmentSize, segmentOk, fileSubtypeOk, fileOk, ownEntry, ownEntries}
 use Rattle.laws.proofs.Tests.{refuted}
 use Rattle.laws.proofs.Below.{all-at, sum-more}
+use Rattle.laws.proofs.Fill.{zeros-at}
 use Rattle.layout.specs.declared.Header.{Header}
 use Rattle.table.specs.Shape.{RecordAt, Shaped}
 use Rattle.table.specs.Entries.{recordAt, Counted, Tally}
@@ -62,16 +63,11 @@ module _ (t : List ℕ) (n : Header) (shaped : Shaped t n) (i place held : ℕ) 
 
 -- ---- the counts
 
-all-zero : (n i : ℕ) → _≡_ {A = ℕ} (getD (replicate n 0) i 0) 0
-all-zero zero i = refl
-all-zero (suc n) zero = refl
-all-zero (suc n) (suc i) = all-zero n i
-
 module _ (h : List ℕ) (r : Addr → ℕ) (k : Kind) where
   -- before the first process
   pub tally-none : Tally h r k 0 (replicate maxSlots 0)
   unfolding sumBelow
-  tally-none = record { long = refl; exact = λ i l. all-zero maxSlots i; few = λ i l. omega (arith, all-zero maxSlots i) }
+  tally-none = record { long = refl; exact = λ i l. zeros-at maxSlots i; few = λ i l. omega (arith, zeros-at maxSlots i) }
 
   -- one process more
   pub tally-next : (p : ℕ) (before after : List ℕ) → Tally h r k p before → Counted h r k p before after → length after ≡ length before → Tally h r k (p + 1) after

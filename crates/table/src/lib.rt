@@ -17,7 +17,7 @@ ghost use mathlib.Core.Bool.{cond};
 ghost use Rattle.rules.specs.Claim.{test};
 ghost use Rattle.rules.specs.Layout.{process, segment, file, flowMatrix, configuration, rd};
 ghost use Rattle.rules.specs.WellFormed.{recordsOk, wellFormed};
-ghost use Rattle.rules.specs.SetUp.{setUpAnswer, setUpTable};
+ghost use Rattle.rules.specs.SetUp.{canSetUp, setUpAnswer, setUpTable};
 ghost use Rattle.layout.specs.Hall.{toldIn};
 ghost use Rattle.table.specs.Shape.{Shaped, CellsOf};
 use layout::Header;
@@ -98,6 +98,13 @@ pub fn check(t: &[u32], store_bytes: usize) -> bool
 {
     let mut none = [0u8; 0];
     judge(t, store_bytes, &mut none)
+}
+
+// Whether the table's shape is right, for a store of that many bytes: header, lengths, cells and subtypes. The records are not judged.
+pub fn can_set_up(t: &[u32], store_bytes: usize) -> bool
+    ensures { λ r. ⌜ r ≡ test (canSetUp (now (t .entry)) «store_bytes») ⌝ }
+{
+    shape::can_set_up(t, store_bytes)
 }
 
 // Sets the table up by the header and the cells that stand in it, for a store of that many bytes; or refuses them, and changes nothing.

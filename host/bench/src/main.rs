@@ -6,7 +6,7 @@
 //!
 //! Checking a log is timed beside the replay program, not beside the plain monitor.
 //!
-//!   cargo run --release --bin bench [check|single|creation|opens|view|mixed|tray|image|replay|logcheck]..
+//!   cargo run --release --bin bench [check|single|creation|opens|view|mixed|tray|quick|image|replay|logcheck]..
 
 use monitor::layout::{ENTRIES, MAX_SLOTS};
 use monitor::{Bits, Caller, Cell, Code, Descriptor, Error, Hall, Modes, Monitor, Seid};
@@ -88,6 +88,9 @@ fn main() {
             line(&format!("proved, {name} table"), tray(world, Night::proved, Night::proved_singly));
             line(&format!("plain, {name} table"), tray(world, Night::plain, Night::plain_singly));
         }
+    }
+    if wanted("quick") {
+        quick(&tables);
     }
     if wanted("image") {
         heading("Image and reload, against the plain one");
@@ -525,6 +528,28 @@ fn drawn(world: &World) -> Vec<Call> {
     calls
 }
 
+/// 1,024 calls that create, open, close, link and unlink files, and some that read and write them, drawn on the table as it stands. What is
+/// refused is drawn again some times, so most of them succeed.
+fn filing(world: &World) -> Vec<Call> {
+    let codes = [7, 7, 7, 8, 8, 8, 8, 9, 9, 9, 9, 9, 10, 11, 11, 13, 14];
+    let shape = world.shape();
+    let mut rng = Rng::new(7);
+    let mut along = world.clone();
+    let mut next = || {
+        let code = rng.pick(&codes);
+        let mut tries = 8;
+        loop {
+            let caller = calls::caller(&mut rng, &along, &shape, |_| true).expect("there are processes");
+            let call = calls::with_code(&mut rng, &along, &shape, caller, code);
+            tries -= 1;
+            if plain_call(&mut along, &call.request, &mut call.buffer.clone()) == 0 || tries == 0 {
+                return call;
+            }
+        }
+    };
+    (0..1_024).map(|_| next()).collect()
+}
+
 /// These are made in pieces: both sides make them in pieces, in turn, and each piece's time
 /// is the median of the rounds; the ratio is that of the sums, and the quartiles are those of the pieces' ratios.
 fn mixed(world: &World) -> Ratio {
@@ -558,10 +583,11 @@ fn mixed(world: &World) -> Ratio {
     Ratio { median: proved.as_secs_f64() / plain.as_secs_f64(), low, high, plain }
 }
 
-/// A tray of mixed calls, for both monitors, and the table and the bytes that it is run on.
+/// A tray of mixed calls, for both monitors, and the table, the working slice and the bytes that it is run on.
 #[derive(Clone)]
 struct Night {
     world: World,
+    work: Vec<u32>,
     bytes: Vec<u8>,
     ours: Vec<monitor::Record>,
     theirs: Vec<plain::Record>,
@@ -569,9 +595,10 @@ struct Night {
 
 impl Night {
     /// Each record has a part of the bytes to itself.
-    fn new(world: &World) -> Night {
-        let mut night = Night { world: world.clone(), bytes: Vec::new(), ours: Vec::new(), theirs: Vec::new() };
-        for Call { request: Request { caller, code, a, b, c }, buffer } in drawn(world) {
+    fn new(world: &World, calls: Vec<Call>) -> Night {
+        let (world, work) = (world.clone(), work_of(world));
+        let mut night = Night { world, work, bytes: Vec::new(), ours: Vec::new(), theirs: Vec::new() };
+        for Call { request: Request { caller, code, a, b, c }, buffer } in calls {
             let (offset, length) = (night.bytes.len() as u32, buffer.len() as u32);
             night.bytes.extend(buffer);
             night.ours.push(monitor::Record { caller, code, a, b, c, offset, length, ..Default::default() });
@@ -583,6 +610,12 @@ impl Night {
     fn proved(&mut self) {
         let World { table, store } = &mut self.world;
         monitor::tray(table, store, &mut self.ours, &mut self.bytes).expect("the tray is run");
+    }
+
+    fn quick(&mut self) {
+        let World { table, store } = &mut self.world;
+        let Night { work, ours, bytes, .. } = self;
+        monitor::quick_tray(table, store, ours, bytes, work).expect("the tray is run");
     }
 
     fn plain(&mut self) {
@@ -623,16 +656,86 @@ fn trays(night: &Night, run: fn(&mut Night)) -> impl Fn(u32) -> Duration {
 }
 
 fn tray(world: &World, one: fn(&mut Night), other: fn(&mut Night)) -> Ratio {
-    let night = Night::new(world);
+    let night = Night::new(world, drawn(world));
     ratio(ROUNDS, 1, trays(&night, one), trays(&night, other))
 }
 
 /// A tray beyond its check, which each monitor makes once: in each round its time is taken off, of each side its own.
 fn tray_beyond(world: &World) -> Ratio {
-    let (night, worlds) = (Night::new(world), std::slice::from_ref(world));
+    let (night, worlds) = (Night::new(world, drawn(world)), std::slice::from_ref(world));
     let (proved, plain) = (trays(&night, Night::proved), trays(&night, Night::plain));
     let (proved_check, plain_check) = (checks(worlds, monitor::well_formed), checks(worlds, plainly_well_formed));
     ratio(ROUNDS, 1, |n| over(proved(n), proved_check(n)), |n| over(plain(n), plain_check(n)))
+}
+
+// Quick trays.
+
+/// A table in use: one cell with 256 files of a block each, and that many processes.
+fn filed(processes: u32) -> World {
+    let files = MAX_SLOTS as u32;
+    tables::busy(&mut Rng::new(3), &[1, processes, 0, files, 1, 0, 0, 0, 0, 0, 0, processes, 0, files, 0, 0])
+}
+
+/// The working slice of a table.
+fn work_of(world: &World) -> Vec<u32> {
+    let mut work = vec![0; plain::work_length(&world.table, world.store.len())];
+    assert_eq!(plain::work(&world.table, world.store.len(), &mut work), plain::Error::XOK);
+    work
+}
+
+/// Fills working slices of a table, by one of the two monitors; whether it did.
+type Fill = fn(&[u32], usize, &mut [u32]) -> bool;
+
+fn fills(world: &World, fill: Fill) -> impl FnMut(u32) -> Duration {
+    let (world, mut work) = (world.clone(), work_of(world));
+    move |n| timed(n, || assert!(fill(std::hint::black_box(&world.table), world.store.len(), &mut work)))
+}
+
+fn proved_fill(table: &[u32], bytes: usize, work: &mut [u32]) -> bool {
+    monitor::work(table, bytes, work).is_ok()
+}
+
+fn plain_fill(table: &[u32], bytes: usize, work: &mut [u32]) -> bool {
+    plain::work(table, bytes, work) == plain::Error::XOK
+}
+
+/// Quick trays of 1,024 calls beside plain and proved ones, and what it takes to fill their working slice.
+fn quick(tables: &[(&str, World)]) {
+    let mut nights: Vec<(String, Night)> = Vec::new();
+    for (name, world) in tables {
+        nights.push((format!("{name} table"), Night::new(world, drawn(world))));
+    }
+    for processes in [16, 64, 256] {
+        let world = filed(processes);
+        let night = Night::new(&world, filing(&world));
+        nights.push((format!("256 files and {processes} processes in one cell, filing"), night));
+    }
+    for (name, night) in &mut nights {
+        let mut tried = night.clone();
+        tried.plain();
+        let done = tried.theirs.iter().filter(|record| record.error == 0).count();
+        *name = format!("{name}, {done} done");
+    }
+    heading("A quick tray of 1,024 calls, to a plain tray");
+    for (name, night) in &nights {
+        line(name, ratio(ROUNDS, 1, trays(night, Night::quick), trays(night, Night::plain)));
+    }
+    heading("The same, to a proved tray (the last column is its time)");
+    for (name, night) in &nights {
+        line(name, ratio(ROUNDS, 1, trays(night, Night::quick), trays(night, Night::proved)));
+    }
+    heading("A proved tray of the same calls, to a plain tray");
+    for (name, night) in &nights {
+        line(name, ratio(ROUNDS, 1, trays(night, Night::proved), trays(night, Night::plain)));
+    }
+    heading("Filling the working slice, to filling it plainly");
+    for (name, Night { world, .. }) in &nights {
+        line(name, ratio_of(fills(world, proved_fill), fills(world, plain_fill)));
+    }
+    heading("Filling the working slice, to a quick tray (the last column is its time)");
+    for (name, night) in &nights {
+        line(name, ratio(ROUNDS, 1, fills(&night.world, proved_fill), trays(night, Night::quick)));
+    }
 }
 
 // Replay, as whole programs.

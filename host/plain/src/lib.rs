@@ -11,6 +11,7 @@ mod replay;
 mod seid;
 pub mod table;
 mod tray;
+mod work;
 
 pub use calls::{Answer, Request, call, clash, granted, valid_modes, view};
 pub use errors::Error;
@@ -19,3 +20,4 @@ pub use replay::{HEADER_NUMBERS, number, replay};
 pub use seid::{Kind, SUBTYPE_CLASS, Seid, subtype_seid};
 pub use table::{Level, Shape, Subtype, check, setup};
 pub use tray::{MOST_RECORDS, Record, tray};
+pub use work::{quick_tray, work, work_length};

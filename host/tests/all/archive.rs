@@ -28,14 +28,26 @@ impl Monitor for Archive {
     }
 
     fn tray(&self, table: &mut [u32], store: &mut [u8], records: &mut [plain::Record], bytes: &mut [u8]) -> u32 {
-        let mut ours: Vec<monitor::Record> = records.iter().map(record).collect();
-        let answer = monitor::tray(table, store, &mut ours, bytes);
-        for (record, monitor::Record { caller, code, a, b, c, offset, length, answer }) in records.iter_mut().zip(ours)
-        {
-            let monitor::Answer { error, first, second } = answer;
-            *record = plain::Record { caller, code, a, b, c, offset, length, error, first, second };
-        }
-        answer.map_or_else(|error| error.number(), |()| 0)
+        as_ours(records, |ours| monitor::tray(table, store, ours, bytes))
+    }
+
+    fn work_length(&self, table: &[u32], store_bytes: usize) -> usize {
+        monitor::work_length(table, store_bytes).unwrap_or(0)
+    }
+
+    fn work(&self, table: &[u32], store_bytes: usize, work: &mut [u32]) -> u32 {
+        monitor::work(table, store_bytes, work).map_or_else(|error| error.number(), |()| 0)
+    }
+
+    fn quick_tray(
+        &self,
+        table: &mut [u32],
+        store: &mut [u8],
+        records: &mut [plain::Record],
+        bytes: &mut [u8],
+        work: &mut [u32],
+    ) -> u32 {
+        as_ours(records, |ours| monitor::quick_tray(table, store, ours, bytes, work))
     }
 
     fn image_length(&self, table: &[u32], store_bytes: usize) -> usize {
@@ -57,6 +69,20 @@ impl Monitor for Archive {
     fn words(&self, request: &plain::Request) -> Option<String> {
         Some(monitor::explain::asked(request.code, [request.a, request.b, request.c]).to_string())
     }
+}
+
+/// Runs a tray on the same records as the wrapper has them; the tray's own answer.
+fn as_ours(
+    records: &mut [plain::Record],
+    run: impl FnOnce(&mut [monitor::Record]) -> Result<(), monitor::Error>,
+) -> u32 {
+    let mut ours: Vec<monitor::Record> = records.iter().map(record).collect();
+    let answer = run(&mut ours);
+    for (record, monitor::Record { caller, code, a, b, c, offset, length, answer }) in records.iter_mut().zip(ours) {
+        let monitor::Answer { error, first, second } = answer;
+        *record = plain::Record { caller, code, a, b, c, offset, length, error, first, second };
+    }
+    answer.map_or_else(|error| error.number(), |()| 0)
 }
 
 fn record(record: &plain::Record) -> monitor::Record {

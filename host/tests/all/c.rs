@@ -77,6 +77,23 @@ fn a_tray_in_c99_and_cpp() {
     assert_eq!(run("g++", &["-std=c++11", "-x", "c++"], &here().join("c/tray.c"), "tray_cpp"), TRAY);
 }
 
+const QUICK: &str = "the working slice has 8 words
+filled: XOK
+first tray: XOK, the file is in slot 0
+second tray: XOK, the file is in slot 1
+third tray: XOK, the file is in slot 0
+after a call: XbTab
+filled again: XOK
+fourth tray: XOK, the file is in slot 0
+one word short: XbSz
+";
+
+#[test]
+fn quick_trays_in_c99_and_cpp() {
+    assert_eq!(run("gcc", &["-std=c99"], &here().join("c/quick.c"), "quick"), QUICK);
+    assert_eq!(run("g++", &["-std=c++11", "-x", "c++"], &here().join("c/quick.c"), "quick_cpp"), QUICK);
+}
+
 const DESK: &str = "set-up: XOK
 the clerk posts: XOK
 the desk receives: XOK, \"which files?\" from slot 0
@@ -219,6 +236,7 @@ int main(void)
     printf(\"%lu\\n\", (unsigned long)MONITOR_SEID_SUBTYPE(15));
     printf(\"%lu\\n\", (unsigned long)MONITOR_SUBTYPE_AT(15));
     printf(\"%zu\\n\", MONITOR_IMAGE_BYTES(7, 11));
+    printf(\"%zu\\n\", MONITOR_WORK_WORDS(3, 5, 7, 11));
     printf(\"%lu\\n\", (unsigned long)MONITOR_SEID_SLOT(MONITOR_SEID(MONITOR_CLASS_FILE, 255, 65535)));
     printf(\"%d %d %d\\n\", MONITOR_MODES_READ_WRITE, MONITOR_MODES_SOLE_WRITER, MONITOR_MODES_ALONE);
     printf(\"%d\\n\", MONITOR_ACCESS_READ_WRITE);
@@ -235,7 +253,7 @@ int main(void)
     expected += &format!("{} {}\n", table_words(3, 5, 7, 11, 13), store_bytes(11, 13));
     expected += &format!("{}\n", u32::from(monitor::Seid::new(Kind::File, 2, 65535)));
     expected += &format!("{}\n16\n", u32::from(monitor::Seid::subtype(15)));
-    expected += &format!("{}\n", image_bytes(7, 11));
+    expected += &format!("{}\n{}\n", image_bytes(7, 11), work_words(3, 5, 7, 11));
     expected += "255\n";
     let modes = [Modes::ReadWrite, Modes::SoleWriter, Modes::Alone].map(Modes::number);
     expected += &format!("{} {} {}\n{}\n", modes[0], modes[1], modes[2], Access::ReadWrite.number());

@@ -9,6 +9,7 @@ mod layout;
 mod logcheck;
 mod names;
 mod owner;
+mod quick;
 mod readme;
 mod replay;
 mod secrecy;

@@ -1,7 +1,7 @@
 //! Tries a library and a replay program that stand in a folder, as stand-in.sh leaves them, by the trials that the tests make on the
 //! proved ones. It serves to try the trials themselves: faults.sh plants faults and expects them to be found.
 //!
-//!   try_library FOLDER (differential | secrecy | trays | images | replay)
+//!   try_library FOLDER (differential | secrecy | trays | quick | images | replay)
 //!
 //! It ends with 0 if the trial found nothing, with 101 if it did, and with 2 if there is nothing to try.
 
@@ -12,6 +12,7 @@ use std::process::exit;
 use trial::differ::Differ;
 use trial::images::Images;
 use trial::listings::Program;
+use trial::quick::Quick;
 use trial::{Monitor, Plain, Rng, secrecy, setting, tables, trays};
 
 unsafe extern "C" {
@@ -39,6 +40,10 @@ type Setup = unsafe extern "C" fn(*mut u32, usize, usize) -> u32;
 type Check = unsafe extern "C" fn(*const u32, usize, usize) -> u32;
 #[rustfmt::skip]
 type Tray = unsafe extern "C" fn(*mut u32, usize, *mut u8, usize, *mut plain::Record, usize, *mut u8, usize) -> u32;
+type WorkLength = unsafe extern "C" fn(*const u32, usize, usize) -> usize;
+type Work = unsafe extern "C" fn(*const u32, usize, usize, *mut u32, usize) -> u32;
+#[rustfmt::skip]
+type QuickTray = unsafe extern "C" fn(*mut u32, usize, *mut u8, usize, *mut plain::Record, usize, *mut u8, usize, *mut u32, usize) -> u32;
 type ImageLength = unsafe extern "C" fn(*const u32, usize, usize) -> usize;
 type Image = unsafe extern "C" fn(*const u32, usize, *const u8, usize, *mut u8, usize) -> u32;
 type Reload = unsafe extern "C" fn(*mut u32, usize, *mut u8, usize, *const u8, usize) -> u32;
@@ -54,6 +59,9 @@ struct Library {
     call: Call,
     view: View,
     tray: Tray,
+    work_length: WorkLength,
+    work: Work,
+    quick_tray: QuickTray,
     image_length: ImageLength,
     image: Image,
     reload: Reload,
@@ -74,6 +82,8 @@ impl Library {
         };
         let (setup, check, call) = (find("monitor_setup"), find("monitor_check"), find("monitor_call"));
         let (view, tray) = (find("monitor_view"), find("monitor_tray"));
+        let (work_length, work) = (find("monitor_work_length"), find("monitor_work"));
+        let quick_tray = find("monitor_quick_tray");
         let (length, image, reload) = (find("monitor_image_length"), find("monitor_image"), find("monitor_reload"));
         // SAFETY: the functions have the types of monitor.h.
         unsafe {
@@ -83,6 +93,9 @@ impl Library {
                 call: std::mem::transmute::<*mut c_void, Call>(call),
                 view: std::mem::transmute::<*mut c_void, View>(view),
                 tray: std::mem::transmute::<*mut c_void, Tray>(tray),
+                work_length: std::mem::transmute::<*mut c_void, WorkLength>(work_length),
+                work: std::mem::transmute::<*mut c_void, Work>(work),
+                quick_tray: std::mem::transmute::<*mut c_void, QuickTray>(quick_tray),
                 image_length: std::mem::transmute::<*mut c_void, ImageLength>(length),
                 image: std::mem::transmute::<*mut c_void, Image>(image),
                 reload: std::mem::transmute::<*mut c_void, Reload>(reload),
@@ -128,6 +141,32 @@ impl Monitor for Library {
         unsafe { (self.tray)(table, lengths.0, store, lengths.1, records, lengths.2, bytes, lengths.3) }
     }
 
+    fn work_length(&self, table: &[u32], store_bytes: usize) -> usize {
+        // SAFETY: as above.
+        unsafe { (self.work_length)(table.as_ptr(), table.len(), store_bytes) }
+    }
+
+    fn work(&self, table: &[u32], store_bytes: usize, work: &mut [u32]) -> u32 {
+        // SAFETY: as above.
+        unsafe { (self.work)(table.as_ptr(), table.len(), store_bytes, work.as_mut_ptr(), work.len()) }
+    }
+
+    fn quick_tray(
+        &self,
+        table: &mut [u32],
+        store: &mut [u8],
+        records: &mut [plain::Record],
+        bytes: &mut [u8],
+        work: &mut [u32],
+    ) -> u32 {
+        let lengths = (table.len(), store.len(), records.len(), bytes.len(), work.len());
+        let (table, store) = (table.as_mut_ptr(), store.as_mut_ptr());
+        let (records, bytes, work) = (records.as_mut_ptr(), bytes.as_mut_ptr(), work.as_mut_ptr());
+        let (words, size, count, length, work_words) = lengths;
+        // SAFETY: as above; a record has the ten words of monitor.h.
+        unsafe { (self.quick_tray)(table, words, store, size, records, count, bytes, length, work, work_words) }
+    }
+
     fn image_length(&self, table: &[u32], store_bytes: usize) -> usize {
         // SAFETY: as above.
         unsafe { (self.image_length)(table.as_ptr(), table.len(), store_bytes) }
@@ -153,7 +192,7 @@ fn nothing_to_try(why: &str) -> ! {
 fn main() {
     let words: Vec<String> = env::args().skip(1).collect();
     let [folder, trial] = &words[..] else {
-        nothing_to_try("try_library FOLDER (differential | secrecy | trays | images | replay)");
+        nothing_to_try("try_library FOLDER (differential | secrecy | trays | quick | images | replay)");
     };
     let folder = PathBuf::from(folder);
     let library = || Library::load(&folder.join("libmonitor.so"));
@@ -171,6 +210,7 @@ fn main() {
             let mut met = trays::Met::default();
             trays::everything(&library(), &mut rng, setting("TRIAL_TRAYS", 3_000), &mut met);
         }
+        "quick" => Quick::new(&library(), rng).everything(setting("TRIAL_QUICK", 3_000)),
         "images" => Images::new(&library(), rng).everything(setting("TRIAL_IMAGES", 60)),
         "replay" => {
             let program = folder.join("replay");

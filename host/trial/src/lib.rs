@@ -11,6 +11,7 @@ pub mod findings;
 pub mod images;
 pub mod largest;
 pub mod listings;
+pub mod quick;
 pub mod rng;
 pub mod scripts;
 pub mod secrecy;
@@ -39,6 +40,19 @@ pub trait Monitor {
 
     /// The tray's own answer; the records have theirs.
     fn tray(&self, table: &mut [u32], store: &mut [u8], records: &mut [plain::Record], bytes: &mut [u8]) -> u32;
+
+    fn work_length(&self, table: &[u32], store_bytes: usize) -> usize;
+    fn work(&self, table: &[u32], store_bytes: usize, work: &mut [u32]) -> u32;
+
+    /// The tray's own answer; the records have theirs.
+    fn quick_tray(
+        &self,
+        table: &mut [u32],
+        store: &mut [u8],
+        records: &mut [plain::Record],
+        bytes: &mut [u8],
+        work: &mut [u32],
+    ) -> u32;
 
     fn image_length(&self, table: &[u32], store_bytes: usize) -> usize;
     fn image(&self, table: &[u32], store: &[u8], out: &mut [u8]) -> u32;
@@ -78,6 +92,25 @@ impl Monitor for Plain {
 
     fn tray(&self, table: &mut [u32], store: &mut [u8], records: &mut [plain::Record], bytes: &mut [u8]) -> u32 {
         plain::tray(table, store, records, bytes) as u32
+    }
+
+    fn work_length(&self, table: &[u32], store_bytes: usize) -> usize {
+        plain::work_length(table, store_bytes)
+    }
+
+    fn work(&self, table: &[u32], store_bytes: usize, work: &mut [u32]) -> u32 {
+        plain::work(table, store_bytes, work) as u32
+    }
+
+    fn quick_tray(
+        &self,
+        table: &mut [u32],
+        store: &mut [u8],
+        records: &mut [plain::Record],
+        bytes: &mut [u8],
+        work: &mut [u32],
+    ) -> u32 {
+        plain::quick_tray(table, store, records, bytes, work) as u32
     }
 
     fn image_length(&self, table: &[u32], store_bytes: usize) -> usize {

@@ -128,10 +128,10 @@ pub fn everything(monitor: &dyn Monitor, rng: &mut Rng, trays: u64, met: &mut Me
 
 /// A tray, the table and the bytes that it is run on.
 #[derive(Clone)]
-struct Hall {
-    world: World,
-    bytes: Vec<u8>,
-    records: Vec<Record>,
+pub(crate) struct Hall {
+    pub(crate) world: World,
+    pub(crate) bytes: Vec<u8>,
+    pub(crate) records: Vec<Record>,
 }
 
 impl Hall {
@@ -139,8 +139,14 @@ impl Hall {
         monitor.tray(&mut self.world.table, &mut self.world.store, &mut self.records, &mut self.bytes)
     }
 
+    /// The same with a working slice.
+    pub(crate) fn run_quick(&mut self, monitor: &dyn Monitor, work: &mut [u32]) -> u32 {
+        let World { table, store } = &mut self.world;
+        monitor.quick_tray(table, store, &mut self.records, &mut self.bytes, work)
+    }
+
     /// The record's call by itself, made by the plain monitor on its part of the bytes.
-    fn single(&mut self, shape: &Shape, record: &mut Record) {
+    pub(crate) fn single(&mut self, shape: &Shape, record: &mut Record) {
         let &mut Record { caller, code, a, b, c, offset, length, .. } = record;
         let request = Request { caller, code, a, b, c };
         let World { table, store } = &mut self.world;
@@ -157,7 +163,7 @@ impl Hall {
 }
 
 /// By the sum of two numbers of any size.
-fn inside(record: &Record, bytes: usize) -> bool {
+pub(crate) fn inside(record: &Record, bytes: usize) -> bool {
     u128::from(record.offset) + u128::from(record.length) <= bytes as u128
 }
 
@@ -171,7 +177,7 @@ fn outside(world: &World, shape: &Shape, request: &Request) -> u32 {
     if answer.error == plain::Error::XbdKcl { 3 } else { 5 }
 }
 
-fn record(rng: &mut Rng, call: &Call, offset: u32, length: u32) -> Record {
+pub(crate) fn record(rng: &mut Rng, call: &Call, offset: u32, length: u32) -> Record {
     let Request { caller, code, a, b, c } = call.request;
     // In the room for the answer stands anything.
     let (error, first, second) = (rng.word(), rng.word(), rng.word());
@@ -179,7 +185,7 @@ fn record(rng: &mut Rng, call: &Call, offset: u32, length: u32) -> Record {
 }
 
 /// Where a part of that length is placed in so many bytes: inside, at the end, beside it, or quite elsewhere.
-fn place(rng: &mut Rng, length: u32, bytes: u32) -> (u32, u32) {
+pub(crate) fn place(rng: &mut Rng, length: u32, bytes: u32) -> (u32, u32) {
     let last = bytes.saturating_sub(length);
     match rng.below(24) {
         0 => (last, length),
@@ -194,7 +200,7 @@ fn place(rng: &mut Rng, length: u32, bytes: u32) -> (u32, u32) {
 }
 
 /// The length of a part that is longer than any call asks for; or than this one asks for, by 65,536.
-fn long_part(rng: &mut Rng, code: u32) -> usize {
+pub(crate) fn long_part(rng: &mut Rng, code: u32) -> usize {
     match rng.chance(1, 2) {
         true => rng.pick(&[513, 600, 2_048, 4_097]),
         false => 65_536 + calls::asked(code).unwrap_or(0),
@@ -275,7 +281,7 @@ fn note_long(met: &mut Met, record: &Record, end: u64) {
     met.past_65536 += u64::from(asked.is_some() && record.error == 0 && end > 65_536);
 }
 
-fn same(shape: &Shape, start: &Hall, ours: &Hall, theirs: &Hall) {
+pub(crate) fn same(shape: &Shape, start: &Hall, ours: &Hall, theirs: &Hall) {
     for (at, (one, other)) in ours.records.iter().zip(&theirs.records).enumerate() {
         assert_eq!(one, other, "record {at} of the tray {:#?}", start.records);
     }
@@ -343,8 +349,8 @@ fn run_as_singly(monitor: &dyn Monitor, shape: &Shape, start: &Hall) -> Hall {
     ours
 }
 
-/// As many records as a tray takes, each with a block of its own, written or read: 524,288 bytes in all.
-fn full_night(monitor: &dyn Monitor, rng: &mut Rng, met: &mut Met) {
+/// As many calls as a tray takes, each with a block of its own, written or read: 524,288 bytes in all.
+pub(crate) fn night_of_blocks(rng: &mut Rng) -> (World, Vec<Call>) {
     const BLOCKS: usize = 64;
     let one_file = [1, 1, 0, 1, BLOCKS as u32, 0, 0, 0, 0, 0, 0, 1, 0, 1, 0, 0];
     let mut world = World::configured(&one_file);
@@ -352,7 +358,6 @@ fn full_night(monitor: &dyn Monitor, rng: &mut Rng, met: &mut Met) {
     let create = Request { caller: 0, code: 7, a: 0o600, b: 3, c: 0 };
     let created = plain::call(&mut world.table, &mut world.store, &create, &mut []);
     assert_eq!(created.error, plain::Error::XOK, "the file of a full night");
-    let shape = world.shape();
     let mut calls = Vec::new();
     for at in 0..MOST_RECORDS {
         let (code, block) = match at % 2 {
@@ -364,7 +369,12 @@ fn full_night(monitor: &dyn Monitor, rng: &mut Rng, met: &mut Met) {
         rng.bytes(&mut buffer);
         calls.push(Call { request, buffer });
     }
-    let night = run_as_singly(monitor, &shape, &laid_out(rng, world, &calls));
+    (world, calls)
+}
+
+fn full_night(monitor: &dyn Monitor, rng: &mut Rng, met: &mut Met) {
+    let (world, calls) = night_of_blocks(rng);
+    let night = run_as_singly(monitor, &world.shape(), &laid_out(rng, world, &calls));
     met.trays += 1;
     met.full_night += u64::from(night.records.iter().all(|record| record.error == 0));
 }
@@ -381,7 +391,7 @@ fn at_the_end_of_the_store(monitor: &dyn Monitor, rng: &mut Rng, met: &mut Met) 
 }
 
 /// A tray of calls, each with a part of its own: their buffers, one behind the other.
-fn laid_out(rng: &mut Rng, world: World, calls: &[Call]) -> Hall {
+pub(crate) fn laid_out(rng: &mut Rng, world: World, calls: &[Call]) -> Hall {
     let mut hall = Hall { world, bytes: Vec::new(), records: Vec::new() };
     for call in calls {
         hall.records.push(record(rng, call, hall.bytes.len() as u32, call.buffer.len() as u32));

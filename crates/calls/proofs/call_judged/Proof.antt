@@ -1,4 +1,5 @@
 -- `call_judged` meets its contract: the caller's refusal, the code's, or the rule of the code carried out.
+use native.Mathlib.Omega.{arith}
 use borrow.Author.Needs.{needs}
 use Rattle.calls.specs.World.{Judged}
 use Rattle.calls.proofs.Whole.{known, store-long, caller-few, sound, sound-conf, no-caller, no-code, all-done, good-code}
@@ -52,15 +53,19 @@ cell-in-requires c κs =
     let at-if1 = c .before .before in let at-bad-caller = at-if1 .before in let at-header-of = at-bad-caller .before .before in
     caller-few (judged at-header-of) _ (at-bad-caller .bad-caller .ensures) (at-if1 .if1 .left)
 
+slice-aggregate-carry-out : tie.Need-slice-aggregate-carry-out
+slice-aggregate-carry-out c = search needs
+
 carry-out-requires : tie.Need-carry-out-requires
 carry-out-requires c κs =
-    let at-cell-in = c .before .before .before in let at-if2 = at-cell-in .before in let at-bad-code = at-if2 .before in
+    let at-cell-in = c .before .before .before .before in let at-if2 = at-cell-in .before in let at-bad-code = at-if2 .before in
     let at-if1 = at-bad-code .before in let at-bad-caller = at-if1 .before in let at-header-of = at-bad-caller .before .before in
     let g = good-code _ (at-bad-code .bad-code .ensures) (at-if2 .if2 .left) in (
       sound-conf (judged at-header-of .header)
           (sound (judged at-header-of) _ (at-bad-caller .bad-caller .ensures) (at-if1 .if1 .left) (at-cell-in .cell-in .ensures)),
       start at-header-of .pre .handed,
       store-long (judged at-header-of),
+      λ l. absurd (omega (arith, l)),
       g .0,
       g .1,
     )
@@ -77,7 +82,7 @@ same-length-5 c = search needs
 returns-3 : tie.Need-returns-3
 returns-3 c =
     let at-t = c .before .before .before .before .before in let at-carry-out = at-t .before in
-    let at-if2 = at-carry-out .before .before .before .before .before in let at-bad-code = at-if2 .before in let at-if1 = at-bad-code .before in
+    let at-if2 = at-carry-out .before .before .before .before .before .before in let at-bad-code = at-if2 .before in let at-if1 = at-bad-code .before in
     let at-bad-caller = at-if1 .before in let at-header-of = at-bad-caller .before .before in
     all-done (judged at-header-of) _ (at-bad-caller .bad-caller .ensures) _ _ _ _ _ (at-if1 .if1 .left) (at-bad-code .bad-code .ensures)
     (at-if2 .if2 .left) (at-carry-out .carry-out .ensures)
@@ -96,6 +101,7 @@ call-judged-spec =
     same-length-2
     returns-2
     cell-in-requires
+    slice-aggregate-carry-out
     carry-out-requires
     same-length-3
     same-length-4

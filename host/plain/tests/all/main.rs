@@ -2,6 +2,7 @@
 
 mod common;
 mod edges;
+mod quick;
 mod readings;
 mod requests;
 mod subtypes;

@@ -3,6 +3,7 @@
 use plain::table::{BITS, BLOCK_BYTES, LIVE, MAP, PAGES, SERIAL, SHARABLE, SUBTYPE};
 use plain::{Kind, Shape};
 use trial::images::Images;
+use trial::quick::Quick;
 use trial::tally::Tally;
 use trial::{Call, Monitor, Plain, Rng, World, calls, damage, largest, secrecy, tables, trays};
 
@@ -164,6 +165,14 @@ fn trays_are_calls_made_singly_and_nothing_flows_down() {
     trays::everything(&Plain, &mut rng, trial::setting("TRIAL_TRAYS", 1_500), &mut met);
     println!("{met:#?}");
     met.assert_complete();
+}
+
+#[test]
+fn quick_trays_are_calls_made_singly() {
+    let mut quick = Quick::new(&Plain, Rng::for_trial("quick_trays_are_calls_made_singly", 9));
+    quick.everything(trial::setting("TRIAL_QUICK", 1_500));
+    println!("{}", quick.met);
+    quick.assert_complete();
 }
 
 /// Where the premise of regrades is broken, an observer is told: it is needed.

@@ -41,6 +41,25 @@ impl Monitor for Faulty {
         answer
     }
 
+    fn work_length(&self, table: &[u32], store_bytes: usize) -> usize {
+        Plain.work_length(table, store_bytes)
+    }
+
+    fn work(&self, table: &[u32], store_bytes: usize, work: &mut [u32]) -> u32 {
+        Plain.work(table, store_bytes, work)
+    }
+
+    fn quick_tray(
+        &self,
+        table: &mut [u32],
+        store: &mut [u8],
+        records: &mut [plain::Record],
+        bytes: &mut [u8],
+        work: &mut [u32],
+    ) -> u32 {
+        Plain.quick_tray(table, store, records, bytes, work)
+    }
+
     fn image_length(&self, table: &[u32], store_bytes: usize) -> usize {
         Plain.image_length(table, store_bytes)
     }

@@ -8,7 +8,7 @@ use Rattle.calls.proofs.dispatch.carry_out.Statement.{statement}
 use Rattle.calls.proofs.dispatch.carry_out.Tie as tie
 
 abbrev start : tie.After-header-of → tie.Start
-start c = c .before .before .before .before .before
+start c = c .before .before .before .before .before .before
 
 -- the header that was read is the table's
 sound-here : (c : tie.After-header-of) → Sound (start c .args .t .now) (c .header-of .result) (start c .args .me)
@@ -20,7 +20,7 @@ header-of-requires c κs = search needs
 on-processes-and-segments-requires : tie.Need-on-processes-and-segments-requires
 on-processes-and-segments-requires c κs =
     let at-header-of = c .before .before in let pre = start at-header-of .pre in
-    (sound-here at-header-of, pre .1, pre .3, search needs)
+    (sound-here at-header-of, pre .1, pre .3, pre .4, search needs)
 
 same-length : tie.Need-same-length
 same-length c = search needs
@@ -31,7 +31,7 @@ returns c = plain-through _ _ (c .before .before .on-processes-and-segments .ens
 on-files-requires : tie.Need-on-files-requires
 on-files-requires c κs =
     let at-header-of = c .before .before .before in let pre = start at-header-of .pre in
-    (sound-here at-header-of, pre .1, search needs, search needs)
+    (sound-here at-header-of, pre .1, pre .3, search needs, search needs)
 
 same-length-2 : tie.Need-same-length-2
 same-length-2 c = search needs
@@ -69,7 +69,8 @@ returns-4 c = plain-through _ _ (c .before .before .on-map .ensures _ _)
 
 slot-in-requires : tie.Need-slot-in-requires
 slot-in-requires c κs =
-    let at-header-of = c .before .before .before .before .before in sound-here at-header-of .known
+    let at-header-of = c .before .before .before .before .before in
+    (sound-here at-header-of .known, start at-header-of .pre .3)
 
 regrade-requires : tie.Need-regrade-requires
 regrade-requires c κs =

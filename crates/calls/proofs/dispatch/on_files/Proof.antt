@@ -1,25 +1,34 @@
--- `dispatch::on_files` meets its contract: each code has its rule, and create takes the slot that the search finds.
+-- `dispatch::on_files` meets its contract: each code has its rule, create takes the slot that is found, and open is told what a working slice tells.
 use Rattle.calls.proofs.Codes.{plain-7, plain-8, plain-9, plain-10, plain-11, plain-12}
-use Rattle.calls.proofs.Searches.{home-in}
+use Rattle.calls.proofs.Searches.{home-here}
+use Rattle.calls.proofs.Whole.{known-conf}
 use native.Mathlib.Omega.{arith}
 use mathlib.Core.Path.{refl}
 use borrow.Author.Needs.{needs}
 use Rattle.calls.proofs.dispatch.on_files.Statement.{statement}
 use Rattle.calls.proofs.dispatch.on_files.Tie as tie
 
-free-slot-requires : tie.Need-free-slot-requires
-free-slot-requires c κs = (c .before .before .before .pre .0 .known, home-in (c .before .before .before .pre .0))
+slot-for-requires : tie.Need-slot-for-requires
+slot-for-requires c κs = let pre = c .before .before .before .before .pre in (known-conf (pre .0 .known), home-here (pre .0), pre .2)
 
 create-requires : tie.Need-create-requires
 create-requires c κs =
-    let at-start = c .before .before .before .before .before in
-    (at-start .pre .0, c .before .free-slot .ensures)
+    let at-start = c .before .before .before .before .before .before in
+    (at-start .pre .0, c .before .slot-for .ensures)
+
+or-self-requires : tie.Need-or-self-requires
+or-self-requires c κs = c .before .before .before .before .pre .0
+
+foretold-requires : tie.Need-foretold-requires
+foretold-requires c κs = let pre = c .before .before .before .before .before .before .pre in (pre .0, pre .1 .told, pre .2)
 
 open-requires : tie.Need-open-requires
-open-requires c κs = search needs
+open-requires c κs =
+    let at-foretold = c .before .before in let at-or-self = at-foretold .before .before in let pre = at-or-self .before .before .before .before .before .pre in
+    (pre .0, pre .1, rw (at-or-self .or-self .ensures) at (at-foretold .foretold .ensures))
 
 give-up-requires : tie.Need-give-up-requires
-give-up-requires c κs = (c .before .before .before .pre .0, refl, omega arith, omega arith)
+give-up-requires c κs = (c .before .before .before .before .pre .0, refl, omega arith, omega arith)
 
 link-requires : tie.Need-link-requires
 link-requires c κs = search needs
@@ -43,7 +52,7 @@ same-length-2 c = search needs
 
 returns-2 : tie.Need-returns-2
 returns-2 c =
-    let at-open = c .before .before in let at-match-keys2 = at-open .before .before .before in
+    let at-open = c .before .before in let at-match-keys2 = at-open .before .before .before .before .before .before .before in
     plain-8 _ _ _ _ _ _ (at-match-keys2 .match .keys2) (at-open .«open» .ensures)
 
 same-length-3 : tie.Need-same-length-3
@@ -80,8 +89,10 @@ pub on-files-spec : {M : Type 1} → statement M
 on-files-spec =
     tie.close
     (tie.spec
-    free-slot-requires
+    slot-for-requires
     create-requires
+    or-self-requires
+    foretold-requires
     open-requires
     give-up-requires
     link-requires

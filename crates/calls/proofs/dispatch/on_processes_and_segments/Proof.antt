@@ -1,36 +1,37 @@
--- `dispatch::on_processes_and_segments` meets its contract: each code has its rule, and creating calls take the slot that the search finds.
+-- `dispatch::on_processes_and_segments` meets its contract: each code has its rule, and creating calls take the slot that is found.
 use Rattle.calls.proofs.Codes.{plain-1, plain-2, plain-3, plain-4, plain-5, plain-6}
-use Rattle.calls.proofs.Searches.{home-in}
+use Rattle.calls.proofs.Searches.{home-here}
+use Rattle.calls.proofs.Whole.{known-conf}
 use native.Mathlib.Omega.{arith}
 use mathlib.Core.Path.{refl}
 use borrow.Author.Needs.{needs}
 use Rattle.calls.proofs.dispatch.on_processes_and_segments.Statement.{statement}
 use Rattle.calls.proofs.dispatch.on_processes_and_segments.Tie as tie
 
-free-slot-requires : tie.Need-free-slot-requires
-free-slot-requires c κs = (c .before .before .before .pre .0 .known, home-in (c .before .before .before .pre .0))
+slot-for-requires : tie.Need-slot-for-requires
+slot-for-requires c κs = let pre = c .before .before .before .before .pre in (known-conf (pre .0 .known), home-here (pre .0), pre .2)
 
 spawn-requires : tie.Need-spawn-requires
 spawn-requires c κs =
-    let at-start = c .before .before .before .before .before in
-    (at-start .pre .0, c .before .free-slot .ensures)
+    let at-start = c .before .before .before .before .before .before in
+    (at-start .pre .0, c .before .slot-for .ensures)
 
 release-process-requires : tie.Need-release-process-requires
 release-process-requires c κs = search needs
 
-free-slot-requires-2 : tie.Need-free-slot-requires-2
-free-slot-requires-2 c κs = (c .before .before .before .pre .0 .known, home-in (c .before .before .before .pre .0))
+slot-for-requires-2 : tie.Need-slot-for-requires-2
+slot-for-requires-2 c κs = let pre = c .before .before .before .before .pre in (known-conf (pre .0 .known), home-here (pre .0), pre .2)
 
 build-segment-requires : tie.Need-build-segment-requires
 build-segment-requires c κs =
-    let at-start = c .before .before .before .before .before in
-    (at-start .pre .0, c .before .free-slot2 .ensures)
+    let at-start = c .before .before .before .before .before .before in
+    (at-start .pre .0, c .before .slot-for2 .ensures)
 
 rendezvous-requires : tie.Need-rendezvous-requires
 rendezvous-requires c κs = search needs
 
 give-up-requires : tie.Need-give-up-requires
-give-up-requires c κs = (c .before .before .before .pre .0, refl, omega arith, omega arith)
+give-up-requires c κs = (c .before .before .before .before .pre .0, refl, omega arith, omega arith)
 
 set-access-requires : tie.Need-set-access-requires
 set-access-requires c κs = search needs
@@ -85,10 +86,10 @@ pub on-processes-and-segments-spec : {M : Type 1} → statement M
 on-processes-and-segments-spec =
     tie.close
     (tie.spec
-    free-slot-requires
+    slot-for-requires
     spawn-requires
     release-process-requires
-    free-slot-requires-2
+    slot-for-requires-2
     build-segment-requires
     rendezvous-requires
     give-up-requires

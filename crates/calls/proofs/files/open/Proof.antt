@@ -25,7 +25,9 @@ returns c =
     (at-open-subtype .open-subtype .ensures buffer)
 
 open-file-requires : tie.Need-open-file-requires
-open-file-requires c κs = search needs
+open-file-requires c κs =
+    let at-or-self = c .before .before .before .before in let at-start = at-or-self .before .before .before in
+    (at-start .pre .0, at-start .pre .1, rw (at-or-self .or-self .ensures) (at-start .pre .2))
 
 same-length-2 : tie.Need-same-length-2
 same-length-2 c = search needs

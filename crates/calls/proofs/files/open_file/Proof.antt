@@ -25,7 +25,7 @@ number c buffer =
     let at-start = at-look .before .before .before in
     open-number (at-start .pre .0) (at-start .args .s) (at-start .args .b) (at-start .args .by) buffer (at-look .look .ensures)
     (at-free-entry .free-entry .ensures) (at-read2 .read2 .ensures) (at-may-open .may-open .ensures)
-    (at-under .may-open-under .ensures) (at-busy .busy .ensures) (at-or-refuse .or-refuse .ensures) (at-wide .wide .ensures) (c .or-refuse2 .ensures)
+    (at-under .may-open-under .ensures) (at-busy .is-busy .ensures) (at-or-refuse .or-refuse .ensures) (at-wide .wide .ensures) (c .or-refuse2 .ensures)
 
 look-requires : tie.Need-look-requires
 look-requires c κs = search needs
@@ -45,14 +45,15 @@ may-open-requires c κs = search needs
 may-open-under-requires : tie.Need-may-open-under-requires
 may-open-under-requires c κs = search needs
 
-busy-requires : tie.Need-busy-requires
-busy-requires c κs =
+is-busy-requires : tie.Need-is-busy-requires
+is-busy-requires c κs =
     let at-under = c .before in let at-may-open = at-under .before .before in let at-read2 = at-may-open .before in
     let at-read = at-read2 .before .before in let at-free-entry = at-read .before .before in let at-look = at-free-entry .before .before in
     let at-start = at-look .before .before .before in (
       at-start .pre .0,
       may-clash (at-start .pre .0) (at-start .args .s) (at-start .args .b) (at-start .args .by) [] (at-look .look .ensures) (at-free-entry .free-entry .ensures)
           (at-read2 .read2 .ensures) (at-may-open .may-open .ensures) (at-under .may-open-under .ensures) (at-read .read .ensures),
+      at-start .pre .2,
     )
 
 or-refuse-requires : tie.Need-or-refuse-requires
@@ -92,7 +93,7 @@ take-up-requires c κs =
         arith,
         open-fits (at-start .pre .0) (at-start .args .s) (at-start .args .b) (at-start .args .by) [] (at-look .look .ensures)
             (at-free-entry .free-entry .ensures) (at-read2 .read2 .ensures) (at-may-open .may-open .ensures)
-            (at-under .may-open-under .ensures) (at-busy .busy .ensures) (at-or-refuse .or-refuse .ensures) (at-wide .wide .ensures)
+            (at-under .may-open-under .ensures) (at-busy .is-busy .ensures) (at-or-refuse .or-refuse .ensures) (at-wide .wide .ensures)
             (at-or-refuse2 .or-refuse2 .ensures) (at-if1 .if1 .left) (at-record-at .record-at .ensures .0),
       ),
     )
@@ -116,7 +117,7 @@ returns-2 c =
     (c .answered .ensures ∙ ap (λ (d : ℕ). said 0 d 0) (at-free-entry .free-entry .ensures)) (at-take-up .take-up .ensures ∙ open-words
     (at-start .pre .0) (at-start .args .s) (at-start .args .b) (at-start .args .by) buffer (at-look .look .ensures) (at-free-entry .free-entry .ensures)
     (at-read2 .read2 .ensures) (at-may-open .may-open .ensures) (at-under .may-open-under .ensures)
-    (at-busy .busy .ensures) (at-or-refuse .or-refuse .ensures) (at-wide .wide .ensures) (at-or-refuse2 .or-refuse2 .ensures) (at-if1 .if1 .left)
+    (at-busy .is-busy .ensures) (at-or-refuse .or-refuse .ensures) (at-wide .wide .ensures) (at-or-refuse2 .or-refuse2 .ensures) (at-if1 .if1 .left)
     (at-entry-at .entry-at .ensures .0) (at-record-at .record-at .ensures .0))
 
 pub open-file-spec : {M : Type 1} → statement M
@@ -129,7 +130,7 @@ open-file-spec =
     read-requires-2
     may-open-requires
     may-open-under-requires
-    busy-requires
+    is-busy-requires
     or-refuse-requires
     wide-requires
     or-refuse-requires-2

@@ -1,0 +1,1 @@
+// What each call does to the working slice, and that it leaves it right. See proofs/.

@@ -1,0 +1,2 @@
+-- The masks of open entries in the working slice.
+pub mod Masks

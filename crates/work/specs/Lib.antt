@@ -1,0 +1,2 @@
+-- The parts of the working slice, for its code.
+pub mod Parts
