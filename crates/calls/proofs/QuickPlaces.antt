@@ -1,6 +1,6 @@
 -- Where the words of a working slice stand, by the header's numbers, and whether a word names a slot of the caller's cell.
-use mathlib.Core.Path.{_≡_, refl, sym, ap, _∙_}
-use mathlib.Core.Bool.{true, false}
+use mathlib.Core.Path.{_≡_, refl, sym, ap, ap₂, _∙_}
+use mathlib.Core.Bool.{Bool, true, false, cond, true≢false}
 use mathlib.Core.List.{List}
 use Prim.Native.Nat.{ℕ, _+_, _*_, _-_, _≤_, _<_, _^_}
 use native.Mathlib.Omega.{arith}
@@ -15,6 +15,7 @@ use Rattle.rules.specs.Seid.{class, indexOf, isSeid, formed}
 use Rattle.rules.specs.Modes.{validModes}
 use Rattle.rules.specs.Find.{inOwnCell}
 use Rattle.rules.specs.Call08.{clashes}
+use Rattle.rules.specs.Step.{regradeCode}
 use Rattle.laws.proofs.Tests.{and-left, and-right}
 use Rattle.laws.proofs.Below.{sum-le}
 use Rattle.laws.proofs.Shape.{Shape, in-run}
@@ -38,7 +39,8 @@ use Rattle.calls.specs.Seen.{slotFound}
 use Rattle.table.specs.Shape.{Small}
 use Rattle.work.specs.Parts as parts
 use Rattle.work.specs.Parts.{listsAt}
-use Rattle.calls.specs.Quick.{RightIn, Near}
+use Rattle.calls.specs.Quick.{RightIn, kindMade, makes, Made, Near}
+use Rattle.calls.proofs.Searches.{home-in}
 use Rattle.calls.proofs.Worlds.{spot, shape, cells-is, blocks-is, slots-is, first-by-kind}
 
 -- ---- a cell's run of a kind, and the masks of the cells before one
@@ -188,3 +190,31 @@ clash-told {t} {w} {n} {me} sound right s b e valid {p} pe fe we xe ie ae =
     spot (sound .known) (at process p (heldAt file 0)) ∙ rw p-is in
     rw (we, xe, ae, ie, f-is)
     (row-clashes h t w (shape (sound .known)) (fine-of h (wordsOf t) (sound .records)) right s b (near .0) valid (me .cell) _ (near .1 .in-cell) there)
+
+-- ---- the slot for what a call makes
+
+module _ (t : List ℕ) (me : Caller) (code b : ℕ) where
+  pub made-found : {k : Kind} {cell : ℕ} {q : Slot} → k ≡ kindMade code → cell ≡ cond (eqb code regradeCode) b (me .cell)
+      → q ≡ slotFound (configuration t) (wordsOf t) k cell → Made t me code b q
+  made-found {k} {cell} {q} ke ce qe =
+      let found : (n : ℕ) → code ≡ n → q ≡ slotFound (configuration t) (wordsOf t) (kindMade n) (cond (eqb n regradeCode) b (me .cell))
+      = λ n e. qe ∙ ap₂ (slotFound (configuration t) (wordsOf t)) (ke ∙ ap kindMade e) (ce ∙ ap (λ (x : ℕ). cond (eqb x regradeCode) b (me .cell)) e) in
+      record { spawned = found 1; built = found 3; created = found 7; copied = λ e l. found regradeCode e }
+
+  -- what makes nothing takes none
+  pub made-nothing : {x : Bool} {q : Slot} → x ≡ makes code → x ≡ false → Made t me code b q
+  made-nothing {x} xe e =
+      let none : (n : ℕ) → makes n ≡ true → code ≡ n → ⊥ = λ n m f. true≢false (sym m ∙ ap makes (sym f) ∙ sym xe ∙ e) in
+      record { spawned = λ f. absurd (none 1 refl f); built = λ f. absurd (none 3 refl f); created = λ f. absurd (none 7 refl f); copied = λ f l. absurd (none regradeCode refl f) }
+
+  -- nor does a copy into a cell that there isn't
+  pub made-nowhere : {n : Header} {cell : ℕ} {q : Slot} → Sound t n me → cell ≡ cond (eqb code regradeCode) b (me .cell) → n .cells ≤ cell → Made t me code b q
+  made-nowhere {n} {cell} sound ce l =
+      let own : (x : ℕ) → cond (eqb x regradeCode) b (me .cell) ≡ me .cell → code ≡ x → ⊥
+      = λ x s f. omega (arith, ce ∙ ap (λ (y : ℕ). cond (eqb y regradeCode) b (me .cell)) f ∙ s, home-in sound) in
+      record {
+        spawned = λ f. absurd (own 1 refl f);
+        built = λ f. absurd (own 3 refl f);
+        created = λ f. absurd (own 7 refl f);
+        copied = λ f m. absurd (omega (arith, ce ∙ ap (λ (y : ℕ). cond (eqb y regradeCode) b (me .cell)) f, cells-is (sound .known)));
+      }

@@ -37,11 +37,8 @@ pub first-fits : {t : List ℕ} {n : Header} → Known t n → (k c : ℕ) → c
 first-fits {t} {n} known k c l m = omega (arith, first-bound (configuration t) k c (cells (configuration t)) (omega (arith, cells-is known)))
 
 -- the caller's cell is one of the table's
-pub home-here : {t : List ℕ} {n : Header} {c : Caller} → Sound t n c → c .cell < cells (configuration t)
-home-here {t} {n} {c} s = rw (s .home) (in-run (configuration t) (shape (s .known)) process (c .slot) (s .caller) .0)
-
 pub home-in : {t : List ℕ} {n : Header} {c : Caller} → Sound t n c → c .cell < n .cells
-home-in s = rw (cells-is (s .known)) (home-here s)
+home-in {t} {n} {c} s = rw (s .home, cells-is (s .known)) (in-run (configuration t) (shape (s .known)) process (c .slot) (s .caller) .0)
 
 -- ---- the loop of that search: of the slots from one on up to i, `best` is the choice and `least` its serial; before there is one, the end and the largest serial
 

@@ -48,13 +48,6 @@ sound-read {t} {c = c} e s = subst (λ (x : Header). Sound t x c) (sym (e ∙ he
 pub sound-conf : {t : List ℕ} {n : Header} {c : Caller} → n ≡ headerOf (configuration t) → Sound t n c → Sound t (headerOf (configuration t)) c
 sound-conf {t} {c = c} e s = subst (λ (x : Header). Sound t x c) e s
 
--- and so is a known configuration
-pub known-read : {t : List ℕ} {n : Header} → n ≡ headerOf t → Known t (headerOf (configuration t)) → Known t n
-known-read {t} e k = subst (λ (x : Header). Known t x) (sym (e ∙ header-conf t)) k
-
-pub known-conf : {t : List ℕ} {n : Header} → Known t n → Known t (headerOf (configuration t))
-known-conf {t} k = subst (λ (x : Header). Known t x) (k .header) k
-
 -- what judging leaves in a hall of zeros, and the matrix of that
 pub ready-by : (t s : List ℕ) {x : Bool} {m : List (List Bool)} {hall : List ℕ} → x ≡ test (wellFormed t (length s)) → x ≡ true
     → hall ≡ cond (test (wellFormed t (length s))) (hallOf (configuration t)) (replicate hallBytes 0) → m ≡ matrixIn hall → Ready t s m hall

@@ -1,10 +1,11 @@
 -- What the quick engine counts on: a working slice that is the table's, and what is known of a clash before the search.
 use mathlib.Core.Path.{_≡_}
-use mathlib.Core.Bool.{true, false, cond, _&&_}
+use mathlib.Core.Bool.{Bool, true, false, cond, _&&_, _||_}
 use mathlib.Core.List.{List}
 use Prim.Native.Nat.{ℕ, _<_}
+use lib.Dec.{eqb}
 use lib.ListN.{length}
-use Rattle.rules.specs.Layout.{Kind, process, cells, slots, configuration, cellOf}
+use Rattle.rules.specs.Layout.{Kind, process, segment, file, cells, slots, configuration, cellOf}
 use Rattle.rules.specs.Seid.{indexOf}
 use Rattle.rules.specs.Call08.{clashes}
 use Rattle.rules.specs.Claim.{test}
@@ -16,7 +17,10 @@ use Rattle.follow.specs.Right.{Right}
 use Rattle.calls.specs.declared.Caller.{Caller}
 use Rattle.calls.specs.declared.files.Foretold.{Foretold}
 use Rattle.calls.specs.declared.Record.{Record}
+use Rattle.calls.specs.declared.room.Slot.{Slot}
 use Rattle.calls.specs.World.{wordsOf}
+use Rattle.calls.specs.Seen.{slotFound}
+use Rattle.calls.specs.Regrade.{FoundIn}
 use Rattle.calls.specs.Tray.{ruleRecords, noHall, begun}
 
 -- the working slice is the table's
@@ -26,6 +30,20 @@ RightIn t w = Right (configuration t) (wordsOf t) w
 -- and so is one that is lent to a call: the plain engine lends none
 abbrev pub OwnIfLent : List ℕ → List ℕ → Type 0
 OwnIfLent t w = 0 < length w → RightIn t w
+
+-- the kind of object that a creating call makes
+abbrev pub kindMade : ℕ → Kind
+kindMade code = cond (eqb code 1) process (cond (eqb code 3) segment file)
+
+abbrev pub makes : ℕ → Bool
+makes code = (eqb code 1 || eqb code 3) || (eqb code 7 || eqb code regradeCode)
+
+-- q is the slot that is found for what a call makes: in the caller's cell, and for a copy in cell b
+pub record Made (t : List ℕ) (c : Caller) (code b : ℕ) (q : Slot) : Type 0 where
+  pub spawned : code ≡ 1 → q ≡ slotFound (configuration t) (wordsOf t) process (c .cell)
+  pub built : code ≡ 3 → q ≡ slotFound (configuration t) (wordsOf t) segment (c .cell)
+  pub created : code ≡ 7 → q ≡ slotFound (configuration t) (wordsOf t) file (c .cell)
+  pub copied : code ≡ regradeCode → FoundIn t b q
 
 -- nothing is known
 abbrev pub untold : Foretold

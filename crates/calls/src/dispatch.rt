@@ -9,7 +9,7 @@ ghost use Rattle.layout.specs.Header.{headerOf};
 ghost use Rattle.calls.specs.World.{Sound};
 ghost use Rattle.calls.specs.Handed.{Handed};
 ghost use Rattle.calls.specs.Did.{Plain, Through, ruleIn};
-ghost use Rattle.calls.specs.Quick.{OwnIfLent};
+ghost use Rattle.calls.specs.Quick.{OwnIfLent, Made};
 use crate::Answer;
 use crate::Caller;
 use crate::blocks::read_block;
@@ -28,9 +28,9 @@ use crate::objects::or_self;
 use crate::processes::release_process;
 use crate::processes::spawn;
 use crate::quick::foretold;
-use crate::quick::slot_for;
+use crate::quick::slot_made;
 use crate::regrade::regrade;
-use crate::regrade::slot_in;
+use crate::room::Slot;
 use crate::segments::access_of;
 use crate::segments::build_segment;
 use crate::segments::rendezvous;
@@ -71,26 +71,20 @@ fn on_processes_and_segments(
     n: Header,
     m: &[[bool; MAX_CELLS]; MAX_CELLS],
     hall: &[u8; HALL_BYTES],
-    w: &[u32],
+    q: Slot,
     me: Caller,
     code: u32,
     a: u32,
     b: u32,
     c: u32,
 ) -> Answer
-    requires { ⌜ Sound (now t) n me × Handed (configuration (now t)) (now m) (now hall) × OwnIfLent (now t) (now w) × (1 ≤ code) × (code ≤ 6) ⌝ }
+    requires { ⌜ Sound (now t) n me × Handed (configuration (now t)) (now m) (now hall) × Made (now t) me code b q × (1 ≤ code) × (code ≤ 6) ⌝ }
     ensures { λ r. ⌜ ((s buffer : List ℕ) → Plain (now (t .entry)) (me .slot) code a b c r (now (t .exit)) s buffer) ⌝ }
 {
     match code {
-        SPAWN_CODE => {
-            let q = slot_for(t, w, Kind::Process, me.cell);
-            spawn(t, n, me, q, a, b, c)
-        }
+        SPAWN_CODE => spawn(t, n, me, q, a, b, c),
         RELEASE_PROCESS_CODE => release_process(t, n, *m, hall, me, a),
-        BUILD_SEGMENT_CODE => {
-            let g = slot_for(t, w, Kind::Segment, me.cell);
-            build_segment(t, n, me, g, a, b, c)
-        }
+        BUILD_SEGMENT_CODE => build_segment(t, n, me, q, a, b, c),
         RENDEZVOUS_CODE => rendezvous(t, n, *m, hall, me, a, b),
         RELEASE_SEGMENT_CODE => give_up(t, n, me, Kind::Segment, a, XN_SG_DES, XB_SG_DES),
         _ => set_access(t, n, *m, hall, me, a, b),
@@ -104,20 +98,18 @@ fn on_files(
     m: &[[bool; MAX_CELLS]; MAX_CELLS],
     hall: &[u8; HALL_BYTES],
     w: &[u32],
+    q: Slot,
     me: Caller,
     code: u32,
     a: u32,
     b: u32,
     c: u32,
 ) -> Answer
-    requires { ⌜ Sound (now t) n me × Handed (configuration (now t)) (now m) (now hall) × OwnIfLent (now t) (now w) × (7 ≤ code) × (code ≤ 12) ⌝ }
+    requires { ⌜ Sound (now t) n me × Handed (configuration (now t)) (now m) (now hall) × OwnIfLent (now t) (now w) × Made (now t) me code b q × (7 ≤ code) × (code ≤ 12) ⌝ }
     ensures { λ r. ⌜ ((s buffer : List ℕ) → Plain (now (t .entry)) (me .slot) code a b c r (now (t .exit)) s buffer) ⌝ }
 {
     match code {
-        CREATE_CODE => {
-            let f = slot_for(t, w, Kind::File, me.cell);
-            create(t, n, me, f, a, b, c)
-        }
+        CREATE_CODE => create(t, n, me, q, a, b, c),
         OPEN_CODE => {
             let s = or_self(t, n, me, a);
             let x = foretold(t, n, hall, w, me, s, b);
@@ -196,11 +188,12 @@ pub(crate) fn carry_out(
     ensures { λ r. ⌜ Through (now (t .entry)) (now (store .entry)) (now (buffer .entry)) (ruleIn (now (t .entry)) (now (store .entry)) (me .slot) code a b c (now (buffer .entry))) r (now (t .exit)) (now (store .exit)) (now (buffer .exit)) ⌝ }
 {
     let n = header_of(t);
+    let q = slot_made(t, n, w, me, code, b);
     if code <= SET_ACCESS_CODE {
-        return on_processes_and_segments(t, n, m, hall, w, me, code, a, b, c);
+        return on_processes_and_segments(t, n, m, hall, q, me, code, a, b, c);
     }
     if code <= SET_BITS_CODE {
-        return on_files(t, n, m, hall, w, me, code, a, b, c);
+        return on_files(t, n, m, hall, w, q, me, code, a, b, c);
     }
     if code <= ACCESS_CODE {
         return on_contents(t, store, n, m, hall, me, code, a, b, c, buffer);
@@ -208,6 +201,5 @@ pub(crate) fn carry_out(
     if code <= PAGE_ACCESS_CODE {
         return on_map(t, n, m, hall, me, code, a, b, c);
     }
-    let g = slot_in(t, n, w, b);
-    regrade(t, store, n, *m, hall, me, g, a, b, c, buffer)
+    regrade(t, store, n, *m, hall, me, q, a, b, c, buffer)
 }

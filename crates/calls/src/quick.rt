@@ -1,8 +1,9 @@
 // The quick engine: what a call asks of the working slice instead of searching the table, and what it does to the slice once it has succeeded.
 ghost use mathlib.Core.Path.{_≡_};
+ghost use mathlib.Core.Bool.{true};
 ghost use Prim.Native.Nat.{_+_, _*_, _≤_, _<_, _^_};
 ghost use lib.ListN.{length};
-ghost use Rattle.rules.specs.Layout.{process, file, cells, storeBytes, configuration, maxSlots, cellOf, at, live, rd};
+ghost use Rattle.rules.specs.Layout.{process, file, storeBytes, configuration, maxSlots, cellOf, at, live, rd};
 ghost use Rattle.rules.specs.Step.{lastCode};
 ghost use Rattle.layout.specs.Kinds.{kindOf};
 ghost use Rattle.layout.specs.Header.{headerOf};
@@ -15,7 +16,7 @@ ghost use Rattle.calls.specs.Handed.{Handed};
 ghost use Rattle.calls.specs.Did.{Through, ruleIn};
 ghost use Rattle.calls.specs.Seen.{slotFound};
 ghost use Rattle.work.specs.Parts.{listsAt, rowsAt};
-ghost use Rattle.calls.specs.Quick.{RightIn, OwnIfLent, Tells, Near, Followable};
+ghost use Rattle.calls.specs.Quick.{RightIn, OwnIfLent, kindMade, makes, Made, Tells, Near, Followable};
 use crate::Answer;
 use crate::Caller;
 use crate::base::read;
@@ -53,6 +54,7 @@ use rules::SERIAL;
 use rules::SPAWN_CODE;
 use rules::UNLINK_CODE;
 use rules::XOK;
+use words::first;
 
 // ---- places in the working slice
 
@@ -140,16 +142,60 @@ fn listed_slot(t: &[u32], n: Header, w: &[u32], kind: Kind, cell: u32) -> Slot
     }
 }
 
-// The slot that a creating call takes in a cell, or none: by the working slice, where one is lent, else by a search. It reads the header anew, as `carry_out` does.
-pub(crate) fn slot_for(t: &[u32], w: &[u32], kind: Kind, cell: u32) -> Slot
-    requires { ⌜ Known (now t) (headerOf (configuration (now t))) × (cell < cells (configuration (now t))) × OwnIfLent (now t) (now w) ⌝ }
+// The slot that a creating call takes in a cell, or none: by the working slice, where one is lent, else by a search.
+fn slot_for(t: &[u32], n: Header, w: &[u32], kind: Kind, cell: u32) -> Slot
+    requires { ⌜ Known (now t) n × (cell < n .cells) × OwnIfLent (now t) (now w) ⌝ }
     ensures { λ r. ⌜ r ≡ slotFound (configuration (now (t .entry))) (wordsOf (now (t .entry))) (kindOf kind) cell ⌝ }
 {
-    let n = header_of(t);
     if w.len() == 0 {
         return free_slot(t, n, kind, cell);
     }
     listed_slot(t, n, w, kind, cell)
+}
+
+// Whether a call makes an object: it spawns, builds, creates or copies.
+fn makes(code: u32) -> bool
+    ensures { λ r. ⌜ r ≡ makes code ⌝ }
+{
+    ((code == SPAWN_CODE) | (code == BUILD_SEGMENT_CODE))
+        | ((code == CREATE_CODE) | (code == REGRADE_CODE))
+}
+
+fn kind_made(code: u32) -> Kind
+    ensures { λ r. ⌜ kindOf r ≡ kindMade code ⌝ }
+{
+    if code == SPAWN_CODE {
+        return Kind::Process;
+    }
+    if code == BUILD_SEGMENT_CODE {
+        return Kind::Segment;
+    }
+    Kind::File
+}
+
+fn no_slot() -> Slot
+    ensures { λ r. ⌜ r ≡ record { index = 0; none = true } ⌝ }
+{
+    Slot {
+        index: 0,
+        none: true,
+    }
+}
+
+// The slot for what a call makes, or none: in the caller's cell, and for a copy in cell b; a cell that the table does not have has none. Of all calls it is asked for in
+// this one place, so that the compiler lays the search into the dispatch.
+pub(crate) fn slot_made(t: &[u32], n: Header, w: &[u32], me: Caller, code: u32, b: u32) -> Slot
+    requires { ⌜ Sound (now t) n me × OwnIfLent (now t) (now w) ⌝ }
+    ensures { λ r. ⌜ Made (now (t .entry)) me code b r ⌝ }
+{
+    if !makes(code) {
+        return no_slot();
+    }
+    let cell = first(code == REGRADE_CODE, b, me.cell);
+    if n.cells <= cell {
+        return no_slot();
+    }
+    slot_for(t, n, w, kind_made(code), cell)
 }
 
 // Whether a word names a slot of the caller's cell.

@@ -11,7 +11,6 @@ ghost use Rattle.calls.specs.World.{Known, Sound, wordsOf};
 ghost use Rattle.calls.specs.Handed.{Handed};
 ghost use Rattle.calls.specs.Entries.{madeAt};
 ghost use Rattle.calls.specs.Regrade.{Apart, Copyable, FoundIn, RegradeLeft};
-ghost use Rattle.calls.specs.Quick.{OwnIfLent};
 use crate::Answer;
 use crate::Caller;
 use crate::base::answered;
@@ -23,7 +22,6 @@ use crate::blocks::to_read;
 use crate::entries::entry_of;
 use crate::entries::make;
 use crate::objects::look;
-use crate::quick::slot_for;
 use crate::room::Slot;
 use ids::seid;
 use layout::HALL_BYTES;
@@ -49,20 +47,6 @@ const OWNER_BYTES: usize = 0;
 const GROUP_BYTES: usize = 2;
 
 const BUFFER_BYTES: usize = 4;
-
-// The slot that is found in cell b. A cell that the table does not have has none: the call is refused for it.
-pub(crate) fn slot_in(t: &[u32], n: Header, w: &[u32], b: u32) -> Slot
-    requires { ⌜ Known (now t) n × OwnIfLent (now t) (now w) ⌝ }
-    ensures { λ r. ⌜ FoundIn (now (t .entry)) b r ⌝ }
-{
-    if b < n.cells {
-        return slot_for(t, w, Kind::File, b);
-    }
-    Slot {
-        index: 0,
-        none: true,
-    }
-}
 
 // Two bytes as a number, the most significant first.
 fn two_bytes(b: &[u8], i: usize) -> u32

@@ -17,10 +17,13 @@ sound-here c = sound-read (c .header-of .ensures) (start c .pre .0)
 header-of-requires : tie.Need-header-of-requires
 header-of-requires c κs = search needs
 
+slot-made-requires : tie.Need-slot-made-requires
+slot-made-requires c κs = (sound-here (c .before), start (c .before) .pre .3)
+
 on-processes-and-segments-requires : tie.Need-on-processes-and-segments-requires
 on-processes-and-segments-requires c κs =
-    let at-header-of = c .before .before in let pre = start at-header-of .pre in
-    (sound-here at-header-of, pre .1, pre .3, pre .4, search needs)
+    let at-slot-made = c .before .before in let at-header-of = at-slot-made .before .before in let pre = start at-header-of .pre in
+    (sound-here at-header-of, pre .1, at-slot-made .slot-made .ensures, pre .4, search needs)
 
 same-length : tie.Need-same-length
 same-length c = search needs
@@ -30,8 +33,8 @@ returns c = plain-through _ _ (c .before .before .on-processes-and-segments .ens
 
 on-files-requires : tie.Need-on-files-requires
 on-files-requires c κs =
-    let at-header-of = c .before .before .before in let pre = start at-header-of .pre in
-    (sound-here at-header-of, pre .1, pre .3, search needs, search needs)
+    let at-slot-made = c .before .before .before in let at-header-of = at-slot-made .before .before in let pre = start at-header-of .pre in
+    (sound-here at-header-of, pre .1, pre .3, at-slot-made .slot-made .ensures, search needs, search needs)
 
 same-length-2 : tie.Need-same-length-2
 same-length-2 c = search needs
@@ -41,7 +44,7 @@ returns-2 c = plain-through _ _ (c .before .before .on-files .ensures _ _)
 
 on-contents-requires : tie.Need-on-contents-requires
 on-contents-requires c κs =
-    let at-header-of = c .before .before .before .before .before .before in let pre = start at-header-of .pre in
+    let at-header-of = c .before .before .before .before .before .before .before .before in let pre = start at-header-of .pre in
     (sound-here at-header-of, pre .1, pre .2, search needs, search needs)
 
 same-length-3 : tie.Need-same-length-3
@@ -58,7 +61,7 @@ returns-3 c = search needs
 
 on-map-requires : tie.Need-on-map-requires
 on-map-requires c κs =
-    let at-header-of = c .before .before .before .before .before in let pre = start at-header-of .pre in
+    let at-header-of = c .before .before .before .before .before .before .before in let pre = start at-header-of .pre in
     (sound-here at-header-of, pre .1, search needs, search needs)
 
 same-length-6 : tie.Need-same-length-6
@@ -67,16 +70,10 @@ same-length-6 c = search needs
 returns-4 : tie.Need-returns-4
 returns-4 c = plain-through _ _ (c .before .before .on-map .ensures _ _)
 
-slot-in-requires : tie.Need-slot-in-requires
-slot-in-requires c κs =
-    let at-header-of = c .before .before .before .before .before in
-    (sound-here at-header-of .known, start at-header-of .pre .3)
-
 regrade-requires : tie.Need-regrade-requires
 regrade-requires c κs =
-    let at-slot-in = c .before .before .before .before in let at-header-of = at-slot-in .before .before .before .before .before .before in
-    let pre = start at-header-of .pre in
-    (sound-here at-header-of, pre .1, pre .2, at-slot-in .slot-in .ensures)
+    let at-slot-made = c .before .before .before .before .before .before .before .before in let at-header-of = at-slot-made .before .before in let pre = start at-header-of .pre in
+    (sound-here at-header-of, pre .1, pre .2, at-slot-made .slot-made .ensures .copied (omega arith))
 
 same-length-7 : tie.Need-same-length-7
 same-length-7 c = search needs
@@ -95,6 +92,7 @@ carry-out-spec =
     tie.close
     (tie.spec
     header-of-requires
+    slot-made-requires
     on-processes-and-segments-requires
     same-length
     returns
@@ -109,7 +107,6 @@ carry-out-spec =
     on-map-requires
     same-length-6
     returns-4
-    slot-in-requires
     regrade-requires
     same-length-7
     same-length-8

@@ -1,20 +1,15 @@
--- `dispatch::on_files` meets its contract: each code has its rule, create takes the slot that is found, and open is told what a working slice tells.
+-- `dispatch::on_files` meets its contract: each code has its rule, create is given its slot, and open is told what a working slice tells.
 use Rattle.calls.proofs.Codes.{plain-7, plain-8, plain-9, plain-10, plain-11, plain-12}
-use Rattle.calls.proofs.Searches.{home-here}
-use Rattle.calls.proofs.Whole.{known-conf}
 use native.Mathlib.Omega.{arith}
 use mathlib.Core.Path.{refl}
 use borrow.Author.Needs.{needs}
 use Rattle.calls.proofs.dispatch.on_files.Statement.{statement}
 use Rattle.calls.proofs.dispatch.on_files.Tie as tie
 
-slot-for-requires : tie.Need-slot-for-requires
-slot-for-requires c κs = let pre = c .before .before .before .before .pre in (known-conf (pre .0 .known), home-here (pre .0), pre .2)
-
 create-requires : tie.Need-create-requires
 create-requires c κs =
-    let at-start = c .before .before .before .before .before .before in
-    (at-start .pre .0, c .before .slot-for .ensures)
+    let at-match-keys1 = c .before in let pre = at-match-keys1 .before .before .before .pre in
+    (pre .0, pre .3 .created (at-match-keys1 .match .keys1))
 
 or-self-requires : tie.Need-or-self-requires
 or-self-requires c κs = c .before .before .before .before .pre .0
@@ -44,7 +39,7 @@ same-length c = search needs
 
 returns : tie.Need-returns
 returns c =
-    let at-create = c .before .before in let at-match-keys1 = at-create .before .before .before .before in
+    let at-create = c .before .before in let at-match-keys1 = at-create .before .before in
     plain-7 _ _ _ _ _ _ (at-match-keys1 .match .keys1) (at-create .create .ensures)
 
 same-length-2 : tie.Need-same-length-2
@@ -89,7 +84,6 @@ pub on-files-spec : {M : Type 1} → statement M
 on-files-spec =
     tie.close
     (tie.spec
-    slot-for-requires
     create-requires
     or-self-requires
     foretold-requires

@@ -1,37 +1,29 @@
--- `dispatch::on_processes_and_segments` meets its contract: each code has its rule, and creating calls take the slot that is found.
+-- `dispatch::on_processes_and_segments` meets its contract: each code has its rule, and creating calls are given their slot.
 use Rattle.calls.proofs.Codes.{plain-1, plain-2, plain-3, plain-4, plain-5, plain-6}
-use Rattle.calls.proofs.Searches.{home-here}
-use Rattle.calls.proofs.Whole.{known-conf}
 use native.Mathlib.Omega.{arith}
 use mathlib.Core.Path.{refl}
 use borrow.Author.Needs.{needs}
 use Rattle.calls.proofs.dispatch.on_processes_and_segments.Statement.{statement}
 use Rattle.calls.proofs.dispatch.on_processes_and_segments.Tie as tie
 
-slot-for-requires : tie.Need-slot-for-requires
-slot-for-requires c κs = let pre = c .before .before .before .before .pre in (known-conf (pre .0 .known), home-here (pre .0), pre .2)
-
 spawn-requires : tie.Need-spawn-requires
 spawn-requires c κs =
-    let at-start = c .before .before .before .before .before .before in
-    (at-start .pre .0, c .before .slot-for .ensures)
+    let at-match-keys1 = c .before in let pre = at-match-keys1 .before .before .pre in
+    (pre .0, pre .2 .spawned (at-match-keys1 .match .keys1))
 
 release-process-requires : tie.Need-release-process-requires
 release-process-requires c κs = search needs
 
-slot-for-requires-2 : tie.Need-slot-for-requires-2
-slot-for-requires-2 c κs = let pre = c .before .before .before .before .pre in (known-conf (pre .0 .known), home-here (pre .0), pre .2)
-
 build-segment-requires : tie.Need-build-segment-requires
 build-segment-requires c κs =
-    let at-start = c .before .before .before .before .before .before in
-    (at-start .pre .0, c .before .slot-for2 .ensures)
+    let at-match-keys3 = c .before in let pre = at-match-keys3 .before .before .pre in
+    (pre .0, pre .2 .built (at-match-keys3 .match .keys3))
 
 rendezvous-requires : tie.Need-rendezvous-requires
 rendezvous-requires c κs = search needs
 
 give-up-requires : tie.Need-give-up-requires
-give-up-requires c κs = (c .before .before .before .before .pre .0, refl, omega arith, omega arith)
+give-up-requires c κs = (c .before .before .before .pre .0, refl, omega arith, omega arith)
 
 set-access-requires : tie.Need-set-access-requires
 set-access-requires c κs = search needs
@@ -41,7 +33,7 @@ same-length c = search needs
 
 returns : tie.Need-returns
 returns c =
-    let at-spawn = c .before .before in let at-match-keys1 = at-spawn .before .before .before .before in
+    let at-spawn = c .before .before in let at-match-keys1 = at-spawn .before .before in
     plain-1 _ _ _ _ _ _ (at-match-keys1 .match .keys1) (at-spawn .spawn .ensures)
 
 same-length-2 : tie.Need-same-length-2
@@ -57,7 +49,7 @@ same-length-3 c = search needs
 
 returns-3 : tie.Need-returns-3
 returns-3 c =
-    let at-build-segment = c .before .before in let at-match-keys3 = at-build-segment .before .before .before .before in
+    let at-build-segment = c .before .before in let at-match-keys3 = at-build-segment .before .before in
     plain-3 _ _ _ _ _ _ (at-match-keys3 .match .keys3) (at-build-segment .build-segment .ensures)
 
 same-length-4 : tie.Need-same-length-4
@@ -86,10 +78,8 @@ pub on-processes-and-segments-spec : {M : Type 1} → statement M
 on-processes-and-segments-spec =
     tie.close
     (tie.spec
-    slot-for-requires
     spawn-requires
     release-process-requires
-    slot-for-requires-2
     build-segment-requires
     rendezvous-requires
     give-up-requires
