@@ -1,12 +1,11 @@
 -- The quick engine, on plain values: what judging a quick tray hands on, and that a call leaves the working slice the table's.
 use mathlib.Core.Path.{_≡_, sym, ap, _∙_}
-use mathlib.Core.Bool.{Bool, true, false, not, _&&_, _||_}
+use mathlib.Core.Bool.{Bool, true, false, _&&_}
 use mathlib.Core.List.{List}
 use Prim.Native.Nat.{ℕ}
-use lib.Dec.{leb, eqb}
 use lib.ListN.{length}
 use Rattle.rules.specs.Claim.{test}
-use Rattle.rules.specs.Layout.{process, slots, configuration, at, rd, live}
+use Rattle.rules.specs.Layout.{process, configuration, at, rd, live}
 use Rattle.rules.specs.WellFormed.{wellFormed}
 use Rattle.rules.specs.SetUp.{canSetUp}
 use Rattle.rules.specs.Step.{Call, badCaller, step}

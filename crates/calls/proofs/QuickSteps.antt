@@ -1,6 +1,6 @@
 -- The quick engine's steps: what the code does to the words of the working slice is what following the call says, and what a call that succeeded leaves.
 use mathlib.Core.Path.{_≡_, refl, sym, ap, ap₂, _∙_}
-use mathlib.Core.Bool.{Bool, true, false, _&&_}
+use mathlib.Core.Bool.{Bool, true, false, cond, _&&_}
 use mathlib.Core.List.{List}
 use Prim.Native.Nat.{ℕ, _+_, _*_, _-_, _≤_, _<_}
 use native.Mathlib.Omega.{arith}
@@ -92,13 +92,10 @@ take-told h k c w pe ve = ve ∙ ap (taken w) pe
 -- ---- a descriptor comes to hold s, or ceases to; x tells whether s names a file of the caller's cell
 
 module _ (h : List ℕ) (p s d : ℕ) (w : List ℕ) {x : Bool} (xe : x ≡ here h p file s) where
-  pub mark-none : x ≡ false → w ≡ markedBy h p s d w
-  unfolding markedBy
-  mark-none e = sym (cond-false (here h p file s) _ w (sym xe ∙ e))
-
-  pub unmark-none : x ≡ false → w ≡ unmarkedBy h p s d w
-  unfolding unmarkedBy
-  unmark-none e = sym (cond-false (here h p file s) _ w (sym xe ∙ e))
+  pub marks-none : x ≡ false → (holds : Bool) → w ≡ cond holds (markedBy h p s d w) (unmarkedBy h p s d w)
+  unfolding markedBy unmarkedBy
+  marks-none e true = sym (cond-false (here h p file s) _ w (sym xe ∙ e))
+  marks-none e false = sym (cond-false (here h p file s) _ w (sym xe ∙ e))
 
   module _ (e : x ≡ true) {i place : ℕ} (ie : i ≡ indexOf s) (pe : place ≡ markOf h p i) {v : List ℕ} where
     pub mark-told : v ≡ marked w place d → v ≡ markedBy h p s d w

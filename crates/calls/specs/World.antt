@@ -1,13 +1,13 @@
 -- What the code knows of a table while a call runs: the header's numbers, the caller and its cell; and searches in the table's words.
 use mathlib.Core.Path.{_≡_}
-use mathlib.Core.Bool.{Bool, true, false, _&&_}
+use mathlib.Core.Bool.{Bool, true, false}
 use mathlib.Core.List.{List}
 use Prim.Native.Nat.{ℕ, _+_, _*_, _<_, _≤_}
 use lib.Dec.{ltb, eqb}
 use lib.ListN.{length, getD}
 use Rattle.rules.specs.Words.{sumBelow, countBelow, lowest, least}
 use Rattle.rules.specs.Claim.{Holds, test}
-use Rattle.rules.specs.Layout.{maxSerial, configurationWords, Kind, process, segment, file, cells, slots, cellWord, configuration, cellOf, cellSlots, firstSlot, Addr, at, rd, tableWords, live, serial, entries, heldAt}
+use Rattle.rules.specs.Layout.{configurationWords, Kind, process, segment, file, cells, slots, cellWord, configuration, cellOf, cellSlots, firstSlot, Addr, at, rd, tableWords, entries, heldAt}
 use Rattle.rules.specs.Modes.{validModes}
 use Rattle.rules.specs.WellFormed.{configured, recordsOk, wellFormed}
 use Rattle.layout.specs.declared.Header.{Header}

@@ -1,6 +1,6 @@
 // The quick engine: what a call asks of the working slice instead of searching the table, and what it does to the slice once it has succeeded.
 ghost use mathlib.Core.Path.{_≡_};
-ghost use mathlib.Core.Bool.{true};
+ghost use mathlib.Core.Bool.{true, cond};
 ghost use Prim.Native.Nat.{_+_, _*_, _≤_, _<_, _^_};
 ghost use lib.ListN.{length};
 ghost use Rattle.rules.specs.Layout.{process, file, storeBytes, configuration, maxSlots, cellOf, at, live, rd};
@@ -260,41 +260,27 @@ fn take_slot(t: &[u32], n: Header, kind: Kind, c: u32, w: &mut [u32])
     lists::take(w, at);
 }
 
-// The caller's descriptor d has come to hold s.
-fn mark_entry(
+// The caller's descriptor d has come to hold s, or has ceased to.
+fn remark(
     t: &[u32],
     n: Header,
     hall: &[u8; HALL_BYTES],
     me: Caller,
     s: u32,
     d: u32,
+    holds: bool,
     w: &mut [u32],
 )
     requires { ⌜ Sound (now t) n me × (now hall ≡ hallOf (configuration (now t))) ⌝ }
-    ensures { λ _. ⌜ now (w .exit) ≡ markedBy (configuration (now (t .entry))) (me .slot) s d (now (w .entry)) ⌝ }
+    ensures { λ _. ⌜ now (w .exit) ≡ cond holds (markedBy (configuration (now (t .entry))) (me .slot) s d (now (w .entry))) (unmarkedBy (configuration (now (t .entry))) (me .slot) s d (now (w .entry))) ⌝ }
 {
     if is_here(n, hall, t, me, Kind::File, s) {
         let at = mark_of(t, n, me, me.slot, index_of(s));
-        marks::mark(w, at, d);
-    }
-}
-
-// It has ceased to.
-fn unmark_entry(
-    t: &[u32],
-    n: Header,
-    hall: &[u8; HALL_BYTES],
-    me: Caller,
-    s: u32,
-    d: u32,
-    w: &mut [u32],
-)
-    requires { ⌜ Sound (now t) n me × (now hall ≡ hallOf (configuration (now t))) ⌝ }
-    ensures { λ _. ⌜ now (w .exit) ≡ unmarkedBy (configuration (now (t .entry))) (me .slot) s d (now (w .entry)) ⌝ }
-{
-    if is_here(n, hall, t, me, Kind::File, s) {
-        let at = mark_of(t, n, me, me.slot, index_of(s));
-        marks::unmark(w, at, d);
+        if holds {
+            marks::mark(w, at, d);
+        } else {
+            marks::unmark(w, at, d);
+        }
     }
 }
 
@@ -381,11 +367,11 @@ fn follow(
         RELEASE_SEGMENT_CODE => give_slot(t, n, hall, me, Kind::Segment, s, w),
         CREATE_CODE => {
             take_slot(t, n, Kind::File, me.cell, w);
-            mark_entry(t, n, hall, me, x, y, w);
+            remark(t, n, hall, me, x, y, true, w);
         }
-        OPEN_CODE => mark_entry(t, n, hall, me, s, x, w),
+        OPEN_CODE => remark(t, n, hall, me, s, x, true, w),
         CLOSE_CODE => {
-            unmark_entry(t, n, hall, me, s, a, w);
+            remark(t, n, hall, me, s, a, false, w);
             give_slot(t, n, hall, me, Kind::File, s, w);
         }
         UNLINK_CODE => give_slot(t, n, hall, me, Kind::File, s, w),

@@ -8,7 +8,7 @@ use borrow.Author.Tests.{eqb-true}
 use Rattle.rules.specs.Layout.{Kind, process, segment, file, cellOf, Addr, at, live, serial, entries, heldAt, usedAt, pages, pageAt}
 use Rattle.rules.specs.Seid.{indexOf, orSelf, formed}
 use Rattle.rules.specs.Rule.{firstRefusal, Word, _≔_, over}
-use Rattle.rules.specs.Find.{inOwnCell, freed, pageLeft, pagesSet, pagesCleared, emptied, givenUp}
+use Rattle.rules.specs.Find.{inOwnCell, pageLeft, pagesSet, pagesCleared, emptied, givenUp}
 use Rattle.rules.specs.Call02.{dropped, droppedTo, released, releaseProcess}
 use Rattle.laws.proofs.Tests.{and-right, passed}
 use Rattle.laws.proofs.Shape.{in-run}

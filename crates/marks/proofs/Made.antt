@@ -11,7 +11,7 @@ use lib.Pow.{pow-lt}
 use lib.Seq.{sets, length-sets, ext-getD, getD-set-same, getD-set-other}
 use borrow.Author.Tests.{eqb-true, eq-eqb, ne-eqb, le-leb, lt-leb}
 use Rattle.rules.specs.Words.{allBelow, part, tabFrom}
-use Rattle.rules.specs.Layout.{entries, maxSlots, process}
+use Rattle.rules.specs.Layout.{entries, maxSlots}
 use Rattle.rules.specs.Layout as rules
 use Rattle.rules.specs.Seid.{class, classOf, indexOf}
 use Rattle.rules.specs.Work.{mask}

@@ -1,5 +1,5 @@
 -- The masks of open entries, in the table's words: for a process and a file of its cell a word, with a bit for each descriptor that names the file.
-use mathlib.Core.Bool.{Bool, true, false, cond, _&&_, _||_}
+use mathlib.Core.Bool.{Bool, false, cond, _&&_, _||_}
 use mathlib.Core.List.{List}
 use Prim.Native.Nat.{ℕ, zero, suc, _+_, _*_, _/_, _%_, _^_, _-_}
 use lib.Dec.{ltb, leb, eqb}

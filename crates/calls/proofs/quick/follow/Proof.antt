@@ -41,14 +41,14 @@ take-slot-requires-3 c κs =
     let at-start = c .before .before .before .before in
     (at-start .pre .0 .known, home-in (at-start .pre .0))
 
-mark-entry-requires : tie.Need-mark-entry-requires
-mark-entry-requires c κs = search needs
+remark-requires : tie.Need-remark-requires
+remark-requires c κs = search needs
 
-mark-entry-requires-2 : tie.Need-mark-entry-requires-2
-mark-entry-requires-2 c κs = search needs
+remark-requires-2 : tie.Need-remark-requires-2
+remark-requires-2 c κs = search needs
 
-unmark-entry-requires : tie.Need-unmark-entry-requires
-unmark-entry-requires c κs = search needs
+remark-requires-3 : tie.Need-remark-requires-3
+remark-requires-3 c κs = search needs
 
 give-slot-requires-2 : tie.Need-give-slot-requires-2
 give-slot-requires-2 c κs = search needs
@@ -108,21 +108,21 @@ same-length-5 c = search needs
 
 returns-5 : tie.Need-returns-5
 returns-5 c =
-    let at-mark-entry = c .before .before in
-    let at-take-slot3 = at-mark-entry .before .before .before .before in
+    let at-remark = c .before .before in
+    let at-take-slot3 = at-remark .before .before .before .before in
     let at-match = at-take-slot3 .before .before in
     let at-start = at-match .before .before .before in
-    followed-7 _ _ _ _ _ _ _ _ _ (at-start .pre .0 .home) (at-match .match .keys5) (at-take-slot3 .take-slot3 .ensures) (at-mark-entry .mark-entry .ensures)
+    followed-7 _ _ _ _ _ _ _ _ _ (at-start .pre .0 .home) (at-match .match .keys5) (at-take-slot3 .take-slot3 .ensures) (at-remark .remark .ensures)
 
 same-length-6 : tie.Need-same-length-6
 same-length-6 c = search needs
 
 returns-6 : tie.Need-returns-6
 returns-6 c =
-    let at-mark-entry2 = c .before .before in
-    let at-match = at-mark-entry2 .before .before in
+    let at-remark2 = c .before .before in
+    let at-match = at-remark2 .before .before in
     let at-start = at-match .before .before .before in
-    followed-8 _ _ _ _ _ _ _ _ _ (at-start .pre .0 .home) (at-match .match .keys6) (at-mark-entry2 .mark-entry2 .ensures)
+    followed-8 _ _ _ _ _ _ _ _ _ (at-start .pre .0 .home) (at-match .match .keys6) (at-remark2 .remark2 .ensures)
 
 same-length-7 : tie.Need-same-length-7
 same-length-7 c = search needs
@@ -130,10 +130,10 @@ same-length-7 c = search needs
 returns-7 : tie.Need-returns-7
 returns-7 c =
     let at-give-slot2 = c .before .before in
-    let at-unmark-entry = at-give-slot2 .before .before .before .before in
-    let at-match = at-unmark-entry .before .before in
+    let at-remark3 = at-give-slot2 .before .before .before .before in
+    let at-match = at-remark3 .before .before in
     let at-start = at-match .before .before .before in
-    followed-9 _ _ _ _ _ _ _ _ _ (at-start .pre .0 .home) (at-match .match .keys7) (at-unmark-entry .unmark-entry .ensures) (at-give-slot2 .give-slot2 .ensures)
+    followed-9 _ _ _ _ _ _ _ _ _ (at-start .pre .0 .home) (at-match .match .keys7) (at-remark3 .remark3 .ensures) (at-give-slot2 .give-slot2 .ensures)
 
 same-length-8 : tie.Need-same-length-8
 same-length-8 c = search needs
@@ -170,9 +170,9 @@ follow-spec =
     take-slot-requires-2
     give-slot-requires
     take-slot-requires-3
-    mark-entry-requires
-    mark-entry-requires-2
-    unmark-entry-requires
+    remark-requires
+    remark-requires-2
+    remark-requires-3
     give-slot-requires-2
     give-slot-requires-3
     take-slot-requires-4

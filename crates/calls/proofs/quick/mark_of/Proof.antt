@@ -4,7 +4,6 @@ use Rattle.rules.specs.Layout.{process, file}
 use Rattle.calls.proofs.Worlds.{kind-word}
 use Rattle.calls.proofs.QuickPlaces.{near-from, near-low, mark-of-told}
 use native.Mathlib.Omega.{arith}
-use borrow.Author.Needs.{needs}
 use Rattle.calls.proofs.quick.mark_of.Statement.{statement}
 use Rattle.calls.proofs.quick.mark_of.Tie as tie
 

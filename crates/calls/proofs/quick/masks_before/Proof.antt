@@ -1,5 +1,5 @@
 -- `quick::masks_before` meets its contract: the sum of the cells passed.
-use Prim.Native.Nat.{_+_, _*_, _-_, _≤_}
+use Prim.Native.Nat.{_-_, _≤_}
 use mathlib.Core.Path.{_≡_}
 use Rattle.rules.specs.Layout.{configuration}
 use Rattle.follow.specs.Right.{rowsTo}

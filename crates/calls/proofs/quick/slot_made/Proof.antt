@@ -1,9 +1,6 @@
 -- `quick::slot_made` meets its contract: the search is made where the call makes something and the table has the cell.
-use mathlib.Core.Bool.{cond}
-use mathlib.Core.Path.{_∙_}
-use native.Mathlib.Omega.{arith}
 use borrow.Author.Needs.{needs}
-use Rattle.laws.proofs.Tests.{passed, failed}
+use Rattle.laws.proofs.Tests.{failed}
 use Rattle.calls.proofs.QuickPlaces.{made-found, made-nothing, made-nowhere}
 use Rattle.calls.proofs.quick.slot_made.Statement.{statement}
 use Rattle.calls.proofs.quick.slot_made.Tie as tie
