@@ -125,7 +125,7 @@ fn mark_of(t: &[u32], n: Header, me: Caller, p: u32, f: u32) -> u32
 
 // ---- what a call asks of it
 
-// The same by the working slice: that of the list's last key.
+// The slot that a creating call takes in a cell, or none, by the working slice: that of the list's last key.
 fn listed_slot(t: &[u32], n: Header, w: &[u32], kind: Kind, cell: u32) -> Slot
     requires { ⌜ Known (now t) n × (cell < n .cells) × RightIn (now t) (now w) ⌝ }
     ensures { λ r. ⌜ r ≡ slotFound (configuration (now (t .entry))) (wordsOf (now (t .entry))) (kindOf kind) cell ⌝ }
@@ -142,7 +142,7 @@ fn listed_slot(t: &[u32], n: Header, w: &[u32], kind: Kind, cell: u32) -> Slot
     }
 }
 
-// The slot that a creating call takes in a cell, or none: by the working slice, where one is lent, else by a search.
+// The same by the working slice, where one is lent, else by a search.
 fn slot_for(t: &[u32], n: Header, w: &[u32], kind: Kind, cell: u32) -> Slot
     requires { ⌜ Known (now t) n × (cell < n .cells) × OwnIfLent (now t) (now w) ⌝ }
     ensures { λ r. ⌜ r ≡ slotFound (configuration (now (t .entry))) (wordsOf (now (t .entry))) (kindOf kind) cell ⌝ }
@@ -199,7 +199,7 @@ pub(crate) fn slot_made(t: &[u32], n: Header, w: &[u32], me: Caller, code: u32, 
 }
 
 // Whether a word names a slot of the caller's cell.
-fn is_here(n: Header, hall: &[u8; HALL_BYTES], t: &[u32], me: Caller, kind: Kind, s: u32) -> bool
+fn is_here(t: &[u32], n: Header, hall: &[u8; HALL_BYTES], me: Caller, kind: Kind, s: u32) -> bool
     requires { ⌜ Sound (now t) n me × (now hall ≡ hallOf (configuration (now t))) ⌝ }
     ensures { λ r. ⌜ r ≡ here (configuration (now (t .entry))) (me .slot) (kindOf kind) s ⌝ }
 {
@@ -225,7 +225,7 @@ pub(crate) fn foretold(
     if w.len() == 0 {
         return untold();
     }
-    if is_here(n, hall, t, me, Kind::File, s) & valid(b) {
+    if is_here(t, n, hall, me, Kind::File, s) & valid(b) {
         let processes = first_slot(t, n, me.cell, CELL_PROCESSES);
         let files = first_slot(t, n, me.cell, CELL_FILES);
         let count = in_cell(t, n, me.cell, CELL_PROCESSES);
@@ -274,7 +274,7 @@ fn remark(
     requires { ⌜ Sound (now t) n me × (now hall ≡ hallOf (configuration (now t))) ⌝ }
     ensures { λ _. ⌜ now (w .exit) ≡ cond holds (markedBy (configuration (now (t .entry))) (me .slot) s d (now (w .entry))) (unmarkedBy (configuration (now (t .entry))) (me .slot) s d (now (w .entry))) ⌝ }
 {
-    if is_here(n, hall, t, me, Kind::File, s) {
+    if is_here(t, n, hall, me, Kind::File, s) {
         let at = mark_of(t, n, me, me.slot, index_of(s));
         if holds {
             marks::mark(w, at, d);
@@ -297,7 +297,7 @@ fn give_slot(
     requires { ⌜ Sound (now t) n me × (now hall ≡ hallOf (configuration (now t))) ⌝ }
     ensures { λ _. ⌜ now (w .exit) ≡ givenBack (configuration (now (t .entry))) (wordsOf (now (t .entry))) (me .slot) (kindOf kind) s (now (w .entry)) ⌝ }
 {
-    if is_here(n, hall, t, me, kind, s) {
+    if is_here(t, n, hall, me, kind, s) {
         let i = index_of(s);
         let live = read(t, n, kind, i, LIVE);
         let serial = read(t, n, kind, i, SERIAL);

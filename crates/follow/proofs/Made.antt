@@ -17,10 +17,11 @@ use Rattle.laws.proofs.Below.{sum-grows, sum-same}
 use Rattle.laws.proofs.Cells.{run-end}
 use Rattle.laws.proofs.Tab.{length-tab, getD-tab}
 use Rattle.lists.proofs.Lists.{sorted-length}
+use Rattle.laws.proofs.Joined.{length-joined}
 use Rattle.laws.proofs.Same.{same-self, same-equal}
 use Rattle.lists.proofs.Shown.{words-count, words-key, length-words}
 use Rattle.follow.specs.Right.{runs, kindAt, listAt, rowsAt, rowsTo, markAt, Right}
-use Rattle.follow.proofs.Places.{before-rows}
+use Rattle.follow.proofs.Places.{before-rows, in-row}
 use Rattle.follow.proofs.One.{right-one}
 
 -- ---- lists one behind the other
@@ -35,9 +36,7 @@ module _ (f : ℕ → List ℕ) where
   before n = sumBelow n (λ i. length (f i))
 
   pub joined-length : (n : ℕ) → length (joined n f) ≡ before n
-  unfolding joined sumBelow
-  joined-length zero = refl
-  joined-length (suc n) = length-append (joined n f) (f n) ∙ ap (λ (x : ℕ). x + length (f n)) (joined-length n)
+  joined-length n = length-joined n f (λ i. length (f i)) (λ i l. refl)
 
   pub joined-at : (n i j : ℕ) → i < n → j < length (f i) → getD (joined n f) (before i + j) 0 ≡ getD (f i) j 0
   unfolding joined sumBelow
@@ -115,13 +114,10 @@ module _ (h : List ℕ) (r : Addr → ℕ) where
   all-length : length all-masks ≡ rowsTo h (cells h)
   all-length = joined-length (rows h r) (cells h) ∙ all-begin (cells h)
 
-  in-rows : (n m f i : ℕ) → f < m → i < n → i * m + f < n * m
-  in-rows n m f i fl il = omega (arith, mul-le-mul-right m il, suc-mul i m)
-
   all-word : (c f i : ℕ) → c < cells h → f < cellSlots h file c → i < cellSlots h process c
       → getD all-masks (rowsTo h c + (i * cellSlots h file c + f)) 0 ≡ mask (names r (firstSlot h process c + i) (firstSlot h file c + f)) entries 0
   all-word c f i cl fl il =
-      let inside = in-rows (cellSlots h process c) (cellSlots h file c) f i fl il in
+      let inside = in-row h (cellSlots h file c) i (cellSlots h process c) f il fl in
       rw (← all-begin c) (joined-at (rows h r) (cells h) c (i * cellSlots h file c + f) cl (rw (rows-length c) inside) ∙ rows-word c f i fl il)
 
   -- ---- the whole

@@ -74,7 +74,7 @@ module _ (h : List ℕ) where
   unfolding rowsTo
   rows-grow c e l = sum-grows (λ c. cellSlots h process c * cellSlots h file c) c e l
 
-  in-row : (n f g i : ℕ) → f < g → i < n → f * n + i < g * n
+  pub in-row : (n f g i : ℕ) → f < g → i < n → f * n + i < g * n
   in-row n f g i l b = omega (arith, mul-le-mul-right n l, suc-mul f n)
 
   mark-before : (c e f i g j : ℕ) → c < e → f < cellSlots h file c → i < cellSlots h process c → markAt h c f i < markAt h e g j

@@ -5,7 +5,7 @@ use mathlib.Core.Bool.{Bool, true, false, cond}
 use mathlib.Core.List.{List, [], _∷_, _++_}
 use Prim.Native.Nat.{ℕ, zero, suc, _+_, _*_, _/_, _%_, _^_, _≤_, _<_}
 use native.Mathlib.Omega.{arith}
-use native.Mathlib.Nat.{div-one, le-trans, mul-add, add-mul, mul-le-mul}
+use native.Mathlib.Nat.{div-one, le-trans, mul-le-mul}
 use native.Mathlib.Decide.{ℕ-discrete, decLt}
 use lib.Dec.{eqb}
 use lib.ListN.{length, getD, length-append}
@@ -13,14 +13,14 @@ use lib.Pow.{shr-shr}
 use borrow.Author.Tests.{eqb-true, ne-eqb, leb-true, leb-false}
 use Rattle.rules.specs.Words.{sumBelow, least}
 use Rattle.rules.specs.Claim.{Holds}
-use Rattle.rules.specs.Layout.{maxCells, maxSlots, Kind, process, segment, file, cells, slots, cellSlots, firstSlot, cellOf, configuration, Addr, at, rd, live, serial, entries, heldAt}
+use Rattle.rules.specs.Layout.{maxSlots, Kind, process, segment, file, cells, slots, cellSlots, firstSlot, cellOf, configuration, Addr, at, rd, live, serial, entries, heldAt}
 use Rattle.rules.specs.Seid.{class, subtypeClass, classOf, indexOf, serialOf}
 use Rattle.rules.specs.WellFormed.{wellFormed}
 use Rattle.rules.specs.Find.{canTake, freeSlot, noSlot}
-use Rattle.rules.specs.Work.{keyAt, insert, sorted, freeKeys, mask, names, workIn}
+use Rattle.rules.specs.Work.{mostMasks, mostWork, keyAt, insert, sorted, freeKeys, mask, names, workIn}
 use Rattle.laws.proofs.Tests.{and-left, and-right, split}
 use Rattle.laws.proofs.Least.{least-choice}
-use Rattle.laws.proofs.Cells.{run-end}
+use Rattle.laws.proofs.Below.{sum-products}
 use Rattle.laws.proofs.Shape.{Shape, Object, good-of, descriptor}
 use Rattle.laws.proofs.Seids.{class-some, class-pos}
 use Rattle.laws.proofs.Written.{AllOf}
@@ -30,21 +30,9 @@ use Rattle.lists.proofs.Lists.{last-is, none-is}
 use Rattle.marks.proofs.Bits.{mask-parity, mask-half}
 use Rattle.follow.specs.Right.{runs, rowsAt, rowsTo}
 use Rattle.follow.proofs.Made.{made-right}
+use Rattle.follow.proofs.Slots.{run-small}
 
 -- ---- how long it is
-
--- the sum of products is at most the product of the sums
-sum-products : (f g : ℕ → ℕ) (n : ℕ) → sumBelow n (λ i. f i * g i) ≤ sumBelow n f * sumBelow n g
-unfolding sumBelow
-sum-products f g zero = omega arith
-sum-products f g (suc n) =
-    let a : ℕ = sumBelow n f in
-    let b : ℕ = sumBelow n g in
-    omega (arith, sum-products f g n, add-mul a (f n) (b + g n), mul-add a b (g n), mul-add (f n) b (g n))
-
--- a count a cell and a word a slot, of three kinds; and a word for each process and file of one cell
-abbrev pub mostWork : ℕ
-mostWork = 3 * (maxSlots + maxCells) + maxSlots * maxSlots
 
 pub work-short : (t : List ℕ) (m : ℕ) → Holds (wellFormed t m) → length (workIn t) ≤ mostWork
 unfolding workIn runs rowsAt rowsTo firstSlot
@@ -54,7 +42,7 @@ work-short t m f =
     let n : ℕ = cells h in
     let whole = made-right h (rd h t) .size in
     let few : (k : Kind) → firstSlot h k n ≤ maxSlots = λ k. omega (arith, x .sums k, x .few k) in
-    let few-masks : rowsTo h n ≤ maxSlots * maxSlots
+    let few-masks : rowsTo h n ≤ mostMasks
     = le-trans (sum-products (cellSlots h process) (cellSlots h file) n) (mul-le-mul (few process) (few file)) in
     omega (arith, whole, x .few-cells, few process, few segment, few file, few-masks)
 
@@ -113,15 +101,12 @@ module _ (h : List ℕ) (r : Addr → ℕ) (k : Kind) (c : ℕ) where
   falling = sorted-falling (canTake r k) (keyAt r k) (cellSlots h k c) (firstSlot h k c)
 
 module _ (h : List ℕ) (shape : Shape h) (r : Addr → ℕ) (k : Kind) (c : ℕ) (l : c < cells h) where
-  run-fits : firstSlot h k c + cellSlots h k c ≤ maxSlots
-  run-fits = omega (arith, run-end h k c l, shape .sums k, shape .few k)
-
   -- where a cell has a slot to take, its list's last key is that of the slot that creation takes
   pub last-taken : noSlot h r k c ≡ false → (others : List ℕ) × (freeKeys h r k c ≡ others ++ (keyAt r k (freeSlot h r k c) ∷ []))
   unfolding freeKeys freeSlot keyAt
   last-taken e = (
     sorted (without (canTake r k) (freeSlot h r k c)) (keyAt r k) (cellSlots h k c) (firstSlot h k c),
-    last-is (canTake r k) (λ i. r (at k i serial)) (keyAt r k) (λ i. refl) (cellSlots h k c) (firstSlot h k c) run-fits (leb-false _ _ e),
+    last-is (canTake r k) (λ i. r (at k i serial)) (keyAt r k) (λ i. refl) (cellSlots h k c) (firstSlot h k c) (run-small h shape k c l) (leb-false _ _ e),
   )
 
   -- and the list is empty exactly where it has none
@@ -131,7 +116,7 @@ module _ (h : List ℕ) (shape : Shape h) (r : Addr → ℕ) (k : Kind) (c : ℕ
       let s : ℕ → ℕ = λ i. r (at k i serial) in
       let n : ℕ = cellSlots h k c in
       let from : ℕ = firstSlot h k c in
-      none-is (canTake r k) s (keyAt r k) (λ i. refl) n from run-fits (elim (ℕ-discrete (least (canTake r k) s n from) (from + n)) [
+      none-is (canTake r k) s (keyAt r k) (λ i. refl) n from (run-small h shape k c l) (elim (ℕ-discrete (least (canTake r k) s n from) (from + n)) [
         | yes m ↦ m
         | no ne ↦ absurd (omega (arith, least-choice (canTake r k) s n from .one ne .high, leb-true (from + n) (least (canTake r k) s n from) e))
       ])

@@ -1,4 +1,4 @@
--- Words one behind the other: how many they are, and, part by part, that they are laid down and that they stand there.
+-- Words one behind the other: part by part, that they are laid down and that they stand there.
 use mathlib.Core.Path.{_≡_, refl, sym, ap, _∙_}
 use mathlib.Core.Bool.{Bool, true, false, _&&_, and-assoc}
 use mathlib.Core.List.{List, [], _∷_, _++_}
@@ -12,26 +12,10 @@ use lib.Seq.{sets, length-sets, drop-drop, take-length}
 use Rattle.rules.specs.Words.{sumBelow, part}
 use Rattle.rules.specs.Work.{joined}
 use Rattle.rules.specs.Quick.{sameWords}
+use Rattle.laws.proofs.Joined.{joined-more}
 use Rattle.laws.proofs.Same.{same-not}
 use Rattle.output.proofs.Laws.{sets-append, take-sets}
 use Rattle.work.specs.Parts.{standsAt}
-
--- ---- parts joined
-
-pub joined-more : (n : ℕ) (f : ℕ → List ℕ) → joined (n + 1) f ≡ joined n f ++ f n
-unfolding joined
-joined-more n f = rw add-one
-
-pub joined-same : (n : ℕ) (f g : ℕ → List ℕ) → ((i : ℕ) → i < n → f i ≡ g i) → joined n f ≡ joined n g
-unfolding joined
-joined-same zero f g e = refl
-joined-same (suc n) f g e = rw (joined-same n f g (λ i l. e i (omega arith)), e n (omega arith))
-
-pub length-joined : (n : ℕ) (f : ℕ → List ℕ) (size : ℕ → ℕ) → ((i : ℕ) → i < n → length (f i) ≡ size i) → length (joined n f) ≡ sumBelow n size
-unfolding joined sumBelow
-length-joined zero f size e = refl
-length-joined (suc n) f size e =
-    omega (arith, length-append (joined n f) (f n), length-joined n f size (λ i l. e i (omega arith)), e n (omega arith))
 
 -- ---- laid down
 

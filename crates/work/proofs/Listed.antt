@@ -10,7 +10,7 @@ use lib.Seq.{sets}
 use borrow.Author.Tests.{le-leb}
 use Rattle.rules.specs.Words.{sumBelow}
 use Rattle.rules.specs.Layout.{maxSlots, Kind, process, segment, file, recordWords, cells, cellSlots, configuration, firstSlot, rd}
-use Rattle.rules.specs.Work.{joined, keyAt, freeKeys, listWords, lists}
+use Rattle.rules.specs.Work.{mostWork, joined, keyAt, freeKeys, listWords, lists}
 use Rattle.laws.proofs.Tests.{cond-true}
 use Rattle.laws.proofs.Cells.{first-next}
 use Rattle.layout.specs.declared.Header.{Header}
@@ -21,7 +21,7 @@ use Rattle.lists.specs.Free.{freeTest, serialAt, keyOf, freeList}
 use Rattle.lists.specs.Region.{relisted, isList}
 use Rattle.lists.proofs.Lists.{sorted-length}
 use Rattle.lists.proofs.Shown.{length-words}
-use Rattle.work.specs.Parts.{listsAt, mostWords, listsIn, standsAt}
+use Rattle.work.specs.Parts.{listsAt, listsIn, standsAt}
 use Rattle.work.proofs.Joined.{put-more, stands-more}
 use Rattle.work.proofs.Sized.{Walk, own-slots, run-few}
 
@@ -75,7 +75,7 @@ unfolding lists
 all-lists t k c e = rw e
 
 -- they begin at no large place
-pub few-listed : (n : Header) → Small n → (k : Kind) (at : ℕ) → at ≡ listsAt n k → at ≤ mostWords
+pub few-listed : (n : Header) → Small n → (k : Kind) (at : ℕ) → at ≡ listsAt n k → at ≤ mostWork
 few-listed n s process at e = omega (arith, e)
 few-listed n s segment at e = omega (arith, e, s .few-processes, s .few-cells)
 few-listed n s file at e = omega (arith, e, s .few-processes, s .few-segments, s .few-cells)

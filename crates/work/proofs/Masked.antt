@@ -10,7 +10,7 @@ use lib.Seq.{sets}
 use borrow.Author.Tests.{le-leb}
 use Rattle.rules.specs.Words.{sumBelow, tabFrom}
 use Rattle.rules.specs.Layout.{maxSlots, process, file, entries, heldAt, cells, cellSlots, configuration, firstSlot, at, offset, rd}
-use Rattle.rules.specs.Work.{joined, mask, names, masks, rows}
+use Rattle.rules.specs.Work.{mostMasks, mostWork, joined, mask, names, masks, rows}
 use Rattle.laws.proofs.Tests.{cond-true}
 use Rattle.laws.proofs.Tab.{length-tab}
 use Rattle.layout.specs.declared.Header.{Header}
@@ -18,8 +18,9 @@ use Rattle.layout.specs.Header.{recordOf}
 use Rattle.table.specs.Shape.{IsHeader, Small, Shaped}
 use Rattle.table.proofs.Config.{base-read}
 use Rattle.marks.specs.Masks.{namesAt, masksAt, masked, areMasks}
-use Rattle.work.specs.Parts.{rowsAt, rowsSize, mostRows, mostWords, rowsIn, allRows, rowsFrom, standsAt}
-use Rattle.work.proofs.Joined.{joined-same, length-joined, put-more, stands-more}
+use Rattle.work.specs.Parts.{rowsAt, rowsSize, rowsIn, allRows, rowsFrom, standsAt}
+use Rattle.laws.proofs.Joined.{joined-same, length-joined}
+use Rattle.work.proofs.Joined.{put-more, stands-more}
 use Rattle.work.proofs.Sized.{Walk, walk-none, walk-more, walk-all, own-slots, first-more, run-few, size-few, size-more, rows-few}
 
 -- ---- a process's, in the table's words
@@ -107,7 +108,7 @@ pub passed-none : (t : List ℕ) (n : Header) → Shaped t n → (from : ℕ) �
 unfolding firstSlot sumBelow
 passed-none t n s from = record { walk = walk-none t n s; processes-is = refl; files-is = refl; place-is = omega arith }
 
-pub few-passed : (t : List ℕ) (n : Header) → Small n → (from end c p f place : ℕ) → from ≡ rowsAt n → Passed t from end c p f place → place ≤ mostWords
+pub few-passed : (t : List ℕ) (n : Header) → Small n → (from end c p f place : ℕ) → from ≡ rowsAt n → Passed t from end c p f place → place ≤ mostWork
 few-passed t n s from end c p f place e x =
     omega (arith, e, x .place-is, rows-few t end c (x .walk), s .few-processes, s .few-segments, s .few-files, s .few-cells)
 
@@ -128,7 +129,7 @@ module _ (t : List ℕ) (from end c p f place : ℕ) (x : Passed t from end c p 
   pub files-few : f + files ≤ maxSlots
   files-few = run-few t end c (x .walk) l file f files (x .files-is) b
 
-  pub rows-size-few : processes * files ≤ mostRows
+  pub rows-size-few : processes * files ≤ mostMasks
   rows-size-few = size-few t end c (x .walk) l processes files a b
 
   here : place ≡ from + length (joined c (rowsIn t))

@@ -3,17 +3,18 @@ use mathlib.Core.Path.{_≡_, refl, sym, ap, _∙_}
 use mathlib.Core.List.{List}
 use Prim.Native.Nat.{ℕ, zero, suc, _+_, _*_, _<_, _≤_}
 use native.Mathlib.Omega.{arith}
-use native.Mathlib.Nat.{mul-le-mul, mul-le-mul-right, mul-comm}
+use native.Mathlib.Nat.{le-trans, mul-le-mul}
 use native.Mathlib.Numerals.{add-one}
 use Rattle.rules.specs.Words.{sumBelow}
 use Rattle.rules.specs.Layout.{maxCells, maxSlots, Kind, process, segment, file, cellWords, cells, cellSlotsWord, cellSlots, configuration, firstSlot}
-use Rattle.laws.proofs.Below.{sum-more}
+use Rattle.rules.specs.Work.{mostMasks}
+use Rattle.laws.proofs.Below.{sum-more, sum-products}
 use Rattle.laws.proofs.Cells.{first-next, first-grows}
 use Rattle.laws.proofs.Places.{conf-cell, conf-cells}
 use Rattle.layout.specs.declared.Header.{Header}
 use Rattle.table.specs.Shape.{Shaped}
 use Rattle.table.proofs.Config.{cells-read, slots-read, slots-small}
-use Rattle.work.specs.Parts.{rowsSize, mostRows}
+use Rattle.work.specs.Parts.{rowsSize}
 
 -- the first c cells are passed, of as many as there are
 pub record Walk (t : List ℕ) (end c : ℕ) : Type 0 where
@@ -65,12 +66,12 @@ module _ (t : List ℕ) (end c : ℕ) (x : Walk t end c) where
 
 -- ---- the masks
 
-pub pair-few : (p f : ℕ) → p ≤ maxSlots → f ≤ maxSlots → p * f ≤ mostRows
+pub pair-few : (p f : ℕ) → p ≤ maxSlots → f ≤ maxSlots → p * f ≤ mostMasks
 pair-few p f a b = mul-le-mul a b
 
 -- one cell more
 module _ (t : List ℕ) (end c : ℕ) (x : Walk t end c) (l : c < end) (p f : ℕ) (a : p ≡ cellSlots t process c) (b : f ≡ cellSlots t file c) where
-  pub size-few : p * f ≤ mostRows
+  pub size-few : p * f ≤ mostMasks
   size-few = pair-few p f (own-few t end c x l process p a) (own-few t end c x l file f b)
 
   pub size-is : p * f ≡ rowsSize t c
@@ -80,23 +81,14 @@ module _ (t : List ℕ) (end c : ℕ) (x : Walk t end c) (l : c < end) (p f : �
   pub size-more : (s : ℕ) → s ≡ sumBelow c (rowsSize t) → s + p * f ≡ sumBelow (c + 1) (rowsSize t)
   size-more s e = rw (sum-more c (rowsSize t), e, size-is)
 
--- of the cells passed: no more than the largest for each process
-rows-under : (t : List ℕ) (end : ℕ) (few : (k : Kind) → firstSlot (configuration t) k end ≤ maxSlots) (c : ℕ) → c ≤ end
-    → sumBelow c (rowsSize t) ≤ maxSlots * firstSlot (configuration t) process c
-unfolding sumBelow rowsSize
-rows-under t end few zero l = omega arith
-rows-under t end few (suc c) l =
-    let h = configuration t in
-    let f : cellSlots h file c ≤ maxSlots = omega (arith, few file, first-next h file c, first-grows h file (suc c) end l) in
-    let m : cellSlots h file c * cellSlots h process c ≤ maxSlots * cellSlots h process c = mul-le-mul-right (cellSlots h process c) f in
-    let s : cellSlots h process c * cellSlots h file c ≡ cellSlots h file c * cellSlots h process c =
-    mul-comm (cellSlots h process c) (cellSlots h file c) in
-    omega (arith, rows-under t end few c (omega arith), first-next h process c, m, s)
-
-pub rows-few : (t : List ℕ) (end c : ℕ) → Walk t end c → sumBelow c (rowsSize t) ≤ mostRows
-rows-few t end c x = omega (arith, rows-under t end (x .few) c (x .within), passed-few t end c x process)
+-- of the cells passed
+pub rows-few : (t : List ℕ) (end c : ℕ) → Walk t end c → sumBelow c (rowsSize t) ≤ mostMasks
+unfolding rowsSize firstSlot
+rows-few t end c x =
+    le-trans (sum-products (cellSlots (configuration t) process) (cellSlots (configuration t) file) c)
+    (mul-le-mul (passed-few t end c x process) (passed-few t end c x file))
 
 -- of all cells
 pub rows-all : (t : List ℕ) (end c : ℕ) → Walk t end c → end ≤ c → (s : ℕ) → s ≡ sumBelow c (rowsSize t)
-    → (s ≡ sumBelow (cells (configuration t)) (rowsSize t)) × (s ≤ mostRows)
+    → (s ≡ sumBelow (cells (configuration t)) (rowsSize t)) × (s ≤ mostMasks)
 rows-all t end c x l s e = (e ∙ ap (λ (k : ℕ). sumBelow k (rowsSize t)) (walk-all t end c x l), omega (arith, e, rows-few t end c x))

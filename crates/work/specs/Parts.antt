@@ -4,7 +4,7 @@ use mathlib.Core.List.{List}
 use Prim.Native.Nat.{ℕ, _+_, _*_}
 use lib.ListN.{length}
 use Rattle.rules.specs.Words.{part}
-use Rattle.rules.specs.Layout.{maxCells, maxSlots, Kind, process, segment, file, cells, cellSlots, configuration, heldAt, rd}
+use Rattle.rules.specs.Layout.{Kind, process, segment, file, cells, cellSlots, configuration, heldAt, rd}
 use Rattle.rules.specs.Work.{joined, lists, rows}
 use Rattle.rules.specs.Quick.{sameWords}
 use Rattle.layout.specs.declared.Header.{Header}
@@ -24,13 +24,6 @@ rowsAt n = n .processes + n .segments + n .files + 3 * n .cells
 -- how many words the masks of a cell have
 unfoldable pub rowsSize : List ℕ → ℕ → ℕ
 rowsSize t c = cellSlots (configuration t) process c * cellSlots (configuration t) file c
-
--- how many all masks have at most, and the whole slice
-abbrev pub mostRows : ℕ
-mostRows = maxSlots * maxSlots
-
-abbrev pub mostWords : ℕ
-mostWords = 3 * (maxSlots + maxCells) + mostRows
 
 -- a table's: the lists of a kind, the masks of a cell, and those of all cells
 abbrev pub listsIn : List ℕ → Kind → List ℕ

@@ -9,11 +9,11 @@ ghost use Rattle.rules.specs.Words.{sumBelow};
 ghost use Rattle.rules.specs.Claim.{test};
 ghost use Rattle.rules.specs.Layout.{maxSlots, cells, cellSlots, configuration};
 ghost use Rattle.rules.specs.SetUp.{canSetUp};
-ghost use Rattle.rules.specs.Work.{workIn, workLength, fillAnswer, filled};
+ghost use Rattle.rules.specs.Work.{mostMasks, mostWork, workIn, workLength, fillAnswer, filled};
 ghost use Rattle.rules.specs.Quick.{sameWords};
 ghost use Rattle.layout.specs.Kinds.{kindOf};
 ghost use Rattle.table.specs.Shape.{Small, Shaped};
-ghost use Rattle.work.specs.Parts.{listsAt, rowsAt, rowsSize, mostRows, mostWords, listsIn, allRows, rowsFrom, standsAt};
+ghost use Rattle.work.specs.Parts.{listsAt, rowsAt, rowsSize, listsIn, allRows, rowsFrom, standsAt};
 use layout::Header;
 use layout::Kind;
 use rules::CELL_WORDS;
@@ -54,7 +54,7 @@ fn rows_at(n: Header) -> u32
 // How many words the masks have: in every cell, one for each process and each file.
 fn rows_length(t: &[u32], n: Header) -> u32
     requires { ⌜ Shaped (now t) n ⌝ }
-    ensures { λ r. ⌜ (r ≡ sumBelow (cells (configuration (now (t .entry)))) (rowsSize (now (t .entry)))) × (r ≤ mostRows) ⌝ }
+    ensures { λ r. ⌜ (r ≡ sumBelow (cells (configuration (now (t .entry)))) (rowsSize (now (t .entry)))) × (r ≤ mostMasks) ⌝ }
 {
     let mut sum = 0;
     for c in 0..n.cells {
@@ -114,7 +114,7 @@ fn put_cell(
     w: &mut [u32],
     at: u32,
 )
-    requires { ⌜ (p + processes ≤ maxSlots) × (f + files ≤ maxSlots) × (at ≤ mostWords) ⌝ }
+    requires { ⌜ (p + processes ≤ maxSlots) × (f + files ≤ maxSlots) × (at ≤ mostWork) ⌝ }
     ensures { λ _. ⌜ now (w .exit) ≡ sets (now (w .entry)) at (rowsFrom (now (t .entry)) n p processes f files) ⌝ }
 {
     for i in 0..processes {
@@ -133,7 +133,7 @@ fn cell_right(
     w: &[u32],
     at: u32,
 ) -> bool
-    requires { ⌜ (p + processes ≤ maxSlots) × (f + files ≤ maxSlots) × (at ≤ mostWords) ⌝ }
+    requires { ⌜ (p + processes ≤ maxSlots) × (f + files ≤ maxSlots) × (at ≤ mostWork) ⌝ }
     ensures { λ r. ⌜ r ≡ standsAt (now (w .entry)) at (rowsFrom (now (t .entry)) n p processes f files) ⌝ }
 {
     let mut right = true;
