@@ -24,7 +24,7 @@ use rules::{
 use words::{put_bytes, put_zeros, wide};
 
 // What a file's blocks are to be used for.
-#[derive(Drop)]
+#[derive(Clone, Copy)]
 pub(crate) struct Use {
     pub held: bool,
     pub number: u32,

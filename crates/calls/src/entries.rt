@@ -17,7 +17,7 @@ use rules::{BITS, LINKS, LIVE, OWNER};
 use words::{one_less, put, word};
 
 // The two words of an entry: what it holds, and its use.
-#[derive(Drop)]
+#[derive(Clone, Copy)]
 pub(crate) struct Entry {
     pub held: u32,
     pub used: u32,

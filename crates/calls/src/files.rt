@@ -142,7 +142,7 @@ fn busy(t: &[u32], n: Header, c: Caller, e: u32, own: bool, s: u32, b: u32, most
 }
 
 // What is known of an open's clash before it is searched for: the quick engine's masks tell.
-#[derive(Drop)]
+#[derive(Clone, Copy)]
 pub(crate) struct Foretold {
     pub known: bool,
     pub clash: bool,

@@ -1,4 +1,6 @@
 // The twenty-one calls over the lent table, store and buffer, singly and by the tray, and the view of a block.
+#![tactic(auto)]
+
 ghost use Rattle.std.specs.Prelude.{◌≡◌, ◌+◌, ◌≤◌, length};
 ghost use Rattle.rules.specs.Layout.{configuration};
 ghost use Rattle.rules.specs.View.{view_number, view_from, view_shown};
@@ -38,7 +40,7 @@ mod trays;
 
 // "An answer is the number and two words." A host in C takes it as it stands.
 #[repr(C)]
-#[derive(Drop)]
+#[derive(Clone, Copy)]
 pub struct Answer {
     pub error: u32,
     pub first: u32,
@@ -47,7 +49,7 @@ pub struct Answer {
 
 // A call, and room for its answer: 02's record. Its buffer is a part of the byte slice that is lent with the records. A host in C has it as it stands.
 #[repr(C)]
-#[derive(Drop)]
+#[derive(Clone, Copy)]
 pub struct Record {
     pub caller: u32,
     pub code: u32,
@@ -61,7 +63,7 @@ pub struct Record {
 
 // A part of the store that is shown: the number, the first byte and how many; on a refusal it is empty. A host in C takes it as it stands.
 #[repr(C)]
-#[derive(Drop)]
+#[derive(Clone, Copy)]
 pub struct Part {
     pub error: u32,
     pub from: usize,
@@ -69,7 +71,7 @@ pub struct Part {
 }
 
 // The calling process: its slot and its cell.
-#[derive(Drop)]
+#[derive(Clone, Copy)]
 pub(crate) struct Caller {
     pub slot: u32,
     pub cell: u32,

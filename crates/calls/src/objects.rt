@@ -32,7 +32,7 @@ pub(crate) fn or_self(t: &[u32], n: Header, c: Caller, a: u32) -> u32
 
 // What a word names, where it has the form of an identifier of the kind. Each identifier is made by its own class check; past this edge the code goes by kind, slot and
 // serial.
-#[derive(Drop)]
+#[derive(Clone, Copy)]
 pub(crate) struct Named {
     pub formed: bool,
     pub slot: u32,
@@ -147,7 +147,7 @@ pub(crate) fn cell_in(hall: &[u8; HALL_BYTES], kind: Kind, i: u32) -> u32
 
 // What the caller sees of it: its slot and cell, whether that is the caller's own, whether what it holds may flow to the caller, whether the slot is live with that
 // serial, whether the owners are one, and the caller's rights today.
-#[derive(Drop)]
+#[derive(Clone, Copy)]
 pub(crate) struct Seen {
     pub formed: bool,
     pub slot: u32,

@@ -79,7 +79,7 @@ fn free_at(t: &[u32], base: usize, size: usize, n: u32, from: u32) -> u32
 }
 
 // The slot that a creating call takes, or none.
-#[derive(Drop)]
+#[derive(Clone, Copy)]
 pub(crate) struct Slot {
     pub index: u32,
     pub none: bool,

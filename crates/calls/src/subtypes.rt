@@ -66,7 +66,7 @@ pub(crate) fn look_subtype(
 }
 
 // What stands at the descriptor that `by` names, "a descriptor + 1, or 0 for none", and whether that is no held subtype.
-#[derive(Drop)]
+#[derive(Clone, Copy)]
 pub(crate) struct Capability {
     pub held: u32,
     pub used: u32,

@@ -3,6 +3,8 @@
 //
 // A check that `wants_input` goes on by `due`, or by `last` where the input has ended; any other by `compare` with recorded bytes. Where bytes are left then and it
 // does not want input, or where none are left and what is recorded has ended, `found` says what was found.
+#![tactic(auto)]
+
 ghost use Rattle.std.specs.Prelude.{◌≡◌, ◌-◌, ◌++◌, take, drop};
 ghost use Rattle.rules.specs.Replay.{decimal};
 ghost use Rattle.output.specs.Wrote.{Wrote};
@@ -16,7 +18,7 @@ use session::Session;
 
 // What is carried from piece to piece: the session that says what is due; where in the lent output the text stands that waits for recorded bytes, and the place past
 // it; how many lines agree, and whether a part of the next one does.
-#[derive(Drop)]
+#[derive(Clone, Copy)]
 pub struct Check {
     pub session: Session,
     pub at: usize,
@@ -26,14 +28,14 @@ pub struct Check {
 }
 
 // A check, and how far a piece was used.
-#[derive(Drop)]
+#[derive(Clone, Copy)]
 pub struct Checked {
     pub check: Check,
     pub next: usize,
 }
 
 // What was found, with a line's number: all agree and this is the last; this one is wrong; they are missing from this one on; there is more after this one, the last.
-#[derive(Drop)]
+#[derive(Clone, Copy)]
 pub enum Finding {
     Agree(u64),
     Wrong(u64),

@@ -1,4 +1,6 @@
 // Identifiers: three kinds that cannot be mixed. Their fields are private, so each is made by its own class check alone.
+#![tactic(auto)]
+
 ghost use Rattle.std.specs.Prelude.{◌≡◌};
 ghost use Rattle.rules.specs.Seid.{index_of, serial_of};
 ghost use Rattle.ids.specs.Seid.{process_of, segment_of, file_of, seid_of};
@@ -6,28 +8,28 @@ ghost use Rattle.ids.specs.Seid.{process_of, segment_of, file_of, seid_of};
 use layout::{BYTE, CLASS_UNIT, INDEX_UNIT};
 use rules::{FILE_CLASS, MAX_SERIAL, PROCESS_CLASS, SEGMENT_CLASS};
 
-#[derive(Drop)]
+#[derive(Clone, Copy)]
 pub struct ProcessId(u32);
 
-#[derive(Drop)]
+#[derive(Clone, Copy)]
 pub struct SegmentId(u32);
 
-#[derive(Drop)]
+#[derive(Clone, Copy)]
 pub struct FileId(u32);
 
-#[derive(Drop)]
+#[derive(Clone, Copy)]
 pub enum ProcessIs {
     Is(ProcessId),
     Not,
 }
 
-#[derive(Drop)]
+#[derive(Clone, Copy)]
 pub enum SegmentIs {
     Is(SegmentId),
     Not,
 }
 
-#[derive(Drop)]
+#[derive(Clone, Copy)]
 pub enum FileIs {
     Is(FileId),
     Not,

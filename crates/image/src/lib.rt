@@ -1,4 +1,6 @@
 // The evening image and the morning reload: table and store as bytes, and back. A reload is no call: it takes history back.
+#![tactic(auto)]
+
 ghost use Rattle.std.specs.Prelude.{◌≡◌, ◌+◌, ◌≤◌, cond, length};
 ghost use Rattle.std.proofs.lemmas.List.Edits.{sets};
 ghost use Rattle.rules.specs.Replay.{encoded, numbers};
@@ -17,7 +19,7 @@ const MOST_WORDS: usize = MAX_CONFIGURATION_WORDS + SLOT_WORDS * MAX_SLOTS;
 const FEW_WORDS: usize = 2048;
 
 // Whether the words of an image were read, and the place past them.
-#[derive(Drop)]
+#[derive(Clone, Copy)]
 struct Read {
     right: bool,
     next: usize,

@@ -1,4 +1,6 @@
 // Where the parts of a table lie, over the kind of object, and the parts of an identifier. The check, the calls and the session read tables by these alone.
+#![tactic(auto)]
+
 ghost use Rattle.std.specs.Prelude.{◌≡◌, ◌+◌, ◌*◌, ◌<◌, ◌^◌};
 ghost use Rattle.rules.specs.Layout.{process, file, record_words, cell_slots_word, cell_words, held_at, bits, holders};
 ghost use Rattle.rules.specs.Seid.{class, class_of, index_of, serial_of, is_seid};
@@ -15,7 +17,7 @@ use rules::{
 use words::{wide, word};
 
 // The three kinds of object.
-#[derive(Drop)]
+#[derive(Clone, Copy)]
 pub enum Kind {
     Process,
     Segment,
@@ -96,7 +98,7 @@ pub const FLOWS: usize = MAX_CELLS * MAX_CELLS;
 pub const HALL_BYTES: usize = FLOWS_AT + FLOWS;
 
 // The header's numbers.
-#[derive(Drop)]
+#[derive(Clone, Copy)]
 pub struct Header {
     pub cells: u32,
     pub processes: u32,

@@ -1,4 +1,6 @@
 // Levels, and which cell may flow to which.
+#![tactic(auto)]
+
 ghost use Rattle.std.specs.Prelude.{◌≡◌, min, get_or};
 ghost use Rattle.rules.specs.Level.{equals, flows_to, flows_from};
 ghost use Rattle.rules.specs.Words.{tab_from};
@@ -9,7 +11,7 @@ use rules::{CELL_WORDS, HEADER_WORDS, MAX_CELLS};
 use words::word;
 
 // A security category, an integrity category and a set of 32 compartments, one for each bit.
-#[derive(Drop)]
+#[derive(Clone, Copy)]
 pub struct Level {
     pub security: u32,
     pub integrity: u32,

@@ -1,6 +1,8 @@
 // Checks last night's log: the replay input is the file that the first argument names, and the recorded listing comes on standard input. What is found is the first
 // line on standard output (`checker::put_finding`). For a wrong line two more follow: as it is recorded, and as it is due. A file that cannot be opened or read is named
 // on standard error, and no finding is given.
+#![tactic(auto)]
+
 ghost use Rattle.std.specs.Prelude.{true, false, List, ◌≡◌, ℕ, ◌≤◌, length, take};
 ghost use Rattle.io.specs.Counts.{IsPrefixLen};
 ghost use Rattle.text.specs.Room.{line_bytes};
@@ -15,14 +17,14 @@ use player::{STORE_BYTES, TABLE_WORDS};
 use session::MAX_BUFFER;
 
 // How many bytes came: none where the file has ended or the read failed.
-#[derive(Drop)]
+#[derive(Clone, Copy)]
 struct Input {
     bytes: usize,
     failed: bool,
 }
 
 // Where a check stands: it goes on; it has found something, with recorded bytes left or not; the input or what is recorded could not be read.
-#[derive(Drop)]
+#[derive(Clone, Copy)]
 enum Stand {
     Going,
     Found(bool),
@@ -32,7 +34,7 @@ enum Stand {
 
 // What is carried from turn to turn: the check; a piece of the input and one of what is recorded, by the place in it and its length; whether the input has ended; and
 // where the check stands.
-#[derive(Drop)]
+#[derive(Clone, Copy)]
 struct Progress {
     check: Check,
     from: usize,
@@ -47,7 +49,7 @@ struct Progress {
 const WIDTH: usize = 1200;
 
 // Text that was put into a line: the place past it, and whether it is the whole line.
-#[derive(Drop)]
+#[derive(Clone, Copy)]
 struct Shown {
     next: usize,
     whole: bool,

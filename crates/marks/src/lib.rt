@@ -1,4 +1,6 @@
 // The masks of open entries in the working slice: for a process and a file of its cell a word, with bit d for the process's descriptor d, if it names the file.
+#![tactic(auto)]
+
 ghost use Rattle.std.specs.Prelude.{◌≡◌, ◌&&◌, ◌+◌, ◌*◌, ◌%◌, ◌<◌, ◌≤◌, ◌^◌, eqb, get_or, length};
 ghost use Rattle.rules.specs.Words.{all_below};
 ghost use Rattle.rules.specs.Layout.{process, held_at, max_slots, entries};

@@ -1,4 +1,6 @@
 // What a host in C or Rust links: the proved functions under C names, with the same contracts. A slice is a pointer and a length.
+#![tactic(auto)]
+
 ghost use Rattle.std.specs.Prelude.{◌≡◌, cond, ◌+◌, ◌≤◌, length};
 ghost use Rattle.rules.specs.Claim.{test};
 ghost use Rattle.rules.specs.WellFormed.{well_formed};

@@ -1,18 +1,20 @@
 // Numbers in seven-bit groups, low group first: read a byte at a time, and written.
+#![tactic(auto)]
+
 ghost use Rattle.std.specs.Prelude.{◌≡◌, ◌<◌, ◌^◌, drop};
 ghost use Rattle.rules.specs.Replay.{max_groups, encoded};
 ghost use Rattle.output.specs.Wrote.{Wrote};
 ghost use Rattle.numerals.specs.Fed.{grown, fed_by, scan_of};
 
 // A number of which count groups are read, and their value.
-#[derive(Drop)]
+#[derive(Clone, Copy)]
 pub struct Part {
     pub value: u32,
     pub count: u32,
 }
 
 // What one more byte makes of it.
-#[derive(Drop)]
+#[derive(Clone, Copy)]
 pub enum Fed {
     More(Part),
     Done(u32),
@@ -20,7 +22,7 @@ pub enum Fed {
 }
 
 // What some bytes make of it: the part before the byte that ended it, and the place past that byte.
-#[derive(Drop)]
+#[derive(Clone, Copy)]
 pub struct Scan {
     pub fed: Fed,
     pub part: Part,

@@ -1,4 +1,6 @@
 // Bytes written one after the other into a lent buffer. What does not fit is dropped, so no caller owes room for it.
+#![tactic(auto)]
+
 ghost use Rattle.std.specs.Prelude.{◌≡◌, [], ◌∷◌, ◌+◌, max, min};
 ghost use Rattle.output.specs.Wrote.{Wrote};
 

@@ -1,5 +1,7 @@
 // Replay over standard input and standard output, in a fixed amount of memory: reads a piece of the script, plays it and writes the text that is due, until the input
 // ends, a bad line is written, or a read or a write fails.
+#![tactic(auto)]
+
 ghost use Rattle.std.specs.Prelude.{◌≡◌, ◌≤◌, length};
 ghost use Rattle.text.specs.Room.{line_bytes};
 ghost use Rattle.player.specs.Went.{Came, Pieced, Went, Replayed};
@@ -14,14 +16,14 @@ pub const TABLE_WORDS: usize = MAX_CONFIGURATION_WORDS + SLOT_WORDS * MAX_REPLAY
 pub const STORE_BYTES: usize = MAX_REPLAY_BLOCKS * BLOCK_BYTES;
 
 // How many bytes came from standard input: none where it has ended or the read failed.
-#[derive(Drop)]
+#[derive(Clone, Copy)]
 struct Input {
     bytes: usize,
     failed: bool,
 }
 
 // How many bytes were handed on to standard output, and whether it took them.
-#[derive(Drop)]
+#[derive(Clone, Copy)]
 struct Output {
     bytes: usize,
     failed: bool,
@@ -29,7 +31,7 @@ struct Output {
 
 // What is carried from piece to piece: how many bytes were read and handed on by now, modulo 2^64, and whether there is more to do. Where there is not, the input has
 // ended, or the session is over, or a read or a write failed.
-#[derive(Drop)]
+#[derive(Clone, Copy)]
 struct Progress {
     session: Session,
     read: u64,
@@ -39,7 +41,7 @@ struct Progress {
 }
 
 // How many bytes a replay read and handed on, modulo 2^64, and whether it came to its end: that of the input, or a bad line, after which nothing is read.
-#[derive(Drop)]
+#[derive(Clone, Copy)]
 pub struct Report {
     pub read: u64,
     pub handed: u64,

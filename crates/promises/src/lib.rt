@@ -1,1 +1,2 @@
 // What the rules promise: proofs only.
+#![tactic(auto)]

@@ -1,4 +1,6 @@
 // Owner bits, and the access of a segment.
+#![tactic(auto)]
+
 ghost use Rattle.std.specs.Prelude.{◌≡◌};
 ghost use Rattle.rules.specs.Rights.{rights, may_read, may_write, lacks, asks_read, asks_write, valid_access, access};
 

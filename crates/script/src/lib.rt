@@ -1,5 +1,7 @@
 // A replay script, read in pieces: the header's numbers, the body's (the cells' and then the subtypes'), then calls, each of six numbers and its buffer's bytes. Any of
 // these may lie across any number of pieces of the input.
+#![tactic(auto)]
+
 ghost use Rattle.std.specs.Prelude.{true, false, List, ◌≡◌, ℕ, ◌+◌, ◌<◌, ◌≤◌, drop, length, set};
 ghost use Rattle.script.specs.Take.{awaiting as awaiting_at, new_reader, is_more, is_bytes, is_calling, is_between, onward, further, kept_nums, kept_table, counts_fit, header_ended, numbers_ended, ended, numbered, with_part, fed_took, fed_table, bytes_left};
 ghost use Rattle.script.specs.Advance.{advance, Advances, Goes};
@@ -8,7 +10,7 @@ use numerals::{Fed, Part};
 use rules::{CELL_WORDS, HEADER_WORDS, MAX_CELLS, MAX_SUBTYPES, SUBTYPE_WORDS, SUBTYPES};
 
 // What is being read.
-#[derive(Drop)]
+#[derive(Clone, Copy)]
 pub enum Stage {
     Header,
     Body,
@@ -17,7 +19,7 @@ pub enum Stage {
 }
 
 // How far it is read: number or byte `field` comes next, or is read in part, and `last` is the last of its stage; nums are the call's numbers.
-#[derive(Drop)]
+#[derive(Clone, Copy)]
 pub struct Reader {
     pub stage: Stage,
     pub part: Part,
@@ -27,7 +29,7 @@ pub struct Reader {
 }
 
 // What is whole now: the configuration, a call, or nothing yet; or there is a fault.
-#[derive(Drop)]
+#[derive(Clone, Copy)]
 pub enum What {
     More,
     Configuration,
@@ -36,14 +38,14 @@ pub enum What {
 }
 
 // What a number made of a reader.
-#[derive(Drop)]
+#[derive(Clone, Copy)]
 pub struct Took {
     pub what: What,
     pub reader: Reader,
 }
 
 // How far a piece was read.
-#[derive(Drop)]
+#[derive(Clone, Copy)]
 pub struct Moved {
     pub what: What,
     pub reader: Reader,

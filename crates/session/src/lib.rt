@@ -1,5 +1,7 @@
 // A replay session: a script goes in, in pieces of any size, and its listing comes out. The caller lends the memory: a table and a store, a buffer for the bytes of a
 // call, and room for a line of text.
+#![tactic(auto)]
+
 ghost use Rattle.std.specs.Prelude.{◌≡◌, ◌*◌, min, max, length, drop, if◌then◌else◌};
 ghost use Rattle.rules.specs.Layout.{file, slots, blocks};
 ghost use Rattle.rules.specs.Replay.{heading, bad_configuration};
@@ -14,7 +16,7 @@ use script::{Moved, Reader, What};
 
 // What is carried from piece to piece: what is being read; how many calls were made; how many words and bytes of the lent table and store are in use, once they are
 // set up; and whether a bad line was written, after which nothing is read.
-#[derive(Drop)]
+#[derive(Clone, Copy)]
 pub struct Session {
     pub reader: Reader,
     pub lines: u64,
@@ -39,7 +41,7 @@ impl Session {
 }
 
 // How far a piece was read, and the place past the text that is due.
-#[derive(Drop)]
+#[derive(Clone, Copy)]
 pub struct Stepped {
     pub session: Session,
     pub next: usize,
@@ -47,7 +49,7 @@ pub struct Stepped {
 }
 
 // How much of the lent table and store a configuration takes, and what set-up answered.
-#[derive(Drop)]
+#[derive(Clone, Copy)]
 struct Setup {
     words: usize,
     bytes: usize,

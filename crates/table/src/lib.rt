@@ -1,4 +1,6 @@
 // The table: whether it is well formed, and how it is set up.
+#![tactic(auto)]
+
 mod hall;
 mod held;
 mod objects;

@@ -1,4 +1,6 @@
 // The listing's text, written into a lent buffer: error names, numbers in decimal, bytes in hex, and a line of them.
+#![tactic(auto)]
+
 ghost use Rattle.std.specs.Prelude.{◌≡◌, cond, [], ◌++◌, ◌<◌, length};
 ghost use Rattle.rules.specs.Errors.{error_name};
 ghost use Rattle.rules.specs.Step.{answer};

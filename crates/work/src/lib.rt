@@ -1,5 +1,7 @@
 // The working slice of the quick engine: how long a table's is, how it is filled, and whether one is the table's. Its parts follow without gaps: the lists of free slots,
 // kind by kind and cell by cell, then the masks of open entries, cell by cell and process by process.
+#![tactic(auto)]
+
 ghost use Rattle.std.specs.Prelude.{◌≡◌, ◌&&◌, ◌+◌, ◌≤◌, length};
 ghost use Rattle.std.proofs.lemmas.List.Edits.{sets};
 ghost use Rattle.rules.specs.Words.{sum_below};
