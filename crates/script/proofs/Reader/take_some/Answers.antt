@@ -1,0 +1,9 @@
+-- `script::Reader::take_some` meets its contract: a number and a call's buffer.
+use borrow.Author.Rules.{rules}
+use Rattle.script.proofs.Reader.take_some.Goals as goal
+
+pub returns-then-is_bytes : goal.returns-then-is_bytes
+returns-then-is_bytes c = c.take_bytes.ensures _
+
+pub returns : goal.returns
+returns c = c.take_number.ensures _
