@@ -1,0 +1,11 @@
+-- `image::take_words` meets its contract.
+use mathlib.Core.Path.{sym, ◌∙◌}
+use borrow.Author.Rules.{rules}
+use Rattle.laws.proofs.Tests.{cond-true, cond-false}
+use Rattle.image.proofs.take_words.Goals as goal
+
+pub returns-then-good : goal.returns-then-good
+returns-then-good c = c.copy.ensures ∙ sym (cond-true _ _ _ c.if-good.true)
+
+pub returns-else-good : goal.returns-else-good
+returns-else-good c = sym (cond-false _ _ _ c.if-good.false)

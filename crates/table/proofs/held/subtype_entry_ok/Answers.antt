@@ -1,0 +1,13 @@
+-- `held::subtype_entry_ok` meets its contract, kind by kind.
+use Rattle.std.proofs.Common.{◌∙◌, rules}
+use Rattle.table.proofs.Named.{descriptor-holds}
+use Rattle.table.proofs.held.subtype_entry_ok.Goals as goal
+
+pub returns-in-Process : goal.returns-in-Process
+returns-in-Process c = rw c.in-Process.is
+
+pub returns-in-Segment : goal.returns-in-Segment
+returns-in-Segment c = rw c.in-Segment.is
+
+pub returns-in-File : goal.returns-in-File
+returns-in-File c = rw c.in-File.is (c.held_subtype_ok.ensures ∙ descriptor-holds _ _ _ _)

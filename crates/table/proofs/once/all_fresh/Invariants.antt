@@ -1,0 +1,13 @@
+-- `once::all_fresh` meets its contract: `ok` says that every entry passed is fresh.
+use Rattle.std.proofs.Common.{◌≡◌, ◌-◌, ◌≤◌, refl, rules}
+use Rattle.rules.specs.Words.{all_below}
+use Rattle.rules.specs.Layout.{entries}
+use Rattle.table.specs.Entries.{held_word, fresh}
+use Rattle.table.proofs.Loops.{all_first, all-next, all-last}
+use Rattle.table.proofs.once.all_fresh.Given as goal
+
+abbrev pub invariant-loop-e : goal.invariant-loop-e
+invariant-loop-e l = (l.e ≤ entries) × (l.ok ≡ all_below l.e (fresh (held_word l.t l.from)))
+
+abbrev pub decreases-loop-e : goal.decreases-loop-e
+decreases-loop-e l = entries - l.e

@@ -1,0 +1,16 @@
+-- `places::index_in` meets its contract: class and index make one number, and the class's part is taken off.
+use Rattle.std.proofs.Common.{arith, rules}
+use Rattle.rules.specs.Seid.{class}
+use Rattle.laws.proofs.Seids.{class_low}
+use Rattle.layout.specs.Kinds.{kind_of}
+use Rattle.table.proofs.Holders.{indexed}
+use Rattle.table.proofs.places.index_in.Goals as goal
+
+pub overflow_mul-class : goal.overflow_mul-class
+overflow_mul-class c = omega (arith, c.class.ensures, class_low (kind_of c.args.kind))
+
+pub returns : goal.returns
+returns c =
+    indexed (class (kind_of c.args.kind)) c.args.s c.class.result c.wrapping_sub_u32.result _
+    (class_low (kind_of c.args.kind)) c.ranges.s.fits c.class.ensures c.wrapping_sub_u32.ensures.value
+    c.wrapping_sub_u32.type_inv c.wide.ensures

@@ -1,0 +1,12 @@
+-- `shape::configuration_right` meets its contract.
+use Rattle.std.proofs.Common.{rules}
+use Rattle.table.proofs.shape.configuration_right.Goals as goal
+
+pub returns : goal.returns
+returns c =
+    rw (
+      c.subtypes_ok.ensures,
+      c.sums_match.ensures,
+      c.levels_distinct.ensures,
+      c.cells_ok.ensures,
+    )

@@ -1,0 +1,13 @@
+-- `shape::slots_owned` meets its contract: the sum of the cells passed, which fits since each word does.
+use Rattle.std.proofs.Common.{◌≡◌, ◌-◌, ◌*◌, ◌≤◌, sym, ◌∙◌, arith, rules}
+use Rattle.rules.specs.Words.{sum_below}
+use Rattle.rules.specs.Layout.{cells, cell_word, configuration, cell_at}
+use Rattle.table.proofs.Loops.{sum_first, sum-next, sum-last}
+use Rattle.table.proofs.Config.{cells-read, cell-word}
+use Rattle.table.proofs.shape.slots_owned.Given as goal
+
+abbrev pub invariant-loop-c : goal.invariant-loop-c
+invariant-loop-c l = (l.c ≤ l.c-end) × (l.c-end ≡ cells (configuration l.t)) × (l.sum ≡ sum_below l.c (λ c. cell_word (configuration l.t) c l.k)) × (l.sum ≤ 4294967296 * l.c)
+
+abbrev pub decreases-loop-c : goal.decreases-loop-c
+decreases-loop-c l = l.c-end - l.c

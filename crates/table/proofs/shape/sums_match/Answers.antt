@@ -1,0 +1,23 @@
+-- `shape::sums_match` meets its contract.
+use Rattle.rules.specs.Layout.{first_slot, process, segment, file}
+use Rattle.rules.specs.WellFormed.{sums_match}
+use Rattle.table.proofs.Config.{slots_read}
+use Rattle.std.proofs.Common.{rules}
+use Rattle.table.proofs.shape.sums_match.Goals as goal
+
+pub returns : goal.returns
+unfolding sums_match first_slot
+returns c =
+    let t = c.args.t.now in
+    let n = c.args.n in
+    rw (
+      slots_read t n c.requires.header process,
+      slots_read t n c.requires.header segment,
+      slots_read t n c.requires.header file,
+      c.wide.ensures,
+      c.wide-2.ensures,
+      c.wide-3.ensures,
+      c.slots_owned.ensures,
+      c.slots_owned-2.ensures,
+      c.slots_owned-3.ensures,
+    )

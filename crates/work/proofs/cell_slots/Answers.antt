@@ -1,0 +1,9 @@
+-- `cell_slots` meets its contract: the cell's word for the kind.
+use Rattle.rules.specs.Layout.{cell_word}
+use borrow.Author.Rules.{rules}
+use Rattle.work.proofs.cell_slots.Goals as goal
+
+pub returns : goal.returns
+unfolding cell_word
+returns c =
+    rw (c.word.ensures, c.cell_word.ensures.0, c.wide.ensures)

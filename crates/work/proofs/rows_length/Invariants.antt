@@ -1,0 +1,15 @@
+-- `rows_length` meets its contract: the masks of the cells passed.
+use mathlib.Core.Path.{◌≡◌, refl}
+use Prim.Native.Nat.{◌-◌}
+use native.Mathlib.Omega.{arith}
+use Rattle.rules.specs.Words.{sum_below}
+use Rattle.work.specs.Parts.{rows_size}
+use Rattle.work.proofs.Sized.{Walk, walk_none, walk_more, size_few, size-more, rows_few, rows_all}
+use borrow.Author.Rules.{rules}
+use Rattle.work.proofs.rows_length.Given as goal
+
+abbrev pub invariant-loop-c : goal.invariant-loop-c
+invariant-loop-c l = Walk l.t l.c-end l.c × (l.sum ≡ sum_below l.c (rows_size l.t))
+
+abbrev pub decreases-loop-c : goal.decreases-loop-c
+decreases-loop-c l = l.c-end - l.c
