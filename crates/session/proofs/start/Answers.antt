@@ -1,4 +1,5 @@
 -- `session::start` meets its contract.
+use Rattle.std.proofs.Common.{rules}
 use Rattle.session.proofs.start.Goals as goal
 
 pub returns : goal.returns
