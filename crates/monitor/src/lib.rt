@@ -1,4 +1,4 @@
-// What a host in C or Rust links: the proved functions under C names, with the same contracts. A slice is a pointer and a length.
+// What a host links: the proved functions, with the contracts that a host may take. The crate monitor_c exports them under the same names for C and Rust hosts. A slice is a pointer and a length.
 #![tactic(auto)]
 
 ghost use Rattle.std.specs.Prelude.{◌≡◌, cond, ◌+◌, ◌≤◌, length};
