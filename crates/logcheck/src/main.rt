@@ -461,7 +461,7 @@ fn check_log(rt: &HostRuntime, file: &File, name: &[u8]) {
     report(rt, p, &out, &mut recorded, name);
 }
 
-// Opens the file of that name, and checks against it.
+// Opens the file of that name, and checks against it. A name that is not UTF-8 is refused: no file is opened by one.
 fn check_named(rt: &HostRuntime, name: &[u8]) {
     let Ok(path) = std::str::from_utf8(name) else {
         fail(rt, name, &io::Error::from(io::ErrorKind::InvalidFilename));
@@ -483,15 +483,6 @@ fn check_named(rt: &HostRuntime, name: &[u8]) {
     }
 }
 
-fn main(rt: HostRuntime) {
-    let mut path = [0u8; NAME_BYTES];
-    match rt.arg(1, &mut path) {
-        Ok(n) => check_named(&rt, &path[..n]),
-        Err(FillError::NotPresent) => fail_at_name(&rt, INVALID_ARGUMENT),
-        Err(FillError::TooLong) => fail_at_name(&rt, NAME_TOO_LONG),
-    }
-}
-
 // Says why the input's name cannot be had.
 fn fail_at_name(rt: &HostRuntime, error: i32) {
     fail(
@@ -499,4 +490,13 @@ fn fail_at_name(rt: &HostRuntime, error: i32) {
         b"the input's name",
         &io::Error::from_raw_os_error(error),
     );
+}
+
+fn main(rt: HostRuntime) {
+    let mut path = [0u8; NAME_BYTES];
+    match rt.arg(1, &mut path) {
+        Ok(n) => check_named(&rt, &path[..n]),
+        Err(FillError::NotPresent) => fail_at_name(&rt, INVALID_ARGUMENT),
+        Err(FillError::TooLong) => fail_at_name(&rt, NAME_TOO_LONG),
+    }
 }
