@@ -10,7 +10,7 @@ use Rattle.rules.specs.Layout.{Addr, process, segment, file, configuration, rd}
 use Rattle.rules.specs.Seid.{class, class_of, or_self, is_subtype}
 use Rattle.rules.specs.WellFormed.{well_formed}
 use Rattle.rules.specs.Errors.{XnSgDes, XbSgDes, XbadOd}
-use Rattle.rules.specs.Rule.{Refusal, Rule, rule, first_refusal, store}
+use Rattle.rules.specs.Rule.{Refusal, Rule, rule, first_refusal}
 use Rattle.rules.specs.Call01.{spawn}
 use Rattle.rules.specs.Call02.{release_process}
 use Rattle.rules.specs.Call03.{build_segment}

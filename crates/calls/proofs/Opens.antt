@@ -9,7 +9,7 @@ use lib.Dec.{eqb}
 use lib.ListN.{length}
 use borrow.Author.Tests.{eqb-true, eq-eqb}
 use Rattle.rules.specs.Words.{some_below, sum_below, count_below}
-use Rattle.rules.specs.Layout.{process, file, configuration, slots, cell_word, cell_slots_word, at, entries, held_at, used_at, opens}
+use Rattle.rules.specs.Layout.{process, file, configuration, slots, cell_word, cell_slots_word, at, entries, held_at, used_at}
 use Rattle.rules.specs.Call08.{clashes_at}
 use Rattle.laws.proofs.Tests.{and_left, both_ways, refuted}
 use Rattle.laws.proofs.Below.{some-none, sum_more, sum-grows, count-more, count-some}

@@ -11,7 +11,7 @@ use lib.ListN.{length, get_or, set, drop}
 use lib.Seq.{sets, get_or-take, get_or-drop, get_or-set_other}
 use borrow.Author.Tests.{eqb-true, leb-false}
 use Rattle.rules.specs.Words.{part, word2}
-use Rattle.rules.specs.Layout.{max_slots, max_blocks, max_serial, max_bits, block_bytes, process, file, configuration, cells, blocks, store_bytes, at, live, serial, held_at, size}
+use Rattle.rules.specs.Layout.{max_slots, max_blocks, max_serial, max_bits, block_bytes, process, file, configuration, cells, store_bytes, at, live, serial, held_at, size}
 use Rattle.rules.specs.Seid.{class, seid, index_of, serial_of, formed}
 use Rattle.rules.specs.Modes.{reads}
 use Rattle.rules.specs.Errors.{XnoSPriv, XbSz, XbParam, XnotReadable, XnoSpace}

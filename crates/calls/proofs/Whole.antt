@@ -8,7 +8,7 @@ use lib.Dec.{ltb, leb, eqb}
 use lib.ListN.{length, get_or, replicate}
 use borrow.Author.Tests.{leb-false, ltb-false, eqb-false}
 use Rattle.rules.specs.Claim.{Holds, test}
-use Rattle.rules.specs.Layout.{max_slots, process, segment, file, cells, blocks, guard, configuration, slots, store_bytes, at, live}
+use Rattle.rules.specs.Layout.{max_slots, process, segment, file, guard, configuration, slots, store_bytes, at, live}
 use Rattle.rules.specs.WellFormed.{well_formed, lengths_exact}
 use Rattle.rules.specs.Step.{bad_caller, bad_code, last_code, step}
 use Rattle.laws.proofs.Tests.{or_left, or_right, cond-true}

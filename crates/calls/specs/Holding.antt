@@ -1,6 +1,6 @@
 -- What giving up a process's entries counts on.
 use Rattle.std.specs.Prelude.{◌≡◌, true, List, ℕ, ◌<◌, length}
-use Rattle.rules.specs.Layout.{Kind, process, configuration, slots, cell_of, table_words, entries}
+use Rattle.rules.specs.Layout.{Kind, process, configuration, slots, cell_of, table_words}
 use Rattle.layout.specs.declared.Header.{Header}
 use Rattle.calls.specs.declared.Caller.{Caller}
 use Rattle.calls.specs.World.{Known, holdable}

@@ -12,7 +12,7 @@ use Rattle.session.proofs.Whole.{Lent, fine-start}
 use Rattle.checker.specs.declared.Check.{Check}
 use Rattle.checker.specs.declared.Checked.{Checked}
 use Rattle.checker.specs.declared.Finding as code
-use Rattle.rules.specs.Finding.{Finding, finding}
+use Rattle.rules.specs.Finding.{finding}
 use Rattle.checker.specs.Scan.{verdict, scanned, alike}
 use Rattle.checker.specs.Check.{new_check, waits, wants_input, filled, Fed, fed_by, fed, Feeds, ended, last_check, last_output, waiting, agreed, met, coded}
 use Rattle.checker.proofs.Scan.{finding-scanned, Onward, onward, ends-apart, ends-due, ends_more, ends-both}

@@ -3,7 +3,7 @@
 use mathlib.Core.Path.{◌≡◌, refl, sym, ap, ◌∙◌}
 use mathlib.Core.Bool.{Bool, true, false, cond}
 use mathlib.Core.List.{List, [], ◌∷◌, ◌++◌}
-use Prim.Native.Nat.{ℕ, zero, suc, ◌+◌, ◌*◌, ◌/◌, ◌%◌, ◌^◌, ◌≤◌, ◌<◌}
+use Prim.Native.Nat.{ℕ, zero, suc, ◌+◌, ◌/◌, ◌%◌, ◌^◌, ◌≤◌, ◌<◌}
 use native.Mathlib.Omega.{arith}
 use native.Mathlib.Nat.{div-one, le_trans, mul-le-mul}
 use native.Mathlib.Decide.{ℕ_discrete, dec_lt}
@@ -11,7 +11,7 @@ use lib.Dec.{eqb}
 use lib.ListN.{length, get_or, length-append}
 use lib.Pow.{shr-shr}
 use borrow.Author.Tests.{eqb-true, ne_eqb, leb-true, leb-false}
-use Rattle.rules.specs.Words.{sum_below, least}
+use Rattle.rules.specs.Words.{least}
 use Rattle.rules.specs.Claim.{Holds}
 use Rattle.rules.specs.Layout.{max_slots, Kind, process, segment, file, cells, slots, cell_slots, first_slot, cell_of, configuration, Addr, at, rd, live, serial, entries, held_at}
 use Rattle.rules.specs.Seid.{class, subtype_class, class_of, index_of, serial_of}

@@ -7,7 +7,7 @@ use native.Mathlib.Omega.{arith}
 use lib.Dec.{ltb, leb, eqb}
 use borrow.Author.Tests.{ltb-false, leb-false}
 use Rattle.rules.specs.Words.{word2}
-use Rattle.rules.specs.Layout.{max_owner, max_bits, process, file, cells, blocks, Addr, at, serial, held_at, size, subtype}
+use Rattle.rules.specs.Layout.{max_owner, max_bits, process, file, cells, blocks, Addr, at, serial, held_at, subtype}
 use Rattle.rules.specs.Seid.{index_of}
 use Rattle.rules.specs.Rule.{over}
 use Rattle.rules.specs.Find.{free_slot}

@@ -13,7 +13,7 @@ use Rattle.rules.specs.Seid.{class, seid, class_of, index_of, present}
 use Rattle.rules.specs.Modes.{valid_modes}
 use Rattle.rules.specs.Rights.{rights, may_read, may_write, access}
 use Rattle.rules.specs.Errors.{XOK}
-use Rattle.rules.specs.Rule.{◌≔◌, write, store}
+use Rattle.rules.specs.Rule.{◌≔◌, write}
 use Rattle.rules.specs.SetUp.{set_up_table}
 use Rattle.rules.specs.Step.{State, Call, answer, step, next}
 use Rattle.promises.proofs.Opened.{open-table, open-set-up, open-calls, open_step}

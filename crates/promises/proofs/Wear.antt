@@ -9,7 +9,7 @@ use native.Mathlib.Omega.{arith}
 use native.Mathlib.Decide.{ℕ_discrete, dec_lt}
 use lib.Dec.{leb}
 use lib.ListN.{length}
-use Rattle.rules.specs.Words.{lowest, least}
+use Rattle.rules.specs.Words.{lowest}
 use Rattle.rules.specs.Claim.{Holds}
 use Rattle.rules.specs.Layout.{max_serial, Kind, process, segment, file, cells, slots, configuration, cell_slots, first_slot, cell_of, Addr, at, rd, live, serial, owner, group, bits}
 use Rattle.rules.specs.Errors.{XOK}

@@ -8,7 +8,7 @@ use lib.Dec.{eqb}
 use lib.ListN.{take, drop}
 use Rattle.rules.specs.Layout.{header_words}
 use borrow.Author.Tests.{eqb-true, lt-leb}
-use Rattle.rules.specs.Replay.{Taken, took, bad, header_numbers, configuration_in, call_in}
+use Rattle.rules.specs.Replay.{Taken, bad, header_numbers, configuration_in, call_in}
 use Rattle.laws.proofs.Tests.{split, and_left, and_right}
 use Rattle.numerals.specs.Fed.{start}
 use Rattle.script.specs.declared.Stage.{Stage}

@@ -21,7 +21,7 @@ use Rattle.script.specs.declared.Reader.{Reader}
 use Rattle.script.specs.declared.Took.{Took}
 use Rattle.script.specs.declared.Moved.{Moved}
 use Rattle.script.specs.declared.What.TheVariants.{More, Call}
-use Rattle.script.specs.Take.{is_more, is_bytes, further, bytes_left, with_part, at_call, took, fed_took, fed_table, Read, read, number_read, byte_took, take_at, take}
+use Rattle.script.specs.Take.{is_more, is_bytes, further, bytes_left, with_part, at_call, fed_took, fed_table, Read, read, number_read, byte_took, take_at, take}
 use Rattle.script.specs.Advance.{Advanced, advanced, stopped, advance, resumed, Advances, Goes}
 use Rattle.script.proofs.Piece.{goes_on, stops, ends, code-ends, going-resumed, stopped-resumed, cut}
 

@@ -26,7 +26,7 @@ use Rattle.rules.specs.Call21.{carried}
 use Rattle.rules.specs.Step.{State, Call, answer, Outcome, Reply, step, reply}
 use Rattle.rules.specs.Observer.{observer, Closed, Agree, stays}
 use Rattle.rules.specs.Tray.{Record, part_of, record_call, inside, record_rule, record_step, with_answer, Tray, in_order, most_records, after_tray, stays_in, remaining_in, asked, in_part, seen, hidden, Apart, SameParts}
-use Rattle.rules.specs.Regrade.{into, accepted, Event, remains, without_refused, guard_within, NamesNone}
+use Rattle.rules.specs.Regrade.{into, accepted, Event, without_refused, guard_within, NamesNone}
 use Rattle.rules.specs.TrayRegrade.{calls_in, accepted_in, event_in, events_in, asks_in, AsksNoneIn}
 use Rattle.laws.proofs.Tests.{and_right, and_both, or-by-left, or-by-right, not-of, both_ways, refuted, split}
 use Rattle.laws.proofs.Stored.{sets-out, sets-both}

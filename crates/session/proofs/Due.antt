@@ -5,7 +5,7 @@ use lib.Seq.{sets, length-sets}
 use Rattle.rules.specs.Claim.{test}
 use Rattle.rules.specs.Layout.{configuration}
 use Rattle.rules.specs.SetUp.{set_up_table}
-use Rattle.rules.specs.Rule.{first_refusal, Rule, store}
+use Rattle.rules.specs.Rule.{first_refusal, Rule}
 use Rattle.rules.specs.Step.{State, Call, carried_out, whole_rule, step, next}
 use Rattle.rules.specs.Replay.{Taken, took, bad, configuration_in, replayable, call_from, script, script_listing, line, heading, bad_configuration, start_of, listing}
 use Rattle.laws.proofs.Tests.{split, cond-true, cond-false, cond_both}

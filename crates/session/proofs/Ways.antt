@@ -6,7 +6,7 @@ use lib.Seq.{sets, sets-eq}
 use Rattle.rules.specs.Layout.{block_bytes, file, slots, blocks}
 use Rattle.rules.specs.Errors.{XOK, ascii}
 use Rattle.rules.specs.SetUp.{set_up_answer, set_up_table}
-use Rattle.rules.specs.Step.{Call, Answer, Outcome, answer, step}
+use Rattle.rules.specs.Step.{Answer, Outcome, step}
 use Rattle.rules.specs.Replay.{max_replay_blocks, max_buffer, call_from, line, heading, bad_configuration, bad_script}
 use Rattle.laws.proofs.Tests.{cond-true, cond-false, cond_both}
 use Rattle.output.specs.Wrote.{Wrote}

@@ -1,6 +1,6 @@
 -- What a session does with a piece of the input: it reads up to the end of the configuration or of a call, a fault, or the piece's end, and writes the text that is due.
 -- (That all the text is the listing that the rules give is proved in proofs/Whole.antt.)
-use Rattle.std.specs.Prelude.{◌≡◌, ℕ, ◌+◌, ◌*◌, ◌%◌, ◌^◌, ◌≤◌, min, Bool, true, false, cond, not, List, [], length, take, set, replicate, ◌==◌, slice_index, slice_set}
+use Rattle.std.specs.Prelude.{◌≡◌, ℕ, ◌+◌, ◌*◌, ◌%◌, ◌^◌, ◌≤◌, min, Bool, true, false, cond, not, List, [], length, take, replicate, ◌==◌, slice_index, slice_set}
 use Rattle.std.proofs.lemmas.List.Edits.{sets}
 use Rattle.rules.specs.Layout.{block_bytes, process, segment, file, record_words, slots, blocks, configuration_words}
 use Rattle.rules.specs.Errors.{XOK}

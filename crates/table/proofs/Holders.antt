@@ -4,7 +4,7 @@ use mathlib.Core.Path.{fun_ext}
 use mathlib.Core.Bool.{and-true, and-false}
 use borrow.Author.Tests.{eqb-false}
 use Rattle.rules.specs.Claim.{test}
-use Rattle.rules.specs.Layout.{max_cells, max_slots, Kind, process, segment, file, record_words, cells, slots, cell_of, flows, flow_matrix, configuration, Addr, at, rd, live, serial}
+use Rattle.rules.specs.Layout.{max_cells, max_slots, Kind, process, segment, file, record_words, slots, cell_of, flows, flow_matrix, configuration, Addr, at, rd, live, serial}
 use Rattle.rules.specs.Seid.{class, class_of, index_of, serial_of, is_seid, subtype_class}
 use Rattle.rules.specs.WellFormed.{held_ok, current_ok, valid_use, write_use, object_entry_ok, subtype_entry_ok, holds_subtype, entry_ok}
 use Rattle.laws.proofs.Below.{one-le}

@@ -2,7 +2,7 @@
 use Rattle.std.proofs.Common.{◌≡◌, ℕ, ◌+◌, ◌%◌, ◌<◌, Bool, false, ◌&&◌, eqb, leb, List, length, get_or, replicate, sym, refl, ap, ◌∙◌, true≢false, arith}
 use Rattle.rules.specs.Words.{all_below, sum_below, count_below}
 use Rattle.rules.specs.Claim.{test, is}
-use Rattle.rules.specs.Layout.{max_slots, max_bits, max_links, entries, Kind, segment, file, blocks, configuration, Addr, at, rd, bits, sharable, size, references, links, opens, subtype}
+use Rattle.rules.specs.Layout.{max_slots, max_bits, max_links, entries, Kind, segment, file, configuration, Addr, at, rd, bits, sharable, size, references, links, opens, subtype}
 use Rattle.rules.specs.WellFormed.{record_ok, segment_size, segment_ok, file_subtype_ok, file_ok, own_entry, own_entries}
 use Rattle.laws.proofs.Tests.{refuted}
 use Rattle.laws.proofs.Below.{all-at, sum_more}

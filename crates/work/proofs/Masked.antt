@@ -9,7 +9,7 @@ use lib.ListN.{length}
 use lib.Seq.{sets}
 use borrow.Author.Tests.{le-leb}
 use Rattle.rules.specs.Words.{sum_below, tab_from}
-use Rattle.rules.specs.Layout.{max_slots, process, file, entries, held_at, cells, cell_slots, configuration, first_slot, at, offset, rd}
+use Rattle.rules.specs.Layout.{max_slots, process, file, entries, held_at, cell_slots, configuration, first_slot, at, offset, rd}
 use Rattle.rules.specs.Work.{most_masks, most_work, joined, mask, names, masks, rows}
 use Rattle.laws.proofs.Tests.{cond-true}
 use Rattle.laws.proofs.Tab.{length-tab}

@@ -1,7 +1,5 @@
 -- `call` meets its contract: refused where the table is bad, and else the call on the judged table.
-use Rattle.laws.proofs.Tests.{passed, failed}
 use Rattle.calls.proofs.Whole.{no_table, ready_by}
-use borrow.Author.Rules.{rules}
 use Rattle.calls.proofs.call.Goals as goal
 
 pub returns-then-not-judge : goal.returns-then-not-judge

@@ -1,5 +1,4 @@
 -- `call_quick` meets its contract: the caller's refusal, the code's, or the rule of the code carried out and the working slice made to follow.
-use borrow.Author.Rules.{rules}
 use Rattle.calls.specs.World.{Judged}
 use Rattle.calls.proofs.Whole.{known, store_long, caller-few, sound, sound-conf, no-caller, no_code, all_done, good-code}
 use Rattle.calls.proofs.TrayLaws.{ready-judged}

@@ -1,6 +1,5 @@
 -- `view` meets its contract: the part of the store that `view_part` tells of.
 use Rattle.calls.proofs.ViewLaws.{bytes-shown}
-use borrow.Author.Rules.{rules}
 use Rattle.calls.proofs.view.Goals as goal
 
 pub returns : goal.returns

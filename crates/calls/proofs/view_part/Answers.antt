@@ -8,12 +8,10 @@ use Rattle.rules.specs.Claim.{test}
 use Rattle.rules.specs.Layout.{configuration}
 use Rattle.rules.specs.WellFormed.{well_formed}
 use Rattle.layout.specs.Hall.{hall_bytes, hall_of, matrix_in}
-use Rattle.laws.proofs.Tests.{passed, failed}
 use Rattle.calls.proofs.Whole.{ready_by, store_long, caller-few, sound}
 use Rattle.calls.specs.World.{Judged}
 use Rattle.calls.proofs.TrayLaws.{ready-judged}
 use Rattle.calls.proofs.ViewLaws.{known_by, view-no-table, view-no-caller, view-done}
-use borrow.Author.Rules.{rules}
 use Rattle.calls.proofs.view_part.Goals.{Else-bad_caller}
 use Rattle.calls.proofs.view_part.Goals as goal
 

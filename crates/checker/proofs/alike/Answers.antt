@@ -1,5 +1,4 @@
 -- `checker::alike` meets its contract: both bytes are there, or one of them is not.
-use Rattle.std.proofs.Common.{rules}
 use Rattle.checker.proofs.Ways.{asked-both, asked-ended, asked-past, asked-none}
 use Rattle.checker.proofs.alike.Goals as goal
 

@@ -1,8 +1,6 @@
 -- `checker::compare` meets its contract: from each place the rest agrees as far as the whole does.
-use Rattle.std.proofs.Common.{◌≡◌, ℕ, ◌-◌, ◌<◌, true, List, length, take, drop, sym, refl, ap, ◌∙◌, arith, length-take, rules}
-use Rattle.checker.specs.Scan.{agreeing, alike}
-use Rattle.checker.specs.Check.{met}
-use Rattle.checker.proofs.Ways.{alike-inside, agree-one, agree-none}
+use Rattle.std.proofs.Common.{◌≡◌, ◌-◌, length, take, drop}
+use Rattle.checker.specs.Scan.{agreeing}
 use Rattle.checker.proofs.compare.Given as goal
 
 abbrev pub invariant-loop-within : goal.invariant-loop-within

@@ -1,5 +1,5 @@
 -- `checker::due` meets its contract: where text waits nothing is done, else the session takes a turn.
-use Rattle.std.proofs.Common.{sym, ◌∙◌, rules}
+use Rattle.std.proofs.Common.{sym, ◌∙◌}
 use Rattle.checker.proofs.Ways.{due-waits, due-steps}
 use Rattle.checker.proofs.due.Goals as goal
 

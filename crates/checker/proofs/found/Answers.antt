@@ -1,5 +1,5 @@
 -- `checker::found` meets its contract, case by case.
-use Rattle.std.proofs.Common.{sym, ◌∙◌, rules}
+use Rattle.std.proofs.Common.{sym, ◌∙◌}
 use Rattle.checker.proofs.Ways.{found-wrong, found-missing, found-longer, found-over, found-cut, found-agree}
 use Rattle.checker.proofs.found.Goals as goal
 

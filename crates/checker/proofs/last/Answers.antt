@@ -1,5 +1,5 @@
 -- `checker::last` meets its contract: where text waits nothing is done, else the session's last text is due.
-use Rattle.std.proofs.Common.{sym, ◌∙◌, rules}
+use Rattle.std.proofs.Common.{sym, ◌∙◌}
 use Rattle.checker.proofs.Ways.{last-waits, last-text}
 use Rattle.checker.proofs.last.Goals as goal
 

@@ -1,5 +1,5 @@
 -- `checker::lines_after` meets its contract: a newline ends a line.
-use Rattle.std.proofs.Common.{sym, ◌∙◌, rules, eq-eqb, ne_eqb}
+use Rattle.std.proofs.Common.{sym, ◌∙◌, eq-eqb, ne_eqb}
 use Rattle.laws.proofs.Tests.{cond-true, cond-false}
 use Rattle.rules.specs.Finding.{ends_line}
 use Rattle.checker.proofs.lines_after.Goals as goal

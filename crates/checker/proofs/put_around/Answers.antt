@@ -1,5 +1,4 @@
 -- `checker::put_around` meets its contract: its three parts, one after the other.
-use Rattle.std.proofs.Common.{rules}
 use Rattle.output.proofs.Laws.{then}
 use Rattle.checker.proofs.put_around.Goals as goal
 

@@ -1,5 +1,4 @@
 -- `checker::put_finding` meets its contract: the four byte strings are the rules' words.
-use Rattle.std.proofs.Common.{rules}
 use Rattle.rules.specs.Errors.{ascii}
 use Rattle.rules.specs.Finding.{said}
 use Rattle.checker.specs.declared.Finding.TheVariants as found

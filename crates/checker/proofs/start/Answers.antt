@@ -1,5 +1,5 @@
 -- `checker::start` meets its contract: a new session, and nothing compared.
-use Rattle.std.proofs.Common.{ap, rules}
+use Rattle.std.proofs.Common.{ap}
 use Rattle.session.specs.declared.Session.{Session}
 use Rattle.checker.specs.Check.{new_check, filled}
 use Rattle.checker.proofs.start.Goals as goal

@@ -1,9 +1,6 @@
 -- `image::copy` meets its contract: the first i words are copied.
 use mathlib.Core.Path.{refl, sym}
-use Prim.Native.Nat.{◌-◌}
-use lib.ListN.{length}
-use borrow.Author.Rules.{rules}
-use Rattle.image.proofs.Copying.{Copying, copying-none, copying-more, copying-all}
+use Rattle.image.proofs.Copying.{copying-none, copying-more, copying-all}
 use Rattle.image.proofs.copy.Goals as goal
 
 pub loop-i-init : goal.loop-i-init

@@ -1,9 +1,7 @@
 -- `image::copy` meets its contract: the first i words are copied.
-use mathlib.Core.Path.{refl, sym}
 use Prim.Native.Nat.{◌-◌}
 use lib.ListN.{length}
-use borrow.Author.Rules.{rules}
-use Rattle.image.proofs.Copying.{Copying, copying-none, copying-more, copying-all}
+use Rattle.image.proofs.Copying.{Copying}
 use Rattle.image.proofs.copy.Given as goal
 
 abbrev pub invariant-loop-i : goal.invariant-loop-i

@@ -1,5 +1,4 @@
 -- `image::image` meets its contract: no length, a short buffer, and neither.
-use borrow.Author.Rules.{rules}
 use Rattle.image.proofs.Imaged.{no-image, too_short, is-put}
 use Rattle.image.proofs.image.Goals as goal
 

@@ -1,8 +1,6 @@
 -- `image::image_length` meets its contract.
 use mathlib.Core.Path.{sym, ◌∙◌}
 use native.Mathlib.Omega.{arith}
-use borrow.Author.Rules.{rules}
-use Rattle.laws.proofs.Tests.{passed, failed}
 use Rattle.image.proofs.Largest.{few_words, small-image}
 use Rattle.image.proofs.Imaged.{length-bad, length-good}
 use Rattle.image.proofs.image_length.Goals as goal

@@ -1,9 +1,7 @@
 -- `image::put_words` meets its contract: the words so far are written.
 use Prim.Native.Nat.{◌-◌}
 use lib.ListN.{length}
-use borrow.Author.Rules.{rules}
-use Rattle.output.proofs.Laws.{same_size}
-use Rattle.image.proofs.Lengths.{Put, put-none, put-more, put_all}
+use Rattle.image.proofs.Lengths.{Put}
 use Rattle.image.proofs.put_words.Given as goal
 
 abbrev pub invariant-loop-i : goal.invariant-loop-i

@@ -1,6 +1,5 @@
 -- `image::reload` meets its contract: a table longer than the largest is refused, and else the front of a local array that has room for it is lent.
 use mathlib.Core.Path.{sym}
-use borrow.Author.Rules.{rules}
 use Rattle.image.specs.Largest.{most_words, few_words}
 use Rattle.image.proofs.Reloading.{too_long, front_length}
 use Rattle.image.proofs.reload.Goals as goal

@@ -1,5 +1,4 @@
 -- `image::reload_by` meets its contract: read, judged, and taken where it is good.
-use borrow.Author.Rules.{rules}
 use Rattle.image.proofs.Scanned.{told-inside}
 use Rattle.image.proofs.Reloading.{reload-left}
 use Rattle.image.proofs.reload_by.Goals as goal

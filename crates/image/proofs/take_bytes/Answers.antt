@@ -1,6 +1,5 @@
 -- `image::take_bytes` meets its contract.
 use mathlib.Core.Path.{sym, ◌∙◌}
-use borrow.Author.Rules.{rules}
 use Rattle.laws.proofs.Tests.{cond-true, cond-false}
 use Rattle.image.proofs.take_bytes.Goals as goal
 

@@ -1,6 +1,5 @@
 -- `image::take_words` meets its contract.
 use mathlib.Core.Path.{sym, ◌∙◌}
-use borrow.Author.Rules.{rules}
 use Rattle.laws.proofs.Tests.{cond-true, cond-false}
 use Rattle.image.proofs.take_words.Goals as goal
 

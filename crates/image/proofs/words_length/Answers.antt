@@ -1,9 +1,6 @@
 -- `image::words_length` meets its contract: the bytes of the words so far.
-use Prim.Native.Nat.{◌-◌}
 use native.Mathlib.Omega.{arith}
-use lib.ListN.{length}
-use borrow.Author.Rules.{rules}
-use Rattle.image.proofs.Lengths.{Counted, counted_none, counted-more, counted-all, few-each}
+use Rattle.image.proofs.Lengths.{counted_none, counted-more, counted-all, few-each}
 use Rattle.image.proofs.words_length.Goals as goal
 
 pub loop-i-init : goal.loop-i-init

@@ -1,6 +1,5 @@
 -- `layout::header_of` meets its contract: the header's words, each as the rules have it.
 use mathlib.Core.Path.{refl}
-use borrow.Author.Rules.{rules}
 use Rattle.rules.specs.Layout.{cells, slots, blocks, guard, subtypes}
 use Rattle.layout.proofs.header_of.Goals as goal
 

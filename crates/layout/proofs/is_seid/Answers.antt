@@ -1,5 +1,4 @@
 -- `layout::is_seid` meets its contract: the code's tests are the rule's.
-use borrow.Author.Rules.{rules}
 use Rattle.rules.specs.Seid.{is_seid}
 use Rattle.layout.proofs.is_seid.Goals as goal
 

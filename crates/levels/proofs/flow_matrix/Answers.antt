@@ -1,10 +1,7 @@
 -- `levels::flow_matrix` meets its contract: the first c rows are the rule's, row c is up to its entry d, and the others are no, as the rows past the last cell are.
-use mathlib.Core.Path.{◌≡◌, refl}
-use Prim.Native.Nat.{◌≤◌, ◌-◌}
-use lib.ListN.{set}
+use mathlib.Core.Path.{refl}
 use Rattle.rules.specs.Words.{tab_from}
-use Rattle.levels.proofs.Cells.{row_to, rows_to, row-begun, row_more, row_done, matrix-all}
-use borrow.Author.Rules.{rules}
+use Rattle.levels.proofs.Cells.{row-begun, row_more, row_done, matrix-all}
 use native.Mathlib.Omega.{arith}
 use Rattle.levels.proofs.flow_matrix.Goals as goal
 

@@ -1,11 +1,8 @@
 -- `levels::flow_matrix` meets its contract: the first c rows are the rule's, row c is up to its entry d, and the others are no, as the rows past the last cell are.
-use mathlib.Core.Path.{◌≡◌, refl}
+use mathlib.Core.Path.{◌≡◌}
 use Prim.Native.Nat.{◌≤◌, ◌-◌}
 use lib.ListN.{set}
-use Rattle.rules.specs.Words.{tab_from}
-use Rattle.levels.proofs.Cells.{row_to, rows_to, row-begun, row_more, row_done, matrix-all}
-use borrow.Author.Rules.{rules}
-use native.Mathlib.Omega.{arith}
+use Rattle.levels.proofs.Cells.{row_to, rows_to}
 use Rattle.levels.proofs.flow_matrix.Given as goal
 
 abbrev pub invariant-loop-d : goal.invariant-loop-d

@@ -1,5 +1,4 @@
 -- `levels::level_at` meets its contract: the words of a cell of the table are in its configuration, and past the last cell there are none.
-use borrow.Author.Rules.{rules}
 use Rattle.levels.proofs.Cells.{level_in_lem, level-past}
 use Rattle.levels.proofs.level_at.Goals as goal
 

@@ -1,11 +1,9 @@
 -- `levels::levels` meets its contract: the first c are the cells' levels and the others zero, as the levels past the last cell are.
-use mathlib.Core.Path.{◌≡◌, refl, ap}
-use Prim.Native.Nat.{◌≤◌, ◌-◌}
+use mathlib.Core.Path.{refl, ap}
 use native.Mathlib.Omega.{arith}
-use borrow.Author.Rules.{rules}
 use Rattle.rules.specs.Words.{tab_from}
 use Rattle.rules.specs.Layout.{max_cells}
-use Rattle.laws.proofs.Fill.{up_to, up_to-more}
+use Rattle.laws.proofs.Fill.{up_to-more}
 use Rattle.levels.specs.Rule.{code_level}
 use Rattle.levels.proofs.Cells.{level_in, nil, levels-all}
 use Rattle.levels.proofs.levels.Goals as goal

@@ -1,13 +1,10 @@
 -- `levels::levels` meets its contract: the first c are the cells' levels and the others zero, as the levels past the last cell are.
-use mathlib.Core.Path.{◌≡◌, refl, ap}
+use mathlib.Core.Path.{◌≡◌}
 use Prim.Native.Nat.{◌≤◌, ◌-◌}
-use native.Mathlib.Omega.{arith}
-use borrow.Author.Rules.{rules}
 use Rattle.rules.specs.Words.{tab_from}
 use Rattle.rules.specs.Layout.{max_cells}
-use Rattle.laws.proofs.Fill.{up_to, up_to-more}
-use Rattle.levels.specs.Rule.{code_level}
-use Rattle.levels.proofs.Cells.{level_in, nil, levels-all}
+use Rattle.laws.proofs.Fill.{up_to}
+use Rattle.levels.proofs.Cells.{level_in, nil}
 use Rattle.levels.proofs.levels.Given as goal
 
 abbrev pub invariant-loop-c : goal.invariant-loop-c

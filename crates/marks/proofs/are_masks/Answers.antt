@@ -1,7 +1,6 @@
 -- `are_masks` meets its contract.
 use Rattle.marks.proofs.Made.{compared-not, compared-none, compared-short, compared-all}
 use native.Mathlib.Omega.{arith}
-use borrow.Author.Rules.{rules}
 use Rattle.marks.proofs.are_masks.Goals as goal
 
 pub returns-then-first_file-files-gt-MAX_SLOTS : goal.returns-then-first_file-files-gt-MAX_SLOTS

@@ -1,6 +1,5 @@
 -- `bit_clash` meets its contract.
 use Rattle.marks.proofs.Steps.{bit-there, bit_not}
-use borrow.Author.Rules.{rules}
 use Rattle.marks.proofs.bit_clash.Goals as goal
 
 pub returns-then-x-eq1 : goal.returns-then-x-eq1

@@ -1,7 +1,6 @@
 -- `mark` meets its contract.
 use Rattle.marks.proofs.Steps.{mark-given, mark-full, mark-past}
 use native.Mathlib.Omega.{arith}
-use borrow.Author.Rules.{rules}
 use Rattle.marks.proofs.mark.Goals as goal
 
 pub returns-then-mask-lt-MASKS : goal.returns-then-mask-lt-MASKS

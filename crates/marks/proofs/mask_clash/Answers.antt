@@ -1,10 +1,6 @@
 -- `mask_clash` meets its contract: what is left to look at from here on decides.
-use mathlib.Core.Path.{◌≡◌, refl, sym, ◌∙◌}
-use Prim.Native.Nat.{◌≤◌, ◌-◌}
-use Rattle.rules.specs.Layout.{entries}
-use Rattle.marks.specs.Masks.{met}
+use mathlib.Core.Path.{refl, sym, ◌∙◌}
 use Rattle.marks.proofs.Steps.{met-zero, met-turn, met-hit, met-past}
-use borrow.Author.Rules.{rules}
 use native.Mathlib.Omega.{arith}
 use Rattle.marks.proofs.mask_clash.Goals as goal
 

@@ -4,7 +4,6 @@ use lib.Pow.{pow-lt}
 use Rattle.rules.specs.Words.{tab_from}
 use Rattle.rules.specs.Layout.{entries}
 use Rattle.laws.proofs.Fill.{tab-at}
-use borrow.Author.Rules.{rules}
 use Rattle.marks.proofs.power.Goals as goal
 
 pub returns : goal.returns

@@ -1,6 +1,5 @@
 -- `put_masks` meets its contract: the masks passed are stored.
-use Prim.Native.Nat.{◌≤◌, ◌-◌}
-use Rattle.marks.proofs.Made.{StoredTo, stored-none, stored_more, stored-long, stored-all, stored-not}
+use Rattle.marks.proofs.Made.{stored-none, stored_more, stored-long, stored-all, stored-not}
 use borrow.Author.Rules.{rules}
 use native.Mathlib.Omega.{arith}
 use Rattle.marks.proofs.put_masks.Goals as goal

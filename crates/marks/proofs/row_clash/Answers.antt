@@ -1,7 +1,5 @@
 -- `row_clash` meets its contract: no mask passed names a descriptor that clashes.
-use Prim.Native.Nat.{◌≤◌, ◌-◌}
-use Rattle.marks.proofs.Steps.{step_fits, Missed, missed-none, missed_more, row-hit, row-missed}
-use borrow.Author.Rules.{rules}
+use Rattle.marks.proofs.Steps.{step_fits, missed-none, missed_more, row-hit, row-missed}
 use native.Mathlib.Omega.{arith}
 use Rattle.marks.proofs.row_clash.Goals as goal
 

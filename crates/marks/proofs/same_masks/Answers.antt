@@ -1,8 +1,5 @@
 -- `same_masks` meets its contract: the words passed are the same.
 use mathlib.Core.Path.{◌≡◌, refl, sym}
-use Prim.Native.Nat.{◌+◌, ◌-◌, ◌≤◌}
-use lib.Dec.{eqb}
-use lib.ListN.{get_or}
 use Rattle.rules.specs.Words.{all_below}
 use Rattle.laws.proofs.Below.{all_more}
 use borrow.Author.Rules.{rules}

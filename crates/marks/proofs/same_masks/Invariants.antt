@@ -1,12 +1,9 @@
 -- `same_masks` meets its contract: the words passed are the same.
-use mathlib.Core.Path.{◌≡◌, refl, sym}
+use mathlib.Core.Path.{◌≡◌}
 use Prim.Native.Nat.{◌+◌, ◌-◌, ◌≤◌}
 use lib.Dec.{eqb}
 use lib.ListN.{get_or}
 use Rattle.rules.specs.Words.{all_below}
-use Rattle.laws.proofs.Below.{all_more}
-use borrow.Author.Rules.{rules}
-use native.Mathlib.Omega.{arith}
 use Rattle.marks.proofs.same_masks.Given as goal
 
 abbrev pub invariant-loop-i : goal.invariant-loop-i

@@ -1,7 +1,6 @@
 -- `unmark` meets its contract.
 use Rattle.marks.proofs.Steps.{mark-taken, mark-none, unmark-past}
 use native.Mathlib.Omega.{arith}
-use borrow.Author.Rules.{rules}
 use Rattle.marks.proofs.unmark.Goals as goal
 
 pub returns-then-taken-mask : goal.returns-then-taken-mask

@@ -2,7 +2,6 @@
 use mathlib.Core.Path.{sym, ◌∙◌}
 use mathlib.Core.Bool.{false}
 use mathlib.Core.List.{[]}
-use borrow.Author.Rules.{rules}
 use Rattle.rules.specs.Words.{tab_from}
 use Rattle.rules.specs.Modes.{clash, excludes_readers, excludes_writers, writes}
 use Rattle.laws.proofs.Tab.{get_or-tab2}

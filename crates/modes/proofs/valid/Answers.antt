@@ -1,7 +1,6 @@
 -- `modes::valid` meets its contract: the table is the rule's, and past it no number is valid.
 use mathlib.Core.Path.{sym}
 use mathlib.Core.Bool.{false}
-use borrow.Author.Rules.{rules}
 use Rattle.rules.specs.Words.{tab_from}
 use Rattle.rules.specs.Modes.{valid_modes}
 use Rattle.laws.proofs.Fill.{tab-at}

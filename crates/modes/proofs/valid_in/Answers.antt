@@ -1,6 +1,5 @@
 -- `modes::valid_in` meets its contract: within the table its word, and past it no.
 use borrow.Author.Tests.{lt-ltb, le-ltb}
-use borrow.Author.Rules.{rules}
 use Rattle.modes.proofs.valid_in.Goals as goal
 
 pub returns-then-i-lt-NUMBERS : goal.returns-then-i-lt-NUMBERS

@@ -1,7 +1,6 @@
 -- `monitor_check` meets its contract: the answer is the number of what the check found.
 use mathlib.Core.Path.{ap, sym, ◌∙◌}
 use mathlib.Core.Bool.{cond}
-use borrow.Author.Rules.{rules}
 use Rattle.monitor.proofs.monitor_check.Goals as goal
 
 pub returns-then-check : goal.returns-then-check

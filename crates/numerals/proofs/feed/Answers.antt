@@ -1,5 +1,4 @@
 -- `numerals::feed` meets its contract, way by way.
-use borrow.Author.Rules.{rules}
 use borrow.Author.Tests.{le-leb, lt-leb}
 use Rattle.numerals.specs.Fed.{fed_by}
 use Rattle.numerals.proofs.feed.Goals as goal

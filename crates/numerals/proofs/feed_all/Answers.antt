@@ -1,9 +1,5 @@
 -- `numerals::feed_all` meets its contract: from each place on, the rest of the bytes makes of the part what all of them make of the first.
-use mathlib.Core.Path.{◌≡◌, refl, ◌∙◌}
-use Prim.Native.Nat.{◌-◌}
-use lib.ListN.{length, drop}
-use borrow.Author.Rules.{rules}
-use Rattle.numerals.specs.Fed.{scan_of}
+use mathlib.Core.Path.{refl, ◌∙◌}
 use Rattle.numerals.proofs.Scanning.{code-more, code-done, code-bad, code-end}
 use Rattle.numerals.proofs.feed_all.Goals as goal
 

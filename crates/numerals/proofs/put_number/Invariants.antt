@@ -1,8 +1,5 @@
 -- `numerals::put_number` meets its contract: at each turn, what is written and the groups of the rest are the number's.
-use borrow.Author.Rules.{rules}
-use native.Mathlib.Omega.{arith}
-use Rattle.output.proofs.Laws.{same_size}
-use Rattle.numerals.proofs.Groups.{Begun, begin, one_more, end}
+use Rattle.numerals.proofs.Groups.{Begun}
 use Rattle.numerals.proofs.put_number.Given as goal
 
 abbrev pub invariant-loop-rest : goal.invariant-loop-rest

@@ -1,5 +1,4 @@
 -- `rights::access` meets its contract: the four cases.
-use borrow.Author.Rules.{rules}
 use Rattle.rules.specs.Rights.{access}
 use Rattle.rights.proofs.access.Goals as goal
 

@@ -1,5 +1,4 @@
 -- `rights::lacks` meets its contract: the code's tests are the rule's.
-use borrow.Author.Rules.{rules}
 use Rattle.rules.specs.Rights.{lacks}
 use Rattle.rights.proofs.lacks.Goals as goal
 

@@ -1,9 +1,5 @@
 -- `script::advance` meets its contract: from each place on, the rest of the piece comes to what the whole does.
-use mathlib.Core.Path.{◌≡◌, refl, ◌∙◌}
-use Prim.Native.Nat.{◌-◌}
-use lib.ListN.{length, drop}
-use borrow.Author.Tests.{not-true, not-false}
-use Rattle.script.specs.Advance.{advance}
+use mathlib.Core.Path.{refl, ◌∙◌}
 use Rattle.script.proofs.Piece.{code-ends}
 use Rattle.script.proofs.Stretch.{code-goes-on, code-stops}
 use borrow.Author.Rules.{rules}

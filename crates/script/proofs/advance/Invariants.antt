@@ -1,13 +1,8 @@
 -- `script::advance` meets its contract: from each place on, the rest of the piece comes to what the whole does.
-use mathlib.Core.Path.{◌≡◌, refl, ◌∙◌}
+use mathlib.Core.Path.{◌≡◌}
 use Prim.Native.Nat.{◌-◌}
 use lib.ListN.{length, drop}
-use borrow.Author.Tests.{not-true, not-false}
 use Rattle.script.specs.Advance.{advance}
-use Rattle.script.proofs.Piece.{code-ends}
-use Rattle.script.proofs.Stretch.{code-goes-on, code-stops}
-use borrow.Author.Rules.{rules}
-use native.Mathlib.Omega.{arith}
 use Rattle.script.proofs.advance.Given as goal
 
 abbrev pub invariant-loop-i : goal.invariant-loop-i

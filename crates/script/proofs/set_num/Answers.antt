@@ -2,7 +2,6 @@
 use mathlib.Core.Path.{◌≡◌, sym}
 use lib.ListN.{length}
 use lib.Seq.{set_out}
-use borrow.Author.Rules.{rules}
 use Rattle.script.proofs.set_num.Goals as goal
 
 pub returns : goal.returns

@@ -1,5 +1,4 @@
 -- `session::act` meets its contract, by what was read.
-use Rattle.std.proofs.Common.{rules}
 use Rattle.session.proofs.Ways.{act-more, act-configuration, act-call, act-fault}
 use Rattle.session.proofs.act.Goals as goal
 

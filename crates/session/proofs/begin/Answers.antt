@@ -1,5 +1,4 @@
 -- `session::begin` meets its contract.
-use Rattle.std.proofs.Common.{rules}
 use Rattle.session.proofs.Ways.{begun}
 use Rattle.session.proofs.begin.Goals as goal
 

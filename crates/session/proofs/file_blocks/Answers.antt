@@ -1,5 +1,5 @@
 -- `session::file_blocks` meets its contract: the product of two words fits.
-use Rattle.std.proofs.Common.{arith, rules}
+use Rattle.std.proofs.Common.{arith}
 use Rattle.rules.specs.Layout.{slots, blocks}
 use Rattle.session.proofs.Ways.{product-fits}
 use Rattle.session.proofs.file_blocks.Goals as goal

@@ -1,5 +1,5 @@
 -- `session::finish` meets its contract, way by way.
-use Rattle.std.proofs.Common.{sym, ◌∙◌, rules}
+use Rattle.std.proofs.Common.{sym, ◌∙◌}
 use Rattle.session.proofs.Ways.{finish-over, finish-between, finish-mid}
 use Rattle.session.proofs.finish.Goals as goal
 

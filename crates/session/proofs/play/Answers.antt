@@ -1,8 +1,6 @@
 -- `session::play` meets its contract: what is written so far, and what playing the rest comes to, is what playing the whole does.
-use Rattle.std.proofs.Common.{◌≡◌, ◌-◌, ◌≤◌, length, take, drop, refl, arith, rules}
-use Rattle.output.specs.Wrote.{Wrote}
+use Rattle.std.proofs.Common.{drop, refl, arith, rules}
 use Rattle.output.proofs.Laws.{none}
-use Rattle.session.specs.Play.{after, play}
 use Rattle.session.proofs.Due.{nearer}
 use Rattle.session.proofs.Playing.{play-starts, inside, again-written, again-same, ended, filled}
 use Rattle.session.proofs.play.Goals as goal

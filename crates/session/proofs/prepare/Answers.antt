@@ -1,5 +1,4 @@
 -- `session::prepare` meets its contract.
-use Rattle.std.proofs.Common.{rules}
 use Rattle.session.proofs.Ways.{lent_length, prepared}
 use Rattle.session.proofs.prepare.Goals as goal
 

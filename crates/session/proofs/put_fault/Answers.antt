@@ -1,5 +1,4 @@
 -- `session::put_fault` meets its contract: the two byte strings are the rules' two lines.
-use Rattle.std.proofs.Common.{rules}
 use Rattle.rules.specs.Errors.{ascii}
 use Rattle.rules.specs.Replay.{bad_configuration, bad_script}
 use Rattle.session.proofs.Ways.{fault-script, fault-configuration}

@@ -1,5 +1,4 @@
 -- `session::put_opening` meets its contract: the byte string is the heading.
-use Rattle.std.proofs.Common.{rules}
 use Rattle.rules.specs.Errors.{ascii}
 use Rattle.rules.specs.Replay.{heading}
 use Rattle.session.proofs.Ways.{opening-heading, opening-bad}

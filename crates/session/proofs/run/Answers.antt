@@ -1,5 +1,5 @@
 -- `session::run` meets its contract.
-use Rattle.std.proofs.Common.{ℕ, min, refl, ap, ◌∙◌, rules}
+use Rattle.std.proofs.Common.{ℕ, min, refl, ap, ◌∙◌}
 use Rattle.rules.specs.Replay.{max_buffer}
 use Rattle.session.proofs.Ways.{lent_length, lent_again, ran}
 use Rattle.session.proofs.run.Goals as goal

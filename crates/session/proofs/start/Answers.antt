@@ -1,5 +1,4 @@
 -- `session::start` meets its contract.
-use Rattle.std.proofs.Common.{rules}
 use Rattle.session.proofs.start.Goals as goal
 
 pub returns : goal.returns

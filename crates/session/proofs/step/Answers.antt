@@ -1,5 +1,4 @@
 -- `session::step` meets its contract: a session that is over reads nothing, any other acts on what was read.
-use Rattle.std.proofs.Common.{rules}
 use Rattle.session.proofs.Ways.{step-over, step-on}
 use Rattle.session.proofs.step.Goals as goal
 

@@ -1,5 +1,4 @@
 -- `session::table_words` meets its contract.
-use Rattle.std.proofs.Common.{rules}
 use Rattle.rules.specs.Layout.{cells, subtypes, slots}
 use Rattle.session.proofs.table_words.Goals as goal
 

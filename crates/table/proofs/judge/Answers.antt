@@ -1,6 +1,5 @@
 -- `judge` meets its contract: the shape, then the records, which the hall is told of.
-use Rattle.std.proofs.Common.{sym, ◌∙◌, rules}
-use Rattle.laws.proofs.Tests.{passed, failed}
+use Rattle.std.proofs.Common.{sym, ◌∙◌}
 use Rattle.table.proofs.Config.{header_read}
 use Rattle.table.proofs.Formed.{shaped_of, misshapen, shapen}
 use Rattle.table.proofs.judge.Goals as goal

@@ -1,6 +1,5 @@
 -- `judge_records` meets its contract: what is found of the slots and the flows serves the judging, and is what the hall is told.
-use Rattle.std.proofs.Common.{sym, ◌∙◌, rules}
-use Rattle.laws.proofs.Tests.{passed, failed}
+use Rattle.std.proofs.Common.{sym, ◌∙◌}
 use Rattle.table.proofs.Filled.{few-slots, cells_of}
 use Rattle.table.proofs.Told.{told_is}
 use Rattle.table.proofs.judge_records.Goals as goal

@@ -1,6 +1,5 @@
 -- `records_ok` meets its contract: a wrong process decides, else segments and files do.
-use Rattle.std.proofs.Common.{◌&&◌, sym, ◌∙◌, ap₂, rules}
-use Rattle.laws.proofs.Tests.{passed, failed}
+use Rattle.std.proofs.Common.{◌&&◌, sym, ◌∙◌, ap₂}
 use Rattle.table.proofs.Object.{tally-none}
 use Rattle.table.proofs.Formed.{wrong-process, right-processes}
 use Rattle.table.proofs.records_ok.Goals as goal

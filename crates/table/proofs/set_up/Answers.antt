@@ -1,6 +1,5 @@
 -- `set_up` meets its contract: a shape that is wrong is refused, and else the records are cleared and the first processes begin.
-use Rattle.std.proofs.Common.{sym, ◌∙◌, rules}
-use Rattle.laws.proofs.Tests.{passed, failed}
+use Rattle.std.proofs.Common.{sym, ◌∙◌}
 use Rattle.table.proofs.Config.{header_read}
 use Rattle.table.proofs.Formed.{shaped_of}
 use Rattle.table.proofs.Begun.{clear-from, begin-from, fresh-done, refused-answer, refused-table, done-answer, done-table, right-configuration}

@@ -3,7 +3,6 @@ use mathlib.Core.List.{[]}
 use mathlib.Core.Path.{ap, ◌∙◌}
 use Prim.Native.Nat.{ℕ}
 use native.Mathlib.Nat.{zero-add}
-use borrow.Author.Rules.{rules}
 use Rattle.rules.specs.Words.{tab_from}
 use Rattle.rules.specs.Errors.{ascii, error_names, error_name}
 use Rattle.laws.proofs.Tab.{get_or-tab}

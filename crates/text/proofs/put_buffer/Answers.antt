@@ -1,6 +1,5 @@
 -- `text::put_buffer` meets its contract: a space and the hex digits where they are shown, else nothing.
 use mathlib.Core.Path.{sym, ◌∙◌}
-use borrow.Author.Rules.{rules}
 use Rattle.laws.proofs.Tests.{cond-true, cond-false}
 use Rattle.output.proofs.Laws.{none, then, as-text}
 use Rattle.text.proofs.put_buffer.Goals as goal

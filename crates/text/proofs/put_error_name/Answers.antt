@@ -1,5 +1,4 @@
 -- `text::put_error_name` meets its contract: the front of the error's row is its name.
-use borrow.Author.Rules.{rules}
 use Rattle.output.proofs.Laws.{none, as-text}
 use Rattle.text.proofs.Names.{no_name, front, in_row, front_long}
 use Rattle.text.proofs.put_error_name.Goals as goal

@@ -1,5 +1,4 @@
 -- `text::put_front` meets its contract: four texts, one after the other.
-use borrow.Author.Rules.{rules}
 use Rattle.output.proofs.Laws.{then}
 use Rattle.text.proofs.put_front.Goals as goal
 

@@ -3,7 +3,6 @@ use mathlib.Core.Bool.{cond}
 use mathlib.Core.List.{List, [], ◌++◌, append_assoc}
 use mathlib.Core.Path.{◌≡◌}
 use Prim.Native.Nat.{ℕ}
-use borrow.Author.Rules.{rules}
 use Rattle.rules.specs.Errors.{error_name}
 use Rattle.rules.specs.Step.{answer}
 use Rattle.rules.specs.Replay.{decimal, hex, space, newline, shows_buffer, line}

@@ -1,5 +1,4 @@
 -- `text::put_results` meets its contract: three texts, one after the other.
-use borrow.Author.Rules.{rules}
 use Rattle.output.proofs.Laws.{then}
 use Rattle.text.proofs.put_results.Goals as goal
 

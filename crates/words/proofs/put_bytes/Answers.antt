@@ -1,8 +1,6 @@
 -- `words::put_bytes` meets its contract: the first i bytes that find room are copied, and the others change nothing.
 use mathlib.Core.Path.{refl}
-use Prim.Native.Nat.{◌-◌}
-use borrow.Author.Rules.{rules}
-use Rattle.words.proofs.Copies.{Copied, copied_none, copied_more, copied_all}
+use Rattle.words.proofs.Copies.{copied_none, copied_more, copied_all}
 use Rattle.words.proofs.put_bytes.Goals as goal
 
 pub loop-i-init : goal.loop-i-init

@@ -1,10 +1,8 @@
 -- `words::put_zeros` meets its contract: a copy of n zeros.
 use mathlib.Core.Path.{sym}
-use Prim.Native.Nat.{◌-◌}
 use native.Mathlib.Omega.{arith}
-use lib.ListN.{replicate, get_or-replicate}
-use borrow.Author.Rules.{rules}
-use Rattle.words.proofs.Copies.{Copied, copied_none, copied_more, copied_all, as_many}
+use lib.ListN.{get_or-replicate}
+use Rattle.words.proofs.Copies.{copied_none, copied_more, copied_all, as_many}
 use Rattle.words.proofs.put_zeros.Goals as goal
 
 pub loop-j-init : goal.loop-j-init

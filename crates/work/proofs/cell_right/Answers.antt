@@ -1,13 +1,10 @@
 -- `cell_right` meets its contract: the masks of the processes passed stand there.
-use mathlib.Core.Path.{◌≡◌, ap, ◌∙◌}
-use Prim.Native.Nat.{◌-◌, ◌≤◌}
+use mathlib.Core.Path.{ap, ◌∙◌}
 use native.Mathlib.Omega.{arith}
-use Rattle.rules.specs.Work.{joined}
 use Rattle.work.specs.Parts.{stands_at}
 use Rattle.work.proofs.Joined.{stands-none}
 use Rattle.work.proofs.Sized.{pair-few}
-use Rattle.work.proofs.Masked.{row_from, row_seen, all-processes}
-use borrow.Author.Rules.{rules}
+use Rattle.work.proofs.Masked.{row_seen, all-processes}
 use Rattle.work.proofs.cell_right.Goals as goal
 
 pub loop-i-init : goal.loop-i-init

@@ -1,6 +1,5 @@
 -- `cell_slots` meets its contract: the cell's word for the kind.
 use Rattle.rules.specs.Layout.{cell_word}
-use borrow.Author.Rules.{rules}
 use Rattle.work.proofs.cell_slots.Goals as goal
 
 pub returns : goal.returns

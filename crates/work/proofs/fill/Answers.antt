@@ -3,9 +3,7 @@ use mathlib.Core.Path.{◌≡◌, sym, ◌∙◌}
 use native.Mathlib.Omega.{arith}
 use lib.ListN.{length}
 use Rattle.rules.specs.Work.{work_in}
-use Rattle.laws.proofs.Tests.{passed, failed}
 use Rattle.work.proofs.Whole.{well-shaped, all-put, fill-bad, fill-other, fill_done}
-use borrow.Author.Rules.{rules}
 use Rattle.work.proofs.fill.Goals as goal
 
 pub returns-then-not-check : goal.returns-then-not-check

@@ -3,11 +3,9 @@ use mathlib.Core.Path.{◌≡◌, sym, ◌∙◌}
 use native.Mathlib.Omega.{arith}
 use lib.ListN.{length}
 use Rattle.rules.specs.Work.{work_in}
-use Rattle.laws.proofs.Tests.{passed, failed}
 use Rattle.table.proofs.Config.{header_read}
 use Rattle.table.proofs.Formed.{shaped_of}
 use Rattle.work.proofs.Whole.{all_seen, fits-bad, fits-other, fits-seen}
-use borrow.Author.Rules.{rules}
 use Rattle.work.proofs.fits.Goals as goal
 
 pub returns-then-not-can_set_up : goal.returns-then-not-can_set_up

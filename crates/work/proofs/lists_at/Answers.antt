@@ -1,6 +1,5 @@
 -- `lists_at` meets its contract, kind by kind.
 use native.Mathlib.Omega.{arith}
-use borrow.Author.Rules.{rules}
 use Rattle.work.proofs.lists_at.Goals as goal
 
 pub returns-in-Segment : goal.returns-in-Segment

@@ -1,13 +1,11 @@
 -- `put_cell` meets its contract: the masks of the processes passed are laid down.
-use mathlib.Core.Path.{◌≡◌, refl, ap, ◌∙◌}
-use Prim.Native.Nat.{◌-◌, ◌≤◌}
+use mathlib.Core.Path.{refl, ap, ◌∙◌}
 use native.Mathlib.Omega.{arith}
 use lib.Seq.{sets}
 use Rattle.rules.specs.Work.{joined}
 use Rattle.work.proofs.Joined.{put-long}
 use Rattle.work.proofs.Sized.{pair-few}
 use Rattle.work.proofs.Masked.{row_from, row_put, all-processes}
-use borrow.Author.Rules.{rules}
 use Rattle.work.proofs.put_cell.Goals as goal
 
 pub loop-i-init : goal.loop-i-init

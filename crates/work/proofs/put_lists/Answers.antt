@@ -1,16 +1,14 @@
 -- `put_lists` meets its contract: the lists of the cells passed are laid down.
-use mathlib.Core.Path.{◌≡◌, refl, ap, ◌∙◌}
-use Prim.Native.Nat.{◌-◌}
+use mathlib.Core.Path.{refl, ap, ◌∙◌}
 use native.Mathlib.Omega.{arith}
 use lib.Seq.{sets}
 use Rattle.rules.specs.Words.{sum_below}
-use Rattle.rules.specs.Layout.{configuration, first_slot}
+use Rattle.rules.specs.Layout.{first_slot}
 use Rattle.rules.specs.Work.{joined}
 use Rattle.layout.specs.Kinds.{kind_of}
 use Rattle.work.proofs.Joined.{put-long}
-use Rattle.work.proofs.Sized.{Walk, walk_none, walk_more, walk-all, first_more, run-few}
+use Rattle.work.proofs.Sized.{walk_none, walk_more, walk-all, first_more, run-few}
 use Rattle.work.proofs.Listed.{list_in, list_put, all-lists, few-listed}
-use borrow.Author.Rules.{rules}
 use Rattle.work.proofs.put_lists.Goals as goal
 
 pub lists_at-at-requires : goal.lists_at-at-requires

@@ -1,13 +1,11 @@
 -- `put_rows` meets its contract: the masks of the cells passed are laid down.
-use mathlib.Core.Path.{◌≡◌, refl, ap, ◌∙◌}
-use Prim.Native.Nat.{◌-◌}
+use mathlib.Core.Path.{refl, ap, ◌∙◌}
 use native.Mathlib.Omega.{arith}
 use lib.Seq.{sets}
 use Rattle.rules.specs.Work.{joined}
 use Rattle.work.specs.Parts.{rows_in}
 use Rattle.work.proofs.Joined.{put-long}
-use Rattle.work.proofs.Masked.{Passed, passed_none, passed-more, few-passed, processes-few, files-few, rows-size-few, cell-put, all-rows}
-use borrow.Author.Rules.{rules}
+use Rattle.work.proofs.Masked.{passed_none, passed-more, few-passed, processes-few, files-few, rows-size-few, cell-put, all-rows}
 use Rattle.work.proofs.put_rows.Goals as goal
 
 pub rows_at-at-requires : goal.rows_at-at-requires

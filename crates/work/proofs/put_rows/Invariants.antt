@@ -1,13 +1,10 @@
 -- `put_rows` meets its contract: the masks of the cells passed are laid down.
-use mathlib.Core.Path.{◌≡◌, refl, ap, ◌∙◌}
+use mathlib.Core.Path.{◌≡◌}
 use Prim.Native.Nat.{◌-◌}
-use native.Mathlib.Omega.{arith}
 use lib.Seq.{sets}
 use Rattle.rules.specs.Work.{joined}
 use Rattle.work.specs.Parts.{rows_in}
-use Rattle.work.proofs.Joined.{put-long}
-use Rattle.work.proofs.Masked.{Passed, passed_none, passed-more, few-passed, processes-few, files-few, rows-size-few, cell-put, all-rows}
-use borrow.Author.Rules.{rules}
+use Rattle.work.proofs.Masked.{Passed}
 use Rattle.work.proofs.put_rows.Given as goal
 
 abbrev pub invariant-loop-c : goal.invariant-loop-c

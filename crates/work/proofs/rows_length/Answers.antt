@@ -1,11 +1,8 @@
 -- `rows_length` meets its contract: the masks of the cells passed.
-use mathlib.Core.Path.{◌≡◌, refl}
-use Prim.Native.Nat.{◌-◌}
+use mathlib.Core.Path.{refl}
 use native.Mathlib.Omega.{arith}
 use Rattle.rules.specs.Words.{sum_below}
-use Rattle.work.specs.Parts.{rows_size}
-use Rattle.work.proofs.Sized.{Walk, walk_none, walk_more, size_few, size-more, rows_few, rows_all}
-use borrow.Author.Rules.{rules}
+use Rattle.work.proofs.Sized.{walk_none, walk_more, size_few, size-more, rows_few, rows_all}
 use Rattle.work.proofs.rows_length.Goals as goal
 
 pub loop-c-init : goal.loop-c-init

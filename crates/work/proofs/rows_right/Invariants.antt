@@ -1,12 +1,9 @@
 -- `rows_right` meets its contract: the masks of the cells passed stand there.
-use mathlib.Core.Path.{◌≡◌, ap, ◌∙◌}
+use mathlib.Core.Path.{◌≡◌}
 use Prim.Native.Nat.{◌-◌}
-use native.Mathlib.Omega.{arith}
 use Rattle.rules.specs.Work.{joined}
 use Rattle.work.specs.Parts.{rows_in, stands_at}
-use Rattle.work.proofs.Joined.{stands-none}
-use Rattle.work.proofs.Masked.{Passed, passed_none, passed-more, few-passed, processes-few, files-few, rows-size-few, cell-seen, all-rows}
-use borrow.Author.Rules.{rules}
+use Rattle.work.proofs.Masked.{Passed}
 use Rattle.work.proofs.rows_right.Given as goal
 
 abbrev pub invariant-loop-c : goal.invariant-loop-c

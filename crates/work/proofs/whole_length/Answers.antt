@@ -1,7 +1,6 @@
 -- `whole_length` meets its contract: the lists' words and the masks'.
 use native.Mathlib.Omega.{arith}
 use Rattle.work.proofs.Whole.{whole_long}
-use borrow.Author.Rules.{rules}
 use Rattle.work.proofs.whole_length.Goals as goal
 
 pub rows_at-requires : goal.rows_at-requires

@@ -1,8 +1,6 @@
 -- `work_length` meets its contract: of a bad table 0, else the whole slice's length.
 use mathlib.Core.Path.{sym, ◌∙◌}
-use Rattle.laws.proofs.Tests.{passed, failed}
 use Rattle.work.proofs.Whole.{well-shaped, length-bad, length-good}
-use borrow.Author.Rules.{rules}
 use Rattle.work.proofs.work_length.Goals as goal
 
 pub returns-then-not-check : goal.returns-then-not-check

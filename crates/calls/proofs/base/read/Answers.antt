@@ -1,6 +1,5 @@
 -- `base::read` meets its contract: what stands there is the table's word.
 use Rattle.calls.proofs.Worlds.{see}
-use borrow.Author.Rules.{rules}
 use Rattle.calls.proofs.base.read.Goals as goal
 
 pub returns : goal.returns

@@ -1,5 +1,4 @@
 -- `blocks::bad_use` meets its contract: its five tests in their order.
-use borrow.Author.Rules.{rules}
 use Rattle.calls.proofs.blocks.bad_use.Goals as goal
 
 pub returns : goal.returns

@@ -3,7 +3,6 @@ use Rattle.rules.specs.Layout.{block_bytes}
 use Prim.Native.Nat.{◌-◌, ◌*◌}
 use mathlib.Core.Path.{◌≡◌}
 use native.Mathlib.Omega.{arith}
-use borrow.Author.Rules.{rules}
 use Rattle.calls.proofs.blocks.fill_hole.Goals as goal
 
 pub returns-else-size-b : goal.returns-else-size-b

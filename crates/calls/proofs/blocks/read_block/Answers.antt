@@ -4,7 +4,6 @@ use Rattle.calls.specs.Left.{rule_at}
 use Rattle.rules.specs.Rule.{first_refusal}
 use Rattle.rules.specs.Call13.{read_block}
 use mathlib.Core.Path.{◌≡◌}
-use borrow.Author.Rules.{rules}
 use Rattle.calls.proofs.blocks.read_block.Goals.{After-shown-p}
 use Rattle.calls.proofs.blocks.read_block.Goals as goal
 

@@ -6,7 +6,6 @@ use Rattle.rules.specs.Words.{part}
 use Prim.Native.Nat.{◌+◌, ◌-◌}
 use mathlib.Core.Path.{◌≡◌, sym, ◌∙◌}
 use native.Mathlib.Omega.{arith}
-use borrow.Author.Rules.{rules}
 use Rattle.calls.proofs.blocks.read_store.Goals as goal
 
 pub returns : goal.returns

@@ -2,7 +2,6 @@
 use Rattle.calls.proofs.BlocksLaws.{Used, stretch-fits, read_tests, read_told, block-hidden, block_within, block-shown}
 use Rattle.calls.specs.Refusing.{refusing}
 use mathlib.Core.Path.{◌≡◌}
-use borrow.Author.Rules.{rules}
 use Rattle.calls.proofs.blocks.shown.Goals.{After-or_refuse-e-2}
 use Rattle.calls.proofs.blocks.shown.Goals as goal
 

@@ -3,7 +3,6 @@ use Rattle.calls.proofs.BlocksLaws.{Used, stretch-fits, write_tests, write-told,
 use Rattle.rules.specs.Rule.{first_refusal}
 use lib.ListN.{length}
 use mathlib.Core.Path.{◌≡◌}
-use borrow.Author.Rules.{rules}
 use Rattle.calls.proofs.blocks.write_block.Goals.{After-or_refuse-e-2}
 use Rattle.calls.proofs.blocks.write_block.Goals as goal
 

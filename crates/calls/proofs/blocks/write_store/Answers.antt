@@ -3,7 +3,6 @@ use Rattle.calls.proofs.BlocksLaws.{stretch-written}
 use Prim.Native.Nat.{◌+◌, ◌-◌, ◌*◌}
 use mathlib.Core.Path.{◌≡◌}
 use native.Mathlib.Omega.{arith}
-use borrow.Author.Rules.{rules}
 use Rattle.calls.proofs.blocks.write_store.Goals as goal
 
 pub returns : goal.returns

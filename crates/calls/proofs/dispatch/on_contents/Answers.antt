@@ -1,7 +1,6 @@
 -- `dispatch::on_contents` meets its contract: each code has its rule.
 use Rattle.calls.proofs.Codes.{through-13, through-14, through-15, through-16, through-17, plain-18, plain-through}
 use native.Mathlib.Omega.{arith}
-use borrow.Author.Rules.{rules}
 use Rattle.calls.proofs.dispatch.on_contents.Goals as goal
 
 pub returns-in-13 : goal.returns-in-13

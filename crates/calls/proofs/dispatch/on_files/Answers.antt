@@ -2,7 +2,6 @@
 use Rattle.calls.proofs.Codes.{plain-7, plain-8, plain-9, plain-10, plain-11, plain-12}
 use native.Mathlib.Omega.{arith}
 use mathlib.Core.Path.{refl}
-use borrow.Author.Rules.{rules}
 use Rattle.calls.proofs.dispatch.on_files.Goals as goal
 
 pub create-requires : goal.create-requires

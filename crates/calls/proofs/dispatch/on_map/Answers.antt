@@ -1,7 +1,6 @@
 -- `dispatch::on_map` meets its contract: each code has its rule.
 use native.Mathlib.Omega.{arith}
 use Rattle.calls.proofs.Codes.{plain-19, plain-20}
-use borrow.Author.Rules.{rules}
 use Rattle.calls.proofs.dispatch.on_map.Goals as goal
 
 pub returns-in-19 : goal.returns-in-19

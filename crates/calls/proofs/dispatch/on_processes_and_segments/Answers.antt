@@ -2,7 +2,6 @@
 use Rattle.calls.proofs.Codes.{plain-1, plain-2, plain-3, plain-4, plain-5, plain-6}
 use native.Mathlib.Omega.{arith}
 use mathlib.Core.Path.{refl}
-use borrow.Author.Rules.{rules}
 use Rattle.calls.proofs.dispatch.on_processes_and_segments.Goals as goal
 
 pub spawn-requires : goal.spawn-requires

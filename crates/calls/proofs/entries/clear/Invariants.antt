@@ -1,11 +1,8 @@
 -- `entries::clear` meets its contract: so many zeros are stored as turns were made.
 use Prim.Native.Nat.{◌-◌, ◌≤◌}
-use mathlib.Core.Path.{◌≡◌, refl, ap, ◌∙◌}
-use lib.ListN.{length, replicate}
-use lib.Seq.{sets, length-sets}
-use Rattle.laws.proofs.Stored.{clear-more}
-use borrow.Author.Rules.{rules}
-use native.Mathlib.Omega.{arith}
+use mathlib.Core.Path.{◌≡◌}
+use lib.ListN.{replicate}
+use lib.Seq.{sets}
 use Rattle.calls.proofs.entries.clear.Given as goal
 
 abbrev pub invariant-loop-i : goal.invariant-loop-i

@@ -1,7 +1,6 @@
 -- `entries::entry_of` meets its contract: the two words follow each other.
 use Rattle.calls.proofs.Given.{entry_read}
 use Rattle.layout.specs.Kinds.{kind_of}
-use borrow.Author.Rules.{rules}
 use Rattle.calls.proofs.entries.entry_of.Goals as goal
 
 pub returns : goal.returns

@@ -1,6 +1,5 @@
 -- `entries::give_up` meets its contract: the entry is cleared, and the object has one holder less where it is of the holder's cell.
 use Rattle.calls.specs.Entries.{given_up_at}
-use borrow.Author.Rules.{rules}
 use Rattle.calls.proofs.entries.give_up.Goals as goal
 
 pub returns-then-own : goal.returns-then-own

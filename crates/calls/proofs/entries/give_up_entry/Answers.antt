@@ -7,7 +7,6 @@ use Rattle.rules.specs.Seid.{formed}
 use mathlib.Core.Path.{◌≡◌, ◌∙◌}
 use Rattle.layout.specs.Kinds.{kind_of}
 use native.Mathlib.Omega.{arith}
-use borrow.Author.Rules.{rules}
 use Rattle.calls.proofs.entries.give_up_entry.Goals as goal
 
 pub read-holders-requires : goal.read-holders-requires

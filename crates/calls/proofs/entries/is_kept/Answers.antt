@@ -1,5 +1,4 @@
 -- `entries::is_kept` meets its contract, kind by kind.
-use borrow.Author.Rules.{rules}
 use Rattle.calls.proofs.entries.is_kept.Goals as goal
 
 pub returns-in-Process : goal.returns-in-Process

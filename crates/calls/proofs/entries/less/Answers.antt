@@ -3,7 +3,6 @@ use Rattle.calls.proofs.Searches.{record-small, record-some, holders-small}
 use Rattle.calls.specs.Entries.{less_at}
 use Rattle.layout.specs.Kinds.{kind_of}
 use native.Mathlib.Omega.{arith}
-use borrow.Author.Rules.{rules}
 use Rattle.calls.proofs.entries.less.Goals as goal
 
 pub free_record-requires : goal.free_record-requires

@@ -3,7 +3,6 @@ use Rattle.calls.proofs.Searches.{holders-small}
 use Rattle.calls.specs.Entries.{taken_up_at}
 use Rattle.layout.specs.Kinds.{kind_of}
 use native.Mathlib.Omega.{arith}
-use borrow.Author.Rules.{rules}
 use Rattle.calls.proofs.entries.take_up.Goals as goal
 
 pub overflow_add-count : goal.overflow_add-count

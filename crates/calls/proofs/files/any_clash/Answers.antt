@@ -9,14 +9,11 @@ use Rattle.calls.specs.Entries.{entry_of}
 use Rattle.laws.proofs.Below.{some-none}
 use Rattle.rules.specs.Call08.{clashes_at}
 use Rattle.rules.specs.Layout.{process, file, entries}
-use Rattle.rules.specs.Words.{some_below}
 use borrow.Author.Count.{below_more}
 use native.Mathlib.Nat.{not-suc-le-zero, le_trans}
-use Prim.Native.Nat.{ℕ, ◌+◌, ◌≤◌, ◌<◌, ◌-◌}
+use Prim.Native.Nat.{◌+◌, ◌<◌}
 use mathlib.Core.Bool.{false}
-use mathlib.Core.Logic.{⊎_elim}
 use mathlib.Core.Path.{◌≡◌, refl, sym, ◌∙◌}
-use borrow.Author.Rules.{rules}
 use native.Mathlib.Omega.{arith}
 use Rattle.calls.proofs.files.any_clash.Goals.{After-entry_from-x, Joined-x-s, then-x-s+else-clash+else-left-eq0-2, else-x-s}
 use Rattle.calls.proofs.files.any_clash.Goals as goal

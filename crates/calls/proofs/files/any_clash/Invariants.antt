@@ -1,23 +1,13 @@
 -- `files::any_clash` meets its contract. Both loops have passed no clashing open, and no more are left than are counted down; the search is left by
 -- its label at the first that clashes, and where none is left.
-use Rattle.calls.proofs.FilesLaws.{none-clash, some-clash, clash-held}
-use Rattle.calls.proofs.Opens.{Unmet, begun, unmet-next, all_there, entry-there, past-other, past-held, all-met}
-use Rattle.calls.proofs.Searches.{home-in, run-slots}
-use Rattle.calls.proofs.Worlds.{shape, kind-word}
+use Rattle.calls.proofs.Opens.{Unmet}
 use Rattle.calls.specs.World.{words_of}
-use Rattle.calls.specs.Entries.{entry_of}
-use Rattle.laws.proofs.Below.{some-none}
 use Rattle.rules.specs.Call08.{clashes_at}
-use Rattle.rules.specs.Layout.{process, file, entries}
+use Rattle.rules.specs.Layout.{entries}
 use Rattle.rules.specs.Words.{some_below}
-use borrow.Author.Count.{below_more}
-use native.Mathlib.Nat.{not-suc-le-zero, le_trans}
 use Prim.Native.Nat.{ℕ, ◌+◌, ◌≤◌, ◌<◌, ◌-◌}
 use mathlib.Core.Bool.{false}
-use mathlib.Core.Logic.{⊎_elim}
-use mathlib.Core.Path.{◌≡◌, refl, sym, ◌∙◌}
-use borrow.Author.Rules.{rules}
-use native.Mathlib.Omega.{arith}
+use mathlib.Core.Path.{◌≡◌}
 use Rattle.calls.proofs.files.any_clash.Given as goal
 
 abbrev pub invariant-loop-d : goal.invariant-loop-d

@@ -11,7 +11,6 @@ use Prim.Native.Nat.{ℕ}
 use mathlib.Core.List.{List, []}
 use mathlib.Core.Path.{◌≡◌}
 use native.Mathlib.Omega.{arith}
-use borrow.Author.Rules.{rules}
 use Rattle.calls.proofs.files.create.Goals.{After-or_refuse-e-4, Else-e-ne-XOK}
 use Rattle.calls.proofs.files.create.Goals as goal
 

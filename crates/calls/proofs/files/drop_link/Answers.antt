@@ -1,7 +1,6 @@
 -- `files::drop_link` meets its contract: freed, or one link less.
 use Rattle.calls.proofs.FilesLaws.{drop-freed, drop-counted}
 use mathlib.Core.Path.{◌∙◌}
-use borrow.Author.Rules.{rules}
 use Rattle.calls.proofs.files.drop_link.Goals as goal
 
 pub returns-then-links-opens : goal.returns-then-links-opens

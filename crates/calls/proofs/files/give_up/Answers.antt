@@ -10,7 +10,6 @@ use Rattle.rules.specs.Layout.{configuration}
 use Prim.Native.Nat.{ℕ}
 use mathlib.Core.List.{List}
 use mathlib.Core.Path.{◌≡◌, ap, ◌∙◌}
-use borrow.Author.Rules.{rules}
 use Rattle.calls.proofs.files.give_up.Goals.{After-or_refuse-e-2}
 use Rattle.calls.proofs.files.give_up.Goals as goal
 

@@ -10,7 +10,6 @@ use Prim.Native.Nat.{ℕ}
 use mathlib.Core.List.{List, []}
 use mathlib.Core.Path.{◌≡◌, ◌∙◌}
 use native.Mathlib.Omega.{arith}
-use borrow.Author.Rules.{rules}
 use Rattle.calls.proofs.files.link.Goals.{After-or_refuse-e}
 use Rattle.calls.proofs.files.link.Goals as goal
 

@@ -1,5 +1,4 @@
 -- `files::may_open` meets its contract: its five tests in their order.
-use borrow.Author.Rules.{rules}
 use Rattle.calls.proofs.files.may_open.Goals as goal
 
 pub returns : goal.returns

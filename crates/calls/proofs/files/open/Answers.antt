@@ -1,7 +1,6 @@
 -- `files::open` meets its contract: it goes by the seid's class.
 use Rattle.calls.proofs.FilesLaws.{left-of-subtype, left-of-file}
 use borrow.Author.Tests.{eq-eqb, ne_eqb}
-use borrow.Author.Rules.{rules}
 use Rattle.calls.proofs.files.open.Goals as goal
 
 pub open_subtype-requires : goal.open_subtype-requires

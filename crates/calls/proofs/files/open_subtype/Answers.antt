@@ -7,7 +7,6 @@ use Rattle.rules.specs.Call08.{open_subtype}
 use Prim.Native.Nat.{ℕ}
 use mathlib.Core.List.{List, []}
 use mathlib.Core.Path.{◌≡◌, refl, ap, ◌∙◌}
-use borrow.Author.Rules.{rules}
 use Rattle.calls.proofs.files.open_subtype.Goals.{After-or_refuse-e-2}
 use Rattle.calls.proofs.files.open_subtype.Goals as goal
 

@@ -2,7 +2,6 @@
 use Rattle.calls.proofs.FilesLaws.{by-class}
 use Rattle.calls.proofs.Leaves.{left-same}
 use Rattle.rules.specs.Call12.{set_bits}
-use borrow.Author.Rules.{rules}
 use Rattle.calls.proofs.files.set_bits.Goals as goal
 
 pub returns : goal.returns

@@ -10,7 +10,6 @@ use Rattle.rules.specs.Layout.{configuration}
 use Prim.Native.Nat.{ℕ}
 use mathlib.Core.List.{List}
 use mathlib.Core.Path.{◌≡◌, ◌∙◌}
-use borrow.Author.Rules.{rules}
 use Rattle.calls.proofs.files.set_bits_of.Goals.{After-or_refuse-e-2}
 use Rattle.calls.proofs.files.set_bits_of.Goals as goal
 

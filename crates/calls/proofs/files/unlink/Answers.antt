@@ -8,7 +8,6 @@ use lib.Dec.{eqb}
 use Prim.Native.Nat.{ℕ}
 use mathlib.Core.List.{List}
 use mathlib.Core.Path.{◌≡◌, ◌∙◌}
-use borrow.Author.Rules.{rules}
 use Rattle.calls.proofs.files.unlink.Goals.{After-or_refuse-e}
 use Rattle.calls.proofs.files.unlink.Goals as goal
 

@@ -1,6 +1,5 @@
 -- `mail::deliver` meets its contract: the message's words, in the rule's order.
 use Rattle.calls.proofs.Posts.{deliver-words}
-use borrow.Author.Rules.{rules}
 use Rattle.calls.proofs.mail.deliver.Goals as goal
 
 pub returns : goal.returns

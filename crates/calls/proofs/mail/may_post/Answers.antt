@@ -1,5 +1,4 @@
 -- `mail::may_post` meets its contract: its six tests in their order.
-use borrow.Author.Rules.{rules}
 use Rattle.calls.proofs.mail.may_post.Goals as goal
 
 pub returns : goal.returns

@@ -1,10 +1,8 @@
 -- `mail::move_up` meets its contract: a word is read before anything is stored there.
-use Prim.Native.Nat.{◌-◌, ◌≤◌}
 use mathlib.Core.Path.{◌≡◌, refl, ap, ◌∙◌}
 use lib.ListN.{length}
 use Rattle.calls.specs.Mail.{moved_at}
 use Rattle.calls.proofs.Queues.{moved-next, length_moved}
-use borrow.Author.Rules.{rules}
 use native.Mathlib.Omega.{arith}
 use Rattle.calls.proofs.mail.move_up.Goals as goal
 

@@ -6,7 +6,6 @@ use Rattle.rules.specs.Rule.{write}
 use Rattle.rules.specs.Call15.{post}
 use Rattle.calls.specs.Left.{rule_at}
 use Rattle.calls.proofs.Names.{sixteen}
-use borrow.Author.Rules.{rules}
 use Rattle.calls.proofs.mail.post.Goals.{After-may_post-e, then-to-allowed, else-to-allowed}
 use Rattle.calls.proofs.mail.post.Goals as goal
 

@@ -1,7 +1,6 @@
 -- `mail::receive` meets its contract: the message is shown before the queue moves up.
 use Rattle.calls.proofs.Queues.{messages-near, messages-within, receive-refused, receive-done}
 use native.Mathlib.Omega.{arith}
-use borrow.Author.Rules.{rules}
 use Rattle.calls.proofs.mail.receive.Goals as goal
 
 pub returns-then-e-ne-XOK : goal.returns-then-e-ne-XOK

@@ -1,11 +1,9 @@
 -- `mail::show` meets its contract: so many words are shown as turns were made.
-use Prim.Native.Nat.{◌-◌, ◌≤◌}
 use mathlib.Core.Path.{◌≡◌, refl, ap, ◌∙◌}
 use lib.ListN.{length}
 use Rattle.rules.specs.Layout.{message_words}
 use Rattle.calls.specs.Mail.{shown_at}
 use Rattle.calls.proofs.Queues.{shown-more, length-shown}
-use borrow.Author.Rules.{rules}
 use native.Mathlib.Omega.{arith}
 use Rattle.calls.proofs.mail.show.Goals as goal
 

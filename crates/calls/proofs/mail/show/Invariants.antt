@@ -1,12 +1,8 @@
 -- `mail::show` meets its contract: so many words are shown as turns were made.
 use Prim.Native.Nat.{◌-◌, ◌≤◌}
-use mathlib.Core.Path.{◌≡◌, refl, ap, ◌∙◌}
-use lib.ListN.{length}
+use mathlib.Core.Path.{◌≡◌}
 use Rattle.rules.specs.Layout.{message_words}
 use Rattle.calls.specs.Mail.{shown_at}
-use Rattle.calls.proofs.Queues.{shown-more, length-shown}
-use borrow.Author.Rules.{rules}
-use native.Mathlib.Omega.{arith}
 use Rattle.calls.proofs.mail.show.Given as goal
 
 abbrev pub invariant-loop-i : goal.invariant-loop-i

@@ -1,6 +1,5 @@
 -- `mail::word_at` meets its contract.
 use Rattle.rules.specs.Words.{word4}
-use borrow.Author.Rules.{rules}
 use Rattle.calls.proofs.mail.word_at.Goals as goal
 
 pub returns : goal.returns

@@ -9,7 +9,6 @@ use Rattle.rules.specs.Errors.{XnSgDes, XbSgDes, XbSgSd, XoutSgAldUmp, XinSgAldM
 use Rattle.rules.specs.Call19.{is_mapped, conflict}
 use Rattle.calls.specs.Refusing.{or_refuse, refusing}
 use Rattle.calls.specs.Map.{held, remap_tests}
-use borrow.Author.Rules.{rules}
 use Rattle.calls.proofs.map.may_remap.Goals as goal
 
 -- what the code finds, test after test

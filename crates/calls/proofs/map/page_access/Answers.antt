@@ -14,7 +14,6 @@ use Rattle.calls.specs.Left.{rule_at, Left}
 use Rattle.calls.specs.Refusing.{or_refuse}
 use Rattle.calls.proofs.Refusals.{refusing-first, first_stops, first_passes}
 use Rattle.calls.proofs.Leaves.{left-refused, left-alike}
-use borrow.Author.Rules.{rules}
 use Rattle.calls.proofs.map.page_access.Goals.{After-or_refuse-e-2, After-read-w}
 use Rattle.calls.proofs.map.page_access.Goals as goal
 

@@ -27,7 +27,6 @@ use Rattle.calls.proofs.Refusals.{refusing-first}
 use Rattle.calls.proofs.Leaves.{left-refused, left-done}
 use Rattle.calls.proofs.SegmentsLaws.{after, entry-formed, entry_named}
 use Rattle.calls.proofs.MapLaws.{mapped-is, still-mapped, conflict-is, taken_is}
-use borrow.Author.Rules.{rules}
 use Rattle.calls.proofs.map.remap.Goals.{After-may_remap-e}
 use Rattle.calls.proofs.map.remap.Goals as goal
 

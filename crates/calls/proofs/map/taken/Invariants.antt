@@ -1,13 +1,10 @@
 -- `map::taken` meets its contract: of the pages passed, those of the run hold the number.
 use Prim.Native.Nat.{◌+◌, ◌-◌, ◌≤◌}
-use mathlib.Core.Path.{◌∙◌}
 use mathlib.Core.Bool.{cond, ◌&&◌}
-use native.Mathlib.Omega.{arith}
 use lib.Dec.{ltb, leb}
 use Rattle.rules.specs.Layout.{pages}
-use Rattle.laws.proofs.Tab.{Filled, filled_none, filled_more, filled-all}
+use Rattle.laws.proofs.Tab.{Filled}
 use Rattle.calls.specs.Map.{held}
-use borrow.Author.Rules.{rules}
 use Rattle.calls.proofs.map.taken.Given as goal
 
 abbrev pub invariant-loop-g : goal.invariant-loop-g

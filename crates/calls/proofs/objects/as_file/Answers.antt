@@ -3,7 +3,6 @@ use Rattle.calls.proofs.Names.{named, name-none}
 use Rattle.ids.proofs.Parts.{file-is, file-not}
 use Rattle.rules.specs.Layout.{file}
 use mathlib.Core.Path.{sym, ◌∙◌}
-use borrow.Author.Rules.{rules}
 use Rattle.calls.proofs.objects.as_file.Goals as goal
 
 pub returns-in-Is : goal.returns-in-Is

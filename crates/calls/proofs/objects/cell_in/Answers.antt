@@ -3,7 +3,6 @@ use Rattle.layout.specs.Kinds.{kind_of}
 use Rattle.layout.proofs.Hall.{cells-before}
 use mathlib.Core.Path.{refl, ◌∙◌}
 use native.Mathlib.Omega.{arith}
-use borrow.Author.Rules.{rules}
 use Rattle.calls.proofs.objects.cell_in.Goals as goal
 
 pub overflow_add-at : goal.overflow_add-at

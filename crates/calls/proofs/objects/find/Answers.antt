@@ -1,5 +1,4 @@
 -- `objects::find` meets its contract: its three tests in their order.
-use borrow.Author.Rules.{rules}
 use Rattle.calls.proofs.objects.find.Goals as goal
 
 pub returns : goal.returns

@@ -4,7 +4,6 @@ use mathlib.Core.List.{List, []}
 use mathlib.Core.Path.{sym, ap}
 use native.Mathlib.Omega.{arith}
 use lib.ListN.{get_or, get_or-eq_default}
-use borrow.Author.Rules.{rules}
 use Rattle.calls.proofs.objects.flow_at.Goals as goal
 
 pub returns-else-to-lt-MAX_CELLS : goal.returns-else-to-lt-MAX_CELLS

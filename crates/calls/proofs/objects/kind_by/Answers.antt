@@ -1,7 +1,6 @@
 -- `objects::kind_by` meets its contract: the class is a process's, or a segment's, or is taken for a file's.
 use mathlib.Core.Path.{◌≡◌, sym, ◌∙◌}
 use Prim.Native.Nat.{ℕ}
-use borrow.Author.Rules.{rules}
 use borrow.Author.Tests.{eq-eqb, ne_eqb}
 use Rattle.rules.specs.Layout.{process, segment, file}
 use Rattle.rules.specs.Seid.{class, class_of}

@@ -10,7 +10,6 @@ use mathlib.Core.Path.{refl}
 use Prim.Native.Nat.{ℕ, ◌+◌, ◌≤◌, ◌<◌, ◌^◌}
 use lib.ListN.{length}
 use native.Mathlib.Omega.{arith}
-use borrow.Author.Rules.{rules}
 use Rattle.calls.proofs.objects.look.Goals.{After-bits_word-bits_at, After-record_at-at, After-record_at-mine, Else-not-x}
 use Rattle.calls.proofs.objects.look.Goals as goal
 

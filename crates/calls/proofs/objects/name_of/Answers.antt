@@ -1,6 +1,5 @@
 -- `objects::name_of` meets its contract, kind by kind.
 use mathlib.Core.Path.{◌∙◌}
-use borrow.Author.Rules.{rules}
 use Rattle.calls.proofs.objects.name_of.Goals as goal
 
 pub returns-in-Process : goal.returns-in-Process

@@ -1,6 +1,5 @@
 -- `objects::or_self` meets its contract.
 use Rattle.calls.proofs.Names.{self-told}
-use borrow.Author.Rules.{rules}
 use Rattle.calls.proofs.objects.or_self.Goals as goal
 
 pub returns : goal.returns

@@ -5,7 +5,6 @@ use Rattle.rules.specs.Layout.{configuration}
 use Rattle.rules.specs.Rule.{Word, write}
 use Rattle.calls.specs.World.{words_of}
 use Rattle.calls.proofs.MapLaws.{cleared-is}
-use borrow.Author.Rules.{rules}
 use Rattle.calls.proofs.pages.clear_pages.Goals as goal
 
 pub returns-in-Process : goal.returns-in-Process

@@ -1,13 +1,10 @@
 -- `pages::left` meets its contract: of the pages passed, those that held the designator are free.
 use Prim.Native.Nat.{◌+◌, ◌-◌, ◌≤◌}
-use mathlib.Core.Path.{◌∙◌}
 use mathlib.Core.Bool.{cond}
-use native.Mathlib.Omega.{arith}
 use lib.Dec.{eqb}
 use Rattle.rules.specs.Layout.{pages}
-use Rattle.laws.proofs.Tab.{Filled, filled_none, filled_more, filled-all}
+use Rattle.laws.proofs.Tab.{Filled}
 use Rattle.calls.specs.Map.{held}
-use borrow.Author.Rules.{rules}
 use Rattle.calls.proofs.pages.left.Given as goal
 
 abbrev pub invariant-loop-g : goal.invariant-loop-g

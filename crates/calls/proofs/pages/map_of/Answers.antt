@@ -1,10 +1,7 @@
 -- `pages::map_of` meets its contract: the pages passed are read.
-use Prim.Native.Nat.{◌-◌, ◌≤◌}
 use mathlib.Core.Path.{refl}
 use native.Mathlib.Omega.{arith}
-use Rattle.rules.specs.Layout.{process, at, pages, page_at}
-use Rattle.laws.proofs.Tab.{Filled, filled_none, filled_more, filled-all}
-use Rattle.calls.specs.World.{words_of}
+use Rattle.laws.proofs.Tab.{filled_none, filled_more, filled-all}
 use borrow.Author.Rules.{rules}
 use Rattle.calls.proofs.pages.map_of.Goals as goal
 

@@ -1,16 +1,11 @@
 -- `processes::drop_entries` meets its contract: so many entries are given up as turns were made.
-use Prim.Native.Nat.{◌≤◌, ◌-◌}
 use mathlib.Core.Path.{◌≡◌, ap, ◌∙◌}
 use native.Mathlib.Omega.{arith}
 use lib.ListN.{length}
-use Rattle.rules.specs.Layout.{configuration, entries}
-use Rattle.rules.specs.Rule.{write}
-use Rattle.rules.specs.Call02.{dropped_to}
+use Rattle.rules.specs.Layout.{entries}
 use Rattle.laws.proofs.Written.{length-write}
 use Rattle.layout.specs.Kinds.{kind_of}
-use Rattle.calls.specs.World.{words_of}
 use Rattle.calls.proofs.ProcessesLaws.{none_yet, ready, one_more}
-use borrow.Author.Rules.{rules}
 use Rattle.calls.proofs.processes.drop_entries.Goals as goal
 
 pub loop-n-init : goal.loop-n-init

@@ -2,7 +2,6 @@
 use mathlib.Core.Path.{◌∙◌}
 use Rattle.layout.specs.Kinds.{kind_of}
 use Rattle.calls.proofs.ProcessesLaws.{drop-some, drop-none}
-use borrow.Author.Rules.{rules}
 use Rattle.calls.proofs.processes.drop_entry.Goals as goal
 
 pub give_up_entry-requires : goal.give_up_entry-requires

@@ -21,7 +21,6 @@ use Rattle.calls.proofs.Refusals.{refusing-first}
 use Rattle.calls.proofs.Looks.{slot_is, own_is, slot-in, own_first, form-past}
 use Rattle.calls.proofs.Leaves.{left-refused, left-done}
 use Rattle.calls.proofs.ProcessesLaws.{then-segments, released-is}
-use borrow.Author.Rules.{rules}
 use Rattle.calls.proofs.processes.release_process.Goals.{After-own-e, Else-e-ne-XOK}
 use Rattle.calls.proofs.processes.release_process.Goals as goal
 

@@ -29,7 +29,6 @@ use Rattle.calls.proofs.Leaves.{left-refused, left-done}
 use Rattle.calls.proofs.Given.{begins}
 use Rattle.calls.proofs.Searches.{serial-rises, new-seid}
 use Rattle.calls.proofs.SegmentsLaws.{four_is}
-use borrow.Author.Rules.{rules}
 use Rattle.calls.proofs.processes.spawn.Goals.{After-or_refuse-e-3}
 use Rattle.calls.proofs.processes.spawn.Goals as goal
 

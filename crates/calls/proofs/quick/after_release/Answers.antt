@@ -1,6 +1,5 @@
 -- `quick::after_release` meets its contract.
 use Rattle.calls.proofs.QuickSteps.{release-told}
-use borrow.Author.Rules.{rules}
 use Rattle.calls.proofs.quick.after_release.Goals as goal
 
 pub returns : goal.returns

@@ -1,7 +1,6 @@
 -- `quick::carry_out_by` meets its contract: where the call has succeeded, the slice follows it.
 use Rattle.calls.proofs.QuickSteps.{ready-after, right-after, right-still}
 use Rattle.calls.proofs.Whole.{sound-read}
-use borrow.Author.Rules.{rules}
 use Rattle.calls.proofs.quick.carry_out_by.Goals as goal
 
 pub note-s-requires : goal.note-s-requires

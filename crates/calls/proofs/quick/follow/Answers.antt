@@ -4,7 +4,6 @@ use Rattle.calls.proofs.Searches.{home-in}
 use Rattle.calls.proofs.Worlds.{cells_is, slots-is}
 use Rattle.rules.specs.Layout.{process}
 use native.Mathlib.Omega.{arith}
-use borrow.Author.Rules.{rules}
 use Rattle.calls.proofs.quick.follow.Goals as goal
 
 pub take_slot-requires : goal.take_slot-requires

@@ -11,7 +11,6 @@ use Rattle.calls.proofs.Worlds.{kind-word}
 use Rattle.calls.proofs.Searches.{home-in}
 use Rattle.calls.proofs.QuickPlaces.{near-from, near-here, clash-told}
 use native.Mathlib.Omega.{arith}
-use borrow.Author.Rules.{rules}
 use Rattle.calls.proofs.quick.foretold.Goals.{Then-is_here-valid}
 use Rattle.calls.proofs.quick.foretold.Goals as goal
 

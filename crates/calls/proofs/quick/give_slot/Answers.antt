@@ -3,7 +3,6 @@ use Rattle.calls.proofs.QuickSteps.{give-small, give-told, give-worn, give-none}
 use Rattle.calls.proofs.Searches.{home-in}
 use Rattle.layout.specs.Kinds.{kind_of}
 use native.Mathlib.Omega.{arith}
-use borrow.Author.Rules.{rules}
 use Rattle.calls.proofs.quick.give_slot.Goals as goal
 
 pub list_at-at-requires : goal.list_at-at-requires

@@ -4,7 +4,6 @@ use Rattle.laws.proofs.Seids.{index-small}
 use Rattle.calls.proofs.QuickPlaces.{here-told, not-here}
 use mathlib.Core.Path.{sym, ◌∙◌}
 use native.Mathlib.Omega.{arith}
-use borrow.Author.Rules.{rules}
 use Rattle.calls.proofs.quick.is_here.Goals as goal
 
 pub cell_in-requires : goal.cell_in-requires

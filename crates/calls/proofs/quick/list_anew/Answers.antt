@@ -3,7 +3,6 @@ use Rattle.calls.proofs.QuickSteps.{list-told}
 use Rattle.calls.proofs.Worlds.{kind-word}
 use Rattle.layout.specs.Kinds.{kind_of}
 use native.Mathlib.Omega.{arith}
-use borrow.Author.Rules.{rules}
 use Rattle.calls.proofs.quick.list_anew.Goals as goal
 
 pub first_slot-from-requires : goal.first_slot-from-requires

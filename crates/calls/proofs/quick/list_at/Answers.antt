@@ -3,7 +3,6 @@ use Rattle.layout.specs.Kinds.{kind_of}
 use Rattle.calls.proofs.Worlds.{kind-word}
 use Rattle.calls.proofs.QuickPlaces.{few, list-told}
 use native.Mathlib.Omega.{arith}
-use borrow.Author.Rules.{rules}
 use Rattle.calls.proofs.quick.list_at.Goals as goal
 
 pub first_slot-from-requires : goal.first_slot-from-requires

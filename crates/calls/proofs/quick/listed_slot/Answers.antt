@@ -4,7 +4,6 @@ use Rattle.calls.proofs.Worlds.{kind-word}
 use Rattle.calls.proofs.Searches.{run_small}
 use Rattle.calls.proofs.QuickPlaces.{listed-told}
 use native.Mathlib.Omega.{arith}
-use borrow.Author.Rules.{rules}
 use Rattle.calls.proofs.quick.listed_slot.Goals as goal
 
 pub first_slot-from-requires : goal.first_slot-from-requires

@@ -2,7 +2,6 @@
 use Rattle.calls.proofs.QuickPlaces.{few, mark-told, mark-step}
 use Prim.Native.Nat.{◌*◌, ◌≤◌, ◌^◌}
 use native.Mathlib.Omega.{arith}
-use borrow.Author.Rules.{rules}
 use Rattle.calls.proofs.quick.mark_in.Goals.{After-masks_at}
 use Rattle.calls.proofs.quick.mark_in.Goals as goal
 

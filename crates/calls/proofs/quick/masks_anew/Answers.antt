@@ -4,7 +4,6 @@ use Rattle.calls.proofs.Worlds.{kind-word}
 use Rattle.rules.specs.Layout.{process, file}
 use mathlib.Core.Path.{refl}
 use native.Mathlib.Omega.{arith}
-use borrow.Author.Rules.{rules}
 use Rattle.calls.proofs.quick.masks_anew.Goals as goal
 
 pub first_slot-processes-requires : goal.first_slot-processes-requires

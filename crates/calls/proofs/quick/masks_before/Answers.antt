@@ -1,10 +1,6 @@
 -- `quick::masks_before` meets its contract: the sum of the cells passed.
-use Prim.Native.Nat.{◌-◌, ◌≤◌}
 use mathlib.Core.Path.{◌≡◌}
-use Rattle.rules.specs.Layout.{configuration}
-use Rattle.follow.specs.Right.{rows_to}
 use Rattle.calls.proofs.QuickPlaces.{rows_none, rows_more, row_fits, rows_fit}
-use borrow.Author.Rules.{rules}
 use native.Mathlib.Omega.{arith}
 use Rattle.calls.proofs.quick.masks_before.Goals as goal
 

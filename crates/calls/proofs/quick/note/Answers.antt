@@ -1,7 +1,6 @@
 -- `quick::note` meets its contract: by the code.
 use Rattle.calls.proofs.QuickSteps.{note-segment, note-file, note-other}
 use native.Mathlib.Omega.{arith}
-use borrow.Author.Rules.{rules}
 use Rattle.calls.proofs.quick.note.Goals as goal
 
 pub returns-in-5 : goal.returns-in-5

@@ -4,7 +4,6 @@ use Rattle.calls.proofs.QuickSteps.{near-self, near-told, mark-told, unmark-told
 use Rattle.calls.proofs.Searches.{home-in}
 use Rattle.rules.specs.Layout.{file}
 use Rattle.laws.proofs.Tests.{cond-true, cond-false}
-use borrow.Author.Rules.{rules}
 use Rattle.calls.proofs.quick.remark.Goals as goal
 
 pub mark_of-at-requires : goal.mark_of-at-requires

@@ -1,6 +1,5 @@
 -- `quick::slot_for` meets its contract: the slice that is lent tells what the search finds.
 use native.Mathlib.Omega.{arith}
-use borrow.Author.Rules.{rules}
 use Rattle.calls.proofs.quick.slot_for.Goals as goal
 
 pub listed_slot-requires : goal.listed_slot-requires

@@ -1,6 +1,4 @@
 -- `quick::slot_made` meets its contract: the search is made where the call makes something and the table has the cell.
-use borrow.Author.Rules.{rules}
-use Rattle.laws.proofs.Tests.{failed}
 use Rattle.calls.proofs.QuickPlaces.{made_found, made_nothing, made-nowhere}
 use Rattle.calls.proofs.quick.slot_made.Goals as goal
 

@@ -1,6 +1,5 @@
 -- `quick::take_slot` meets its contract.
 use Rattle.calls.proofs.QuickSteps.{take-told}
-use borrow.Author.Rules.{rules}
 use Rattle.calls.proofs.quick.take_slot.Goals as goal
 
 pub returns : goal.returns

@@ -1,6 +1,5 @@
 -- `regrade::copy_blocks` meets its contract: the stretches of two files lie apart.
 use Rattle.calls.proofs.RegradeLaws.{start_fits, copy-ready, blocks-copied}
-use borrow.Author.Rules.{rules}
 use Rattle.calls.proofs.regrade.copy_blocks.Goals as goal
 
 pub overflow_mul-from : goal.overflow_mul-from

@@ -4,7 +4,6 @@ use mathlib.Core.Path.{◌∙◌}
 use Prim.Native.Nat.{◌<◌}
 use Rattle.rules.specs.Layout.{file, max_serial}
 use Rattle.calls.proofs.Searches.{seid-made}
-use borrow.Author.Rules.{rules}
 use Rattle.calls.proofs.regrade.make_copy.Goals as goal
 
 pub overflow_add-serial : goal.overflow_add-serial

@@ -4,7 +4,6 @@ use lib.ListN.{length}
 use Rattle.rules.specs.Rule.{first_refusal}
 use Rattle.calls.proofs.BlocksLaws.{Used}
 use Rattle.calls.proofs.RegradeLaws.{desk-fits, regrade_tests, regrade-told, regrade-number, record-ready, store-ready, regrade-seid, regrade-words, regrade-bytes, regrade-refused, regrade-done}
-use borrow.Author.Rules.{rules}
 use Rattle.calls.proofs.regrade.regrade.Goals.{After-or_refuse-e-4}
 use Rattle.calls.proofs.regrade.regrade.Goals as goal
 

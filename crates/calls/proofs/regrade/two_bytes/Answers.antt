@@ -1,6 +1,5 @@
 -- `regrade::two_bytes` meets its contract: a byte is below 256.
 use Rattle.calls.proofs.RegradeLaws.{two-told}
-use borrow.Author.Rules.{rules}
 use Rattle.calls.proofs.regrade.two_bytes.Goals as goal
 
 pub returns : goal.returns

@@ -2,7 +2,6 @@
 use Rattle.calls.proofs.Worlds.{cells_is, kind-word, by_kind}
 use Rattle.layout.specs.Kinds.{kind_of}
 use mathlib.Core.Path.{◌∙◌}
-use borrow.Author.Rules.{rules}
 use Rattle.calls.proofs.room.cell_of.Goals as goal
 
 pub cell_by-requires : goal.cell_by-requires

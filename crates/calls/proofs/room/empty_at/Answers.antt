@@ -1,10 +1,7 @@
 -- `room::empty_at` meets its contract: every entry passed is filled.
-use Prim.Native.Nat.{◌-◌}
-use Rattle.rules.specs.Layout.{entries}
-use Rattle.laws.proofs.Search.{Sought, sought-start, sought-more, sought-hit, sought-end}
-use Rattle.calls.specs.World.{empty_at, empty_test}
+use Rattle.laws.proofs.Search.{sought-start, sought-more, sought-hit, sought-end}
+use Rattle.calls.specs.World.{empty_at}
 use Rattle.calls.proofs.Worlds.{empty-told, filled-told}
-use borrow.Author.Rules.{rules}
 use native.Mathlib.Omega.{arith}
 use Rattle.calls.proofs.room.empty_at.Goals as goal
 

@@ -1,10 +1,7 @@
 -- `room::free_at` meets its contract: of the slots passed the one with the smallest serial is kept, the lowest among equals.
-use borrow.Author.Rules.{rules}
-use native.Mathlib.Omega.{arith}
-use native.Mathlib.Nat.{mul-le-mul_right}
-use mathlib.Core.Path.{◌≡◌, refl}
+use mathlib.Core.Path.{◌≡◌}
 use Prim.Native.Nat.{◌+◌, ◌-◌, ◌≤◌}
-use Rattle.calls.proofs.Searches.{Chosen, chosen-start, chosen-next, chosen-end}
+use Rattle.calls.proofs.Searches.{Chosen}
 use Rattle.calls.proofs.room.free_at.Given as goal
 
 abbrev pub invariant-loop-i : goal.invariant-loop-i

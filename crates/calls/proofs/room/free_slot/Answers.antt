@@ -1,7 +1,6 @@
 -- `room::free_slot` meets its contract: the run of the cell is searched, and the search is the rule's.
 use Rattle.calls.proofs.Searches.{record-small, run_small, slot-told}
 use Rattle.calls.proofs.Worlds.{kind-word}
-use borrow.Author.Rules.{rules}
 use Rattle.layout.specs.Kinds.{kind_of}
 use native.Mathlib.Omega.{arith}
 use Rattle.calls.proofs.room.free_slot.Goals as goal

@@ -1,7 +1,6 @@
 -- `room::in_cell` meets its contract.
 use Rattle.calls.proofs.Worlds.{cells_is, cell-word}
 use native.Mathlib.Omega.{arith}
-use borrow.Author.Rules.{rules}
 use Rattle.calls.proofs.room.in_cell.Goals as goal
 
 pub returns : goal.returns

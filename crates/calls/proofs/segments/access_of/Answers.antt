@@ -22,7 +22,6 @@ use Rattle.laws.proofs.Refusals.{clear}
 use Rattle.calls.proofs.Refusals.{refusing-first}
 use Rattle.calls.proofs.Leaves.{left-refused, left-done}
 use Rattle.calls.proofs.SegmentsLaws.{after, entry-formed, entry_named}
-use borrow.Author.Rules.{rules}
 use Rattle.calls.proofs.segments.access_of.Goals.{After-access, After-or_refuse-e-3}
 use Rattle.calls.proofs.segments.access_of.Goals as goal
 

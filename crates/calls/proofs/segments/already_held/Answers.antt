@@ -2,17 +2,16 @@
 use mathlib.Core.Path.{◌≡◌, refl, sym}
 use mathlib.Core.Bool.{Bool, false, ◌||◌}
 use mathlib.Core.List.{List}
-use Prim.Native.Nat.{ℕ, ◌+◌, ◌-◌, ◌≤◌}
+use Prim.Native.Nat.{ℕ, ◌+◌}
 use native.Mathlib.Omega.{arith}
 use native.Mathlib.Numerals.{add-one}
 use lib.Dec.{eqb}
 use Rattle.rules.specs.Words.{some_below}
-use Rattle.rules.specs.Layout.{process, segment, at, entries, held_at}
+use Rattle.rules.specs.Layout.{segment, entries}
 use Rattle.rules.specs.Call04.{already_held}
 use Rattle.calls.specs.declared.entries.Entry.{Entry}
 use Rattle.calls.specs.World.{words_of}
 use Rattle.calls.specs.Entries.{entry_of}
-use borrow.Author.Rules.{rules}
 use Rattle.calls.proofs.segments.already_held.Invariants.{held_below}
 use Rattle.calls.proofs.segments.already_held.Goals as goal
 

@@ -1,18 +1,12 @@
 -- `segments::already_held` meets its contract: the designators passed are looked at.
-use mathlib.Core.Path.{◌≡◌, refl, sym}
-use mathlib.Core.Bool.{Bool, false, ◌||◌}
+use mathlib.Core.Path.{◌≡◌}
+use mathlib.Core.Bool.{Bool}
 use mathlib.Core.List.{List}
-use Prim.Native.Nat.{ℕ, ◌+◌, ◌-◌, ◌≤◌}
-use native.Mathlib.Omega.{arith}
-use native.Mathlib.Numerals.{add-one}
+use Prim.Native.Nat.{ℕ, ◌-◌, ◌≤◌}
 use lib.Dec.{eqb}
 use Rattle.rules.specs.Words.{some_below}
 use Rattle.rules.specs.Layout.{process, segment, at, entries, held_at}
-use Rattle.rules.specs.Call04.{already_held}
-use Rattle.calls.specs.declared.entries.Entry.{Entry}
 use Rattle.calls.specs.World.{words_of}
-use Rattle.calls.specs.Entries.{entry_of}
-use borrow.Author.Rules.{rules}
 use Rattle.calls.proofs.segments.already_held.Given as goal
 
 -- one of the first n designators of process p holds s

@@ -30,7 +30,6 @@ use Rattle.calls.proofs.Leaves.{left-refused, left-done}
 use Rattle.calls.proofs.Given.{begins}
 use Rattle.calls.proofs.Holders.{made-is, entered-is}
 use Rattle.calls.proofs.Searches.{serial-rises, new-seid}
-use borrow.Author.Rules.{rules}
 use Rattle.calls.proofs.segments.build_segment.Goals.{After-or_refuse-e-4, Else-e-ne-XOK}
 use Rattle.calls.proofs.segments.build_segment.Goals as goal
 

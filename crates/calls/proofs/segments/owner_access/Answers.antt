@@ -1,5 +1,4 @@
 -- `segments::owner_access` meets its contract.
-use borrow.Author.Rules.{rules}
 use Rattle.calls.proofs.segments.owner_access.Goals as goal
 
 pub returns : goal.returns

@@ -27,7 +27,6 @@ use Rattle.calls.proofs.Looks.{seen-formed, slot_is, own_is, slot-in, find_first
 use Rattle.calls.proofs.Leaves.{left-refused, left-done}
 use Rattle.calls.proofs.Holders.{one-fits, taken-told}
 use Rattle.calls.proofs.SegmentsLaws.{after}
-use borrow.Author.Rules.{rules}
 use Rattle.calls.proofs.segments.rendezvous.Goals.{After-or_refuse-e-5}
 use Rattle.calls.proofs.segments.rendezvous.Goals as goal
 

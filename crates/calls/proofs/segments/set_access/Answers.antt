@@ -27,7 +27,6 @@ use Rattle.calls.proofs.Refusals.{refusing-first}
 use Rattle.calls.proofs.Leaves.{left-refused, left-done}
 use Rattle.calls.proofs.SegmentsLaws.{after, entry-formed, entry_named}
 use Rattle.calls.proofs.Worlds.{spot}
-use borrow.Author.Rules.{rules}
 use Rattle.calls.proofs.segments.set_access.Goals.{After-or_refuse-e-6}
 use Rattle.calls.proofs.segments.set_access.Goals as goal
 

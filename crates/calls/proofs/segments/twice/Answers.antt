@@ -1,6 +1,5 @@
 -- `segments::twice` meets its contract: the designators are looked at only where nothing refused.
 use borrow.Author.Tests.{eq-eqb, ne_eqb}
-use borrow.Author.Rules.{rules}
 use Rattle.calls.proofs.segments.twice.Goals as goal
 
 pub returns-then-e-eq-XOK : goal.returns-then-e-eq-XOK

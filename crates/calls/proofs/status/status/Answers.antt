@@ -1,6 +1,5 @@
 -- `status::status` meets its contract: the rule goes by the seid's class.
 use Rattle.calls.proofs.Statuses.{of-kind}
-use borrow.Author.Rules.{rules}
 use Rattle.calls.proofs.status.status.Goals as goal
 
 pub returns : goal.returns

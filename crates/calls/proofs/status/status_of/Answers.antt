@@ -3,7 +3,6 @@ use Rattle.calls.proofs.Statuses.{StatusJudged, judged-by, class-small, in_cells
 use Rattle.calls.proofs.Names.{bits_small}
 use Rattle.layout.specs.Kinds.{kind_of}
 use mathlib.Core.Path.{◌∙◌}
-use borrow.Author.Rules.{rules}
 use Rattle.calls.proofs.status.status_of.Goals.{After-find-e}
 use Rattle.calls.proofs.status.status_of.Goals as goal
 

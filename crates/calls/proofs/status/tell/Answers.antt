@@ -3,7 +3,6 @@ use Rattle.calls.proofs.Statuses.{level-here, level-small, told-four}
 use Rattle.laws.proofs.Shape.{shape_of}
 use Rattle.rules.specs.Layout.{configuration}
 use native.Mathlib.Omega.{arith}
-use borrow.Author.Rules.{rules}
 use Rattle.calls.proofs.status.tell.Goals as goal
 
 pub put_four_bytes-requires : goal.put_four_bytes-requires

@@ -2,10 +2,8 @@
 use mathlib.Core.Path.{◌≡◌, ◌∙◌}
 use Rattle.rules.specs.Layout.{configuration}
 use Rattle.rules.specs.Seid.{formed_subtype}
-use Rattle.laws.proofs.Tests.{failed, passed}
 use Rattle.calls.proofs.Names.{sixteen}
 use Rattle.calls.proofs.SubtypesLaws.{subtypes-is, subtype-unseen, subtype-looked}
-use borrow.Author.Rules.{rules}
 use Rattle.calls.proofs.subtypes.look_subtype.Goals.{After-is_seid}
 use Rattle.calls.proofs.subtypes.look_subtype.Goals as goal
 

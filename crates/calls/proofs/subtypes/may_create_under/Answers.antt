@@ -3,7 +3,6 @@ use borrow.Author.Tests.{ne_eqb}
 use Rattle.rules.specs.Call07.{unfit}
 use Rattle.calls.specs.Seen.{capability_of}
 use Rattle.calls.proofs.SubtypesLaws.{create-plain}
-use borrow.Author.Rules.{rules}
 use Rattle.calls.proofs.subtypes.may_create_under.Goals as goal
 
 pub returns-then-by-eq0 : goal.returns-then-by-eq0

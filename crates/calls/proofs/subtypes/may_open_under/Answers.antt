@@ -2,7 +2,6 @@
 use borrow.Author.Tests.{ne_eqb}
 use Rattle.calls.specs.Seen.{capability_of}
 use Rattle.calls.proofs.SubtypesLaws.{open_plain}
-use borrow.Author.Rules.{rules}
 use Rattle.calls.proofs.subtypes.may_open_under.Goals as goal
 
 pub returns-then-s-eq0 : goal.returns-then-s-eq0

@@ -4,7 +4,6 @@ use mathlib.Core.Path.{ap, ◌∙◌}
 use Rattle.rules.specs.Call07.{subtype_for}
 use Rattle.calls.specs.declared.subtypes.Capability.{Capability}
 use Rattle.calls.specs.Seen.{capability_of}
-use borrow.Author.Rules.{rules}
 use Rattle.calls.proofs.subtypes.subtype_for.Goals as goal
 
 pub returns-then-by-eq0 : goal.returns-then-by-eq0

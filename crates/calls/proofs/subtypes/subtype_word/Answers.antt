@@ -1,7 +1,6 @@
 -- `subtypes::subtype_word` meets its contract: the words of a subtype are in the configuration, and past the last there are none.
 use native.Mathlib.Omega.{arith}
 use Rattle.calls.proofs.SubtypesLaws.{word-past, word-told}
-use borrow.Author.Rules.{rules}
 use Rattle.calls.proofs.subtypes.subtype_word.Goals as goal
 
 pub returns-then-n-i : goal.returns-then-n-i

@@ -1,6 +1,5 @@
 -- `begin` meets its contract: a tray that is too long, and one whose table is judged.
 use mathlib.Core.Path.{refl, sym, ◌∙◌}
-use borrow.Author.Rules.{rules}
 use Rattle.calls.proofs.TrayLaws.{begun-long, begun-short}
 use Rattle.calls.proofs.trays.begin.Goals as goal
 

@@ -1,6 +1,5 @@
 -- `begin_quick` meets its contract: what judging hands on, where the working slice is the table's.
 use mathlib.Core.Path.{refl, ◌∙◌}
-use borrow.Author.Rules.{rules}
 use Rattle.calls.proofs.QuickLaws.{begun-fits, begun-other}
 use Rattle.calls.proofs.trays.begin_quick.Goals as goal
 

@@ -1,10 +1,8 @@
 -- `matrix_in` meets its contract: the first c rows are there.
-use Prim.Native.Nat.{◌-◌}
 use mathlib.Core.List.{[]}
-use Rattle.rules.specs.Words.{tab_from}
 use Rattle.rules.specs.Layout.{max_cells}
-use Rattle.layout.specs.Hall.{flow_byte, matrix_in}
-use Rattle.laws.proofs.Tab.{Filled, filled_none, filled_more, filled-all}
+use Rattle.layout.specs.Hall.{matrix_in}
+use Rattle.laws.proofs.Tab.{filled_none, filled_more, filled-all}
 use borrow.Author.Rules.{rules}
 use Rattle.calls.proofs.trays.matrix_in.Goals as goal
 

@@ -3,9 +3,8 @@ use Prim.Native.Nat.{◌-◌}
 use mathlib.Core.List.{[]}
 use Rattle.rules.specs.Words.{tab_from}
 use Rattle.rules.specs.Layout.{max_cells}
-use Rattle.layout.specs.Hall.{flow_byte, matrix_in}
-use Rattle.laws.proofs.Tab.{Filled, filled_none, filled_more, filled-all}
-use borrow.Author.Rules.{rules}
+use Rattle.layout.specs.Hall.{flow_byte}
+use Rattle.laws.proofs.Tab.{Filled}
 use Rattle.calls.proofs.trays.matrix_in.Given as goal
 
 abbrev pub invariant-loop-c : goal.invariant-loop-c

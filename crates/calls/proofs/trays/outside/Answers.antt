@@ -1,5 +1,4 @@
 -- `outside` meets its contract: the caller's refusal, the code's, or the part's.
-use borrow.Author.Rules.{rules}
 use Rattle.calls.proofs.TrayLaws.{outside-caller, outside-code, outside-part}
 use Rattle.calls.proofs.trays.outside.Goals as goal
 

@@ -1,10 +1,8 @@
 -- `row_in` meets its contract: the first d entries of the row are there.
-use Prim.Native.Nat.{◌-◌}
 use mathlib.Core.Path.{refl}
 use mathlib.Core.Bool.{false}
 use Rattle.rules.specs.Layout.{max_cells}
-use Rattle.layout.specs.Hall.{flow_byte}
-use Rattle.laws.proofs.Tab.{Filled, filled_none, filled_more, filled-all}
+use Rattle.laws.proofs.Tab.{filled_none, filled_more, filled-all}
 use borrow.Author.Rules.{rules}
 use Rattle.calls.proofs.trays.row_in.Goals as goal
 

@@ -1,6 +1,5 @@
 -- `run_quick` meets its contract: the call on a part that lies inside, or a refusal; the working slice follows.
 use mathlib.Core.Path.{refl}
-use borrow.Author.Rules.{rules}
 use Rattle.calls.proofs.Whole.{known}
 use Rattle.calls.proofs.TrayLaws.{ready-judged, ran-inside, ran-outside}
 use Rattle.calls.proofs.trays.run_quick.Goals as goal

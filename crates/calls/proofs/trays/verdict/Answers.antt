@@ -4,7 +4,6 @@ use lib.Dec.{ltb}
 use Rattle.rules.specs.Tray.{most_records}
 use mathlib.Core.Bool.{true, false}
 use borrow.Author.Tests.{eq-eqb, ne_eqb}
-use borrow.Author.Rules.{rules}
 use Rattle.calls.proofs.TrayLaws.{verdict-long, verdict-by}
 use Rattle.calls.proofs.trays.verdict.Goals.{Else-too_long}
 use Rattle.calls.proofs.trays.verdict.Goals as goal

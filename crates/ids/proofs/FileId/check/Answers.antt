@@ -1,6 +1,5 @@
 -- `FileId::check` meets its contract: it picks by the test of its class.
 use mathlib.Core.Path.{sym, ◌∙◌}
-use borrow.Author.Rules.{rules}
 use Rattle.laws.proofs.Tests.{cond-true, cond-false}
 use Rattle.ids.proofs.FileId.check.Goals as goal
 

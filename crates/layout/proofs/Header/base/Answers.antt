@@ -1,6 +1,5 @@
 -- `Header::base` meets its contract, kind by kind.
 use native.Mathlib.Omega.{arith}
-use borrow.Author.Rules.{rules}
 use Rattle.layout.proofs.Header.base.Goals as goal
 
 pub returns-in-Process : goal.returns-in-Process

@@ -1,6 +1,5 @@
 -- `Header::entry_at` meets its contract, kind by kind.
 use native.Mathlib.Omega.{arith}
-use borrow.Author.Rules.{rules}
 use Rattle.layout.proofs.Header.entry_at.Goals as goal
 
 pub returns-in-Process : goal.returns-in-Process

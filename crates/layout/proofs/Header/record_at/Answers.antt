@@ -1,6 +1,5 @@
 -- `Header::record_at` meets its contract, kind by kind, each product linear.
 use native.Mathlib.Omega.{arith}
-use borrow.Author.Rules.{rules}
 use Rattle.layout.proofs.Header.record_at.Goals as goal
 
 pub returns-in-Process : goal.returns-in-Process

@@ -1,5 +1,4 @@
 -- `script::Reader::ended` meets its contract, stage by stage.
-use borrow.Author.Rules.{rules}
 use Rattle.script.proofs.Stages.{ended_at_lem}
 use Rattle.script.proofs.Reader.ended.Goals as goal
 

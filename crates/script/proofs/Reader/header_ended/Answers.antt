@@ -1,8 +1,6 @@
 -- `script::Reader::header_ended` meets its contract, way by way.
 use native.Mathlib.Omega.{arith}
-use borrow.Author.Rules.{rules}
 use mathlib.Core.Path.{sym, ◌∙◌}
-use Rattle.laws.proofs.Tests.{passed, failed}
 use Rattle.script.specs.Take.{header_ended}
 use Rattle.script.proofs.Counts.{fits-of}
 use Rattle.script.proofs.Reader.header_ended.Goals as goal

@@ -1,5 +1,4 @@
 -- `script::Reader::is_between` meets its contract, stage by stage.
-use borrow.Author.Rules.{rules}
 use Rattle.script.proofs.Reader.is_between.Goals as goal
 
 pub returns-in-Numbers : goal.returns-in-Numbers

@@ -1,5 +1,4 @@
 -- `script::Reader::keep` meets its contract, stage by stage.
-use borrow.Author.Rules.{rules}
 use Rattle.script.proofs.Reader.keep.Goals as goal
 
 pub returns-in-Header : goal.returns-in-Header

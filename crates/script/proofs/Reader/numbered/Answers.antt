@@ -1,5 +1,4 @@
 -- `script::Reader::numbered` meets its contract: the number is kept, and then it is the last or not.
-use borrow.Author.Rules.{rules}
 use borrow.Author.Tests.{lt-ltb, le-ltb}
 use Rattle.script.specs.Take.{numbered}
 use Rattle.script.proofs.Reader.numbered.Goals as goal

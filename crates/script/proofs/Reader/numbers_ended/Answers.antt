@@ -1,5 +1,4 @@
 -- `script::Reader::numbers_ended` meets its contract, way by way.
-use borrow.Author.Rules.{rules}
 use borrow.Author.Tests.{lt-ltb, le-ltb, eq-eqb, ne_eqb}
 use Rattle.script.specs.Take.{numbers_ended}
 use Rattle.script.proofs.Reader.numbers_ended.Goals as goal

@@ -1,6 +1,5 @@
 -- `script::Reader::take_bytes` meets its contract: the piece ends before the buffer, or not.
 use Rattle.script.proofs.Stretch.{code-more-bytes, code-all-bytes}
-use borrow.Author.Rules.{rules}
 use Rattle.script.proofs.Reader.take_bytes.Goals as goal
 
 pub returns-then-ahead-left : goal.returns-then-ahead-left

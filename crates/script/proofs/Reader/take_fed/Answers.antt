@@ -1,6 +1,5 @@
 -- `script::Reader::take_fed` meets its contract, by what the bytes made of the number.
 use Rattle.script.specs.Take.{fed_took, fed_table}
-use borrow.Author.Rules.{rules}
 use Rattle.script.proofs.Reader.take_fed.Goals as goal
 
 pub returns-in-More : goal.returns-in-More

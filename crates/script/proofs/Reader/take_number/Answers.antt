@@ -1,6 +1,5 @@
 -- `script::Reader::take_number` meets its contract.
 use Rattle.script.proofs.Stretch.{code-number}
-use borrow.Author.Rules.{rules}
 use Rattle.script.proofs.Reader.take_number.Goals as goal
 
 pub returns : goal.returns

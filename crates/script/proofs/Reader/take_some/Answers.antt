@@ -1,5 +1,4 @@
 -- `script::Reader::take_some` meets its contract: a number and a call's buffer.
-use borrow.Author.Rules.{rules}
 use Rattle.script.proofs.Reader.take_some.Goals as goal
 
 pub returns-then-is_bytes : goal.returns-then-is_bytes

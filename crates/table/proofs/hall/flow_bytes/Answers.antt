@@ -1,7 +1,6 @@
 -- `hall::flow_bytes` meets its contract: the rows passed are there, and of this row the entries passed.
-use Rattle.std.proofs.Common.{◌+◌, ◌-◌, ◌*◌, ◌≤◌, arith, rules}
-use Rattle.rules.specs.Layout.{max_cells}
-use Rattle.table.proofs.Told.{EntriesTo, entries_none, entries-more, entries-same, entries-all}
+use Rattle.std.proofs.Common.{arith, rules}
+use Rattle.table.proofs.Told.{entries_none, entries-more, entries-same, entries-all}
 use Rattle.table.proofs.hall.flow_bytes.Goals as goal
 
 pub loop-c-init : goal.loop-c-init

@@ -1,7 +1,7 @@
 -- `hall::flow_bytes` meets its contract: the rows passed are there, and of this row the entries passed.
-use Rattle.std.proofs.Common.{◌+◌, ◌-◌, ◌*◌, ◌≤◌, arith, rules}
+use Rattle.std.proofs.Common.{◌+◌, ◌-◌, ◌*◌, ◌≤◌}
 use Rattle.rules.specs.Layout.{max_cells}
-use Rattle.table.proofs.Told.{EntriesTo, entries_none, entries-more, entries-same, entries-all}
+use Rattle.table.proofs.Told.{EntriesTo}
 use Rattle.table.proofs.hall.flow_bytes.Given as goal
 
 abbrev pub invariant-loop-d : goal.invariant-loop-d

@@ -1,5 +1,4 @@
 -- `hall::put_cells` meets its contract: the bytes are stored where layout says.
-use Rattle.std.proofs.Common.{rules}
 use Rattle.table.proofs.hall.put_cells.Goals as goal
 
 pub returns : goal.returns

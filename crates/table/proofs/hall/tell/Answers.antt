@@ -1,5 +1,4 @@
 -- `hall::tell` meets its contract: four lists are stored, one after the other.
-use Rattle.std.proofs.Common.{rules}
 use Rattle.layout.specs.Hall.{stored}
 use Rattle.table.proofs.hall.tell.Goals as goal
 

@@ -1,12 +1,12 @@
 -- `held::entries_ok` meets its contract: of the used entries each is judged and counted, and the others are right and count for nothing.
-use Rattle.std.proofs.Common.{◌≡◌, ℕ, ◌+◌, ◌-◌, ◌*◌, ◌≤◌, Bool, length, get_or, refl, ap, ◌∙◌, ap₂, arith, rules}
-use Rattle.rules.specs.Words.{all_below, count_below}
+use Rattle.std.proofs.Common.{◌≡◌, ℕ, ◌+◌, ◌*◌, Bool, get_or, refl, ap, ◌∙◌, ap₂, arith, rules}
+use Rattle.rules.specs.Words.{count_below}
 use Rattle.rules.specs.Claim.{test}
-use Rattle.rules.specs.Layout.{max_slots, entries, configuration, rd}
+use Rattle.rules.specs.Layout.{entries, configuration, rd}
 use Rattle.rules.specs.WellFormed.{entry_ok}
 use Rattle.laws.proofs.Below.{count_none, count-more, count_same}
 use Rattle.layout.specs.Kinds.{kind_of}
-use Rattle.table.specs.Entries.{held_word, used_word, unused, names, Counts}
+use Rattle.table.specs.Entries.{held_word, used_word, unused, names}
 use Rattle.table.proofs.Loops.{all_first, all-next, all-last}
 use Rattle.table.proofs.Tally.{counts-first, counts-next, counts-last}
 use Rattle.table.proofs.Listed.{all_same, all_listed, count-listed}

@@ -1,5 +1,5 @@
 -- `held::entry_ok` meets its contract: the tests gathered are those of the rule.
-use Rattle.std.proofs.Common.{◌≡◌, ℕ, ◌+◌, ◌<◌, not, ◌&&◌, ◌||◌, eqb, ltb, leb, [], get_or, ap, ◌∙◌, ap₂, arith, rules}
+use Rattle.std.proofs.Common.{◌≡◌, ℕ, ◌+◌, ◌<◌, not, ◌&&◌, ◌||◌, eqb, ltb, leb, [], get_or, ap, ◌∙◌, ap₂, arith}
 use Rattle.rules.specs.Layout.{max_cells, flows, configuration, at, rd, live, serial}
 use Rattle.layout.specs.Kinds.{kind_of}
 use Rattle.layout.specs.Header.{slots_of}

@@ -1,5 +1,5 @@
 -- `held::held_ok` meets its contract: an index that is no slot's is no form, and the rest is the rule's three tests.
-use Rattle.std.proofs.Common.{ℕ, ◌<◌, ◌&&◌, ltb, leb, [], sym, ap, ◌∙◌, ap₂, arith, rules}
+use Rattle.std.proofs.Common.{ℕ, ◌<◌, ◌&&◌, ltb, leb, [], sym, ap, ◌∙◌, ap₂, arith}
 use Rattle.rules.specs.Layout.{max_cells, slots, flows, configuration, rd, serial}
 use Rattle.layout.specs.Kinds.{kind_of}
 use Rattle.layout.specs.Header.{slots_of}

@@ -1,8 +1,7 @@
 -- `held::held_subtype_ok` meets its contract: a word that names no subtype is refused, and else the tests are those of the rule.
-use Rattle.std.proofs.Common.{◌≡◌, ℕ, ◌<◌, true, not, ◌&&◌, ◌||◌, eqb, [], sym, ap, ◌∙◌, ap₂, arith, rules}
+use Rattle.std.proofs.Common.{◌≡◌, ℕ, ◌<◌, true, not, ◌&&◌, ◌||◌, eqb, [], sym, ap, ◌∙◌, ap₂, arith}
 use Rattle.rules.specs.Layout.{max_cells, subtype_cell, flows, configuration}
 use Rattle.rules.specs.Seid.{index_of}
-use Rattle.laws.proofs.Tests.{passed, failed}
 use Rattle.table.proofs.Holders.{flow-at}
 use Rattle.table.proofs.Named.{named_by, named-read, named_in, subtype-low, descriptor-out, descriptor-in}
 use Rattle.table.proofs.held.held_subtype_ok.Goals.{After-cell_of-cell, After-index_of}

@@ -1,5 +1,5 @@
 -- `held::judge_entry` meets its contract: an index that is no slot's leaves a subtype to be judged, and else the entry is counted for its slot and judged.
-use Rattle.std.proofs.Common.{◌<◌, eqb, ◌∙◌, arith, rules}
+use Rattle.std.proofs.Common.{◌<◌, eqb, ◌∙◌, arith}
 use Rattle.rules.specs.Layout.{max_slots, slots, configuration, rd}
 use Rattle.laws.proofs.Below.{one-le}
 use Rattle.layout.specs.Kinds.{kind_of}

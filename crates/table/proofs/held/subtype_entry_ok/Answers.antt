@@ -1,5 +1,5 @@
 -- `held::subtype_entry_ok` meets its contract, kind by kind.
-use Rattle.std.proofs.Common.{◌∙◌, rules}
+use Rattle.std.proofs.Common.{◌∙◌}
 use Rattle.table.proofs.Named.{descriptor-holds}
 use Rattle.table.proofs.held.subtype_entry_ok.Goals as goal
 

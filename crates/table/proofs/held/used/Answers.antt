@@ -1,9 +1,9 @@
 -- `held::used` meets its contract: where all words are zero no entry is used; else the used entries passed are squeezed to the front, and the words put at its end
 -- count only where their entry is used.
-use Rattle.std.proofs.Common.{◌≡◌, ◌+◌, ◌-◌, ◌*◌, ◌<◌, ◌≤◌, not, length, sym, refl, ◌∙◌, arith, length-set, lt-length-set, rules}
+use Rattle.std.proofs.Common.{◌≡◌, ◌+◌, ◌*◌, ◌<◌, not, length, sym, refl, ◌∙◌, arith, length-set, lt-length-set, rules}
 use Rattle.rules.specs.Layout.{entries}
 use Rattle.laws.proofs.Below.{one-le}
-use Rattle.table.specs.Entries.{unused, Squeezed}
+use Rattle.table.specs.Entries.{unused}
 use Rattle.table.proofs.Listed.{squeezed-none, squeezed-zeros, squeezed-next}
 use Rattle.table.proofs.held.used.Goals.{After-shared_slice_known-in-loop-d-2-1}
 use Rattle.table.proofs.held.used.Goals as goal

@@ -1,5 +1,5 @@
 -- `held::valid_use` meets its contract, kind by kind.
-use Rattle.std.proofs.Common.{Bool, List, ap, ◌∙◌, rules}
+use Rattle.std.proofs.Common.{Bool, List, ap, ◌∙◌}
 use Rattle.modes.specs.Valid.{said_in}
 use Rattle.modes.proofs.Numbers.{valid-told}
 use Rattle.table.proofs.held.valid_use.Goals as goal

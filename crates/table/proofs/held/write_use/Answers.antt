@@ -1,5 +1,4 @@
 -- `held::write_use` meets its contract, kind by kind.
-use Rattle.std.proofs.Common.{rules}
 use Rattle.table.proofs.held.write_use.Goals as goal
 
 pub returns-in-Process : goal.returns-in-Process

@@ -1,5 +1,5 @@
 -- `objects::file_ok` meets its contract: the record's words, one by one, its subtype and its count.
-use Rattle.std.proofs.Common.{◌+◌, Bool, ◌&&◌, eqb, get_or, ap, ◌∙◌, arith, rules}
+use Rattle.std.proofs.Common.{◌+◌, Bool, ◌&&◌, eqb, get_or, ap, ◌∙◌, arith}
 use Rattle.rules.specs.Layout.{links, opens}
 use Rattle.table.proofs.Object.{file-claim}
 use Rattle.table.proofs.objects.file_ok.Goals as goal

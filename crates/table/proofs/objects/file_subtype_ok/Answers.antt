@@ -1,5 +1,5 @@
 -- `objects::file_subtype_ok` meets its contract: the word is 0, or it names a subtype of the file's cell.
-use Rattle.std.proofs.Common.{ℕ, ◌<◌, ◌&&◌, eqb, sym, ap, ◌∙◌, arith, rules}
+use Rattle.std.proofs.Common.{ℕ, ◌<◌, ◌&&◌, eqb, sym, ap, ◌∙◌, arith}
 use Rattle.rules.specs.Layout.{file, slots, subtype_cell, configuration}
 use Rattle.rules.specs.Seid.{index_of, names_subtype}
 use Rattle.table.proofs.Config.{slots_read}

@@ -1,5 +1,4 @@
 -- `objects::object_ok` meets its contract, kind by kind.
-use Rattle.std.proofs.Common.{rules}
 use Rattle.table.proofs.objects.object_ok.Goals as goal
 
 pub segment_ok-requires : goal.segment_ok-requires

@@ -1,11 +1,7 @@
 -- `objects::objects_ok` meets its contract: `ok` says that every object passed is right.
-use Rattle.std.proofs.Common.{◌≡◌, ◌-◌, ◌≤◌, sym, ◌∙◌, arith, rules}
-use Rattle.rules.specs.Words.{all_below}
-use Rattle.rules.specs.Claim.{test}
-use Rattle.rules.specs.Layout.{slots, configuration, rd}
+use Rattle.std.proofs.Common.{sym, ◌∙◌, arith, rules}
 use Rattle.rules.specs.WellFormed.{own_entries}
 use Rattle.layout.specs.Kinds.{kind_of}
-use Rattle.table.specs.Entries.{object_ok}
 use Rattle.table.proofs.Loops.{all_first, all-next, all-last}
 use Rattle.table.proofs.Config.{slots_read}
 use Rattle.table.proofs.Config.{slots_small}

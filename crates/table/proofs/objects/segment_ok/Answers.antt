@@ -1,5 +1,5 @@
 -- `objects::segment_ok` meets its contract: the record's words, one by one, and its count.
-use Rattle.std.proofs.Common.{◌+◌, Bool, ◌&&◌, eqb, get_or, ap, ◌∙◌, rules}
+use Rattle.std.proofs.Common.{◌+◌, Bool, ◌&&◌, eqb, get_or, ap, ◌∙◌}
 use Rattle.rules.specs.Layout.{references}
 use Rattle.table.proofs.Object.{segment-claim}
 use Rattle.table.proofs.objects.segment_ok.Goals as goal

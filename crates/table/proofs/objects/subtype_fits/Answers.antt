@@ -1,7 +1,6 @@
 -- `objects::subtype_fits` meets its contract: a word that names no subtype is refused, and else the cell decides.
-use Rattle.std.proofs.Common.{◌≡◌, ℕ, true, eqb, sym, ap, ◌∙◌, arith, rules}
+use Rattle.std.proofs.Common.{◌≡◌, ℕ, true, eqb, sym, ap, ◌∙◌, arith}
 use Rattle.rules.specs.Layout.{subtype_cell, configuration}
-use Rattle.laws.proofs.Tests.{passed, failed}
 use Rattle.table.proofs.Named.{named_by, named-read, named_in}
 use Rattle.table.proofs.objects.subtype_fits.Goals.{After-index_of}
 use Rattle.table.proofs.objects.subtype_fits.Goals as goal

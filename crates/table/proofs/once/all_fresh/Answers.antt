@@ -1,8 +1,5 @@
 -- `once::all_fresh` meets its contract: `ok` says that every entry passed is fresh.
-use Rattle.std.proofs.Common.{◌≡◌, ◌-◌, ◌≤◌, refl, rules}
-use Rattle.rules.specs.Words.{all_below}
-use Rattle.rules.specs.Layout.{entries}
-use Rattle.table.specs.Entries.{held_word, fresh}
+use Rattle.std.proofs.Common.{refl, rules}
 use Rattle.table.proofs.Loops.{all_first, all-next, all-last}
 use Rattle.table.proofs.once.all_fresh.Goals as goal
 

@@ -1,8 +1,8 @@
 -- `once::apart` meets its contract: every key passed has been seen, and while none was seen before no two entries passed hold the same.
-use Rattle.std.proofs.Common.{◌≡◌, ℕ, ◌-◌, ◌*◌, ◌≤◌, true, length, get_or, arith, length-set, rules, below_none}
+use Rattle.std.proofs.Common.{◌≡◌, ℕ, ◌*◌, get_or, arith, length-set, rules, below_none}
 use Rattle.laws.proofs.Tests.{and_left, and_right, failed}
-use Rattle.table.specs.Entries.{keys, key_of, Apart}
-use Rattle.table.proofs.Listed.{Seen, seen_next, apart_next}
+use Rattle.table.specs.Entries.{key_of}
+use Rattle.table.proofs.Listed.{seen_next, apart_next}
 use Rattle.table.proofs.once.apart.Goals as goal
 
 pub loop-e-init : goal.loop-e-init

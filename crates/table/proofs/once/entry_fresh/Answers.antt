@@ -1,6 +1,5 @@
 -- `once::entry_fresh` meets its contract: an empty entry is passed over; else no entry passed holds the same, and one that does decides.
-use Rattle.std.proofs.Common.{◌≡◌, ◌-◌, ◌≤◌, true, not, ◌||◌, eqb, sym, refl, ap, ◌∙◌, rules, eq-eqb, ne_eqb}
-use Rattle.rules.specs.Words.{all_below}
+use Rattle.std.proofs.Common.{not, sym, refl, ap, ◌∙◌, rules, eq-eqb, ne_eqb}
 use Rattle.table.specs.Entries.{held_word}
 use Rattle.table.proofs.Loops.{all_first, all-next, all-last}
 use Rattle.table.proofs.Alive.{fresh-empty, fresh-next}

@@ -1,5 +1,5 @@
 -- `once::held_once` meets its contract: keys that all differ show it, and else each entry against each does.
-use Rattle.std.proofs.Common.{sym, ◌∙◌, arith, rules, eqb-true}
+use Rattle.std.proofs.Common.{sym, ◌∙◌, arith, eqb-true}
 use Rattle.rules.specs.Layout.{entries}
 use Rattle.laws.proofs.Tests.{and_left}
 use Rattle.table.specs.Entries.{held_word, unused}

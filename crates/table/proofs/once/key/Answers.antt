@@ -1,5 +1,5 @@
 -- `once::key` meets its contract.
-use Rattle.std.proofs.Common.{ℕ, ◌+◌, ◌*◌, ◌%◌, ◌∙◌, ap₂, arith, rules}
+use Rattle.std.proofs.Common.{ℕ, ◌+◌, ◌*◌, ◌%◌, ◌∙◌, ap₂, arith}
 use Rattle.laws.proofs.Seids.{index-small, serial-small}
 use Rattle.table.proofs.once.key.Goals as goal
 

@@ -1,6 +1,5 @@
 -- `pages::page_ok` meets its contract: a page that is 0, that names no designator, or by what the designator holds.
-use Rattle.std.proofs.Common.{sym, ◌∙◌, arith, rules}
-use Rattle.rules.specs.Layout.{at}
+use Rattle.std.proofs.Common.{sym, ◌∙◌, arith}
 use Rattle.table.specs.Entries.{record_at}
 use Rattle.table.proofs.Alive.{page-free, page-beyond, page-held}
 use Rattle.table.proofs.pages.page_ok.Goals as goal

@@ -1,10 +1,5 @@
 -- `pages::pages_ok` meets its contract: `ok` says that every page passed is right.
-use Rattle.std.proofs.Common.{◌≡◌, ◌-◌, ◌≤◌, refl, rules}
-use Rattle.rules.specs.Words.{all_below}
-use Rattle.rules.specs.Claim.{test}
-use Rattle.rules.specs.Layout.{pages}
-use Rattle.rules.specs.WellFormed.{page_ok}
-use Rattle.table.specs.Entries.{record_at}
+use Rattle.std.proofs.Common.{refl, rules}
 use Rattle.table.proofs.Loops.{all_first, all-next, all-last}
 use Rattle.table.proofs.pages.pages_ok.Goals as goal
 

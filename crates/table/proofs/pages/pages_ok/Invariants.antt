@@ -1,11 +1,10 @@
 -- `pages::pages_ok` meets its contract: `ok` says that every page passed is right.
-use Rattle.std.proofs.Common.{◌≡◌, ◌-◌, ◌≤◌, refl, rules}
+use Rattle.std.proofs.Common.{◌≡◌, ◌-◌, ◌≤◌}
 use Rattle.rules.specs.Words.{all_below}
 use Rattle.rules.specs.Claim.{test}
 use Rattle.rules.specs.Layout.{pages}
 use Rattle.rules.specs.WellFormed.{page_ok}
 use Rattle.table.specs.Entries.{record_at}
-use Rattle.table.proofs.Loops.{all_first, all-next, all-last}
 use Rattle.table.proofs.pages.pages_ok.Given as goal
 
 abbrev pub invariant-loop-g : goal.invariant-loop-g

@@ -1,5 +1,5 @@
 -- `places::index_in` meets its contract: class and index make one number, and the class's part is taken off.
-use Rattle.std.proofs.Common.{arith, rules}
+use Rattle.std.proofs.Common.{arith}
 use Rattle.rules.specs.Seid.{class}
 use Rattle.laws.proofs.Seids.{class_low}
 use Rattle.layout.specs.Kinds.{kind_of}

@@ -1,5 +1,5 @@
 -- `places::record_at` meets its contract: the place is layout's, and the table has it.
-use Rattle.std.proofs.Common.{arith, rules}
+use Rattle.std.proofs.Common.{arith}
 use Rattle.layout.specs.Kinds.{kind_of}
 use Rattle.table.proofs.Config.{slots_small, record_is}
 use Rattle.table.proofs.places.record_at.Goals as goal

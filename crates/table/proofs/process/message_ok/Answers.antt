@@ -1,5 +1,5 @@
 -- `process::message_ok` meets its contract, for a message in the queue and for one past it.
-use Rattle.std.proofs.Common.{ℕ, eqb, ap, ◌∙◌, ap₂, arith, rules}
+use Rattle.std.proofs.Common.{ℕ, eqb, ap, ◌∙◌, ap₂, arith}
 use Rattle.rules.specs.Words.{all_below}
 use Rattle.rules.specs.Claim.{test}
 use Rattle.rules.specs.Layout.{process, queue, message_at, configuration, rd}

@@ -1,9 +1,7 @@
 -- `process::messages_ok` meets its contract: of an empty queue every word is zero; else `ok` says that every message passed is right.
-use Rattle.std.proofs.Common.{◌≡◌, ℕ, ◌-◌, ◌*◌, ◌≤◌, eqb, sym, refl, ap, ◌∙◌, rules}
+use Rattle.std.proofs.Common.{ℕ, ◌*◌, eqb, sym, refl, ap, ◌∙◌, rules}
 use Rattle.rules.specs.Words.{all_below}
-use Rattle.rules.specs.Claim.{test}
 use Rattle.rules.specs.Layout.{process, queue, messages, message_words, message_at, configuration, rd}
-use Rattle.rules.specs.WellFormed.{message_ok}
 use Rattle.table.proofs.Holders.{record-word, record-words}
 use Rattle.table.proofs.Alive.{messages-unused}
 use Rattle.table.proofs.Loops.{all_first, all-next, all-last}

@@ -1,12 +1,9 @@
 -- `process::messages_ok` meets its contract: of an empty queue every word is zero; else `ok` says that every message passed is right.
-use Rattle.std.proofs.Common.{◌≡◌, ℕ, ◌-◌, ◌*◌, ◌≤◌, eqb, sym, refl, ap, ◌∙◌, rules}
+use Rattle.std.proofs.Common.{◌≡◌, ◌-◌, ◌≤◌}
 use Rattle.rules.specs.Words.{all_below}
 use Rattle.rules.specs.Claim.{test}
-use Rattle.rules.specs.Layout.{process, queue, messages, message_words, message_at, configuration, rd}
+use Rattle.rules.specs.Layout.{messages, configuration, rd}
 use Rattle.rules.specs.WellFormed.{message_ok}
-use Rattle.table.proofs.Holders.{record-word, record-words}
-use Rattle.table.proofs.Alive.{messages-unused}
-use Rattle.table.proofs.Loops.{all_first, all-next, all-last}
 use Rattle.table.proofs.process.messages_ok.Given as goal
 
 abbrev pub invariant-loop-m : goal.invariant-loop-m

@@ -1,5 +1,5 @@
 -- `process::parent_ok` meets its contract: no parent, an index that is no slot's, or a process of the same cell.
-use Rattle.std.proofs.Common.{◌<◌, ◌&&◌, eqb, ltb, sym, ap, ◌∙◌, ap₂, arith, rules}
+use Rattle.std.proofs.Common.{◌<◌, ◌&&◌, eqb, ltb, sym, ap, ◌∙◌, ap₂, arith}
 use Rattle.rules.specs.Layout.{process, parent, slots, configuration}
 use Rattle.table.proofs.Config.{slots_read}
 use Rattle.table.proofs.Holders.{slots-few, record-word}

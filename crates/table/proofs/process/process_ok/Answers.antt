@@ -1,5 +1,5 @@
 -- `process::process_ok` meets its contract: a live process test by test, and one that is not, which holds nothing.
-use Rattle.std.proofs.Common.{◌≡◌, ℕ, ◌+◌, ◌<◌, ◌≤◌, ◌&&◌, eqb, leb, length, sym, ap, ◌∙◌, ap₂, arith, rules}
+use Rattle.std.proofs.Common.{◌≡◌, ℕ, ◌+◌, ◌<◌, ◌≤◌, ◌&&◌, eqb, leb, length, sym, ap, ◌∙◌, ap₂, arith}
 use Rattle.rules.specs.Layout.{max_cells, max_bits, record_words, process, segment, file, queue, bits, zero7, cell_of, configuration, at, rd, live}
 use Rattle.laws.proofs.Tests.{and_both}
 use Rattle.table.proofs.Config.{slots_read}

@@ -1,12 +1,6 @@
 -- `process::processes_ok` meets its contract: every process passed is right and counted, and one that is wrong decides.
-use Rattle.std.proofs.Common.{◌≡◌, ◌-◌, ◌≤◌, true, sym, ◌∙◌, true≢false, arith, rules}
-use Rattle.rules.specs.Words.{all_below}
-use Rattle.rules.specs.Claim.{test}
-use Rattle.rules.specs.Layout.{process, segment, file, slots, configuration, rd}
-use Rattle.rules.specs.WellFormed.{process_ok}
-use Rattle.laws.proofs.Tests.{passed, failed}
-use Rattle.layout.specs.Header.{slots_of}
-use Rattle.table.specs.Entries.{Tally}
+use Rattle.std.proofs.Common.{◌≡◌, sym, ◌∙◌, true≢false, arith, rules}
+use Rattle.rules.specs.Layout.{process, slots, configuration}
 use Rattle.table.proofs.Loops.{all_first, all-next, all-last}
 use Rattle.table.proofs.Config.{slots_read}
 use Rattle.table.proofs.Object.{tally-next, all-not}

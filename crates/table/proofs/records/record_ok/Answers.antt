@@ -1,5 +1,4 @@
 -- `records::record_ok` meets its contract, for a free record and for any other.
-use Rattle.std.proofs.Common.{rules}
 use Rattle.rules.specs.Claim.{is}
 use Rattle.layout.specs.Kinds.{kind_of}
 use Rattle.table.specs.Entries.{record_at}

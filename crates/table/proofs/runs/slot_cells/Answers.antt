@@ -1,11 +1,11 @@
 -- `runs::slot_cells` meets its contract: the runs of the cells passed are filled, and of this cell's run the slots passed; what lies past them is still 0.
-use Rattle.std.proofs.Common.{◌≡◌, ℕ, ◌+◌, ◌-◌, ◌<◌, ◌≤◌, length, sym, ap, ◌∙◌, arith, length-set, rules}
+use Rattle.std.proofs.Common.{◌≡◌, ℕ, ◌+◌, ◌<◌, length, sym, ap, ◌∙◌, arith, length-set, rules}
 use lib.ListN.{length-replicate}
 use Rattle.rules.specs.Layout.{max_slots, Kind, cells, cell_slots_word, first_slot, configuration, cell_at}
 use Rattle.layout.specs.Kinds.{kind_of}
 use Rattle.table.proofs.Loops.{sum_first}
 use Rattle.table.proofs.Config.{cells-read}
-use Rattle.table.proofs.Filled.{cells_to, run_fits, run-next, filled_none, filled_more, filled-all}
+use Rattle.table.proofs.Filled.{run_fits, run-next, filled_none, filled_more, filled-all}
 use Rattle.table.proofs.runs.slot_cells.Goals as goal
 
 pub loop-c-init : goal.loop-c-init

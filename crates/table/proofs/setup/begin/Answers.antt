@@ -1,5 +1,5 @@
 -- `setup::begin` meets its contract: each store keeps the length.
-use Rattle.std.proofs.Common.{◌+◌, ◌<◌, length, set, arith, lt-length-set, rules}
+use Rattle.std.proofs.Common.{◌+◌, ◌<◌, length, set, arith, lt-length-set}
 use Rattle.table.proofs.setup.begin.Goals as goal
 
 pub bounds-t-at-2 : goal.bounds-t-at-2

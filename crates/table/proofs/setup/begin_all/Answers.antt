@@ -1,6 +1,6 @@
 -- `setup::begin_all` meets its contract: the first processes of the cells passed have begun.
-use Rattle.std.proofs.Common.{◌-◌, refl, arith, rules}
-use Rattle.table.proofs.Begun.{Begun, begun-none, begun-long, begun-low, cell_in, record-in, slot-in, begun_more, begun_all}
+use Rattle.std.proofs.Common.{refl, arith}
+use Rattle.table.proofs.Begun.{begun-none, begun-long, begun-low, cell_in, record-in, slot-in, begun_more, begun_all}
 use Rattle.table.proofs.setup.begin_all.Goals as goal
 
 pub loop-c-init : goal.loop-c-init

@@ -1,6 +1,6 @@
 -- `setup::begin_all` meets its contract: the first processes of the cells passed have begun.
-use Rattle.std.proofs.Common.{◌-◌, refl, arith, rules}
-use Rattle.table.proofs.Begun.{Begun, begun-none, begun-long, begun-low, cell_in, record-in, slot-in, begun_more, begun_all}
+use Rattle.std.proofs.Common.{◌-◌}
+use Rattle.table.proofs.Begun.{Begun}
 use Rattle.table.proofs.setup.begin_all.Given as goal
 
 abbrev pub invariant-loop-c : goal.invariant-loop-c

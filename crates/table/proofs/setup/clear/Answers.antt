@@ -1,6 +1,6 @@
 -- `setup::clear` meets its contract: the words passed are zero.
-use Rattle.std.proofs.Common.{◌≡◌, ◌-◌, ◌≤◌, length, arith, rules}
-use Rattle.table.proofs.Begun.{Zeroed, zeroed-none, zeroed-more, zeroed-all}
+use Rattle.std.proofs.Common.{arith, rules}
+use Rattle.table.proofs.Begun.{zeroed-none, zeroed-more, zeroed-all}
 use Rattle.table.proofs.setup.clear.Goals as goal
 
 pub loop-i-init : goal.loop-i-init

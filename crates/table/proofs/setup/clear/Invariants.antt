@@ -1,6 +1,6 @@
 -- `setup::clear` meets its contract: the words passed are zero.
-use Rattle.std.proofs.Common.{◌≡◌, ◌-◌, ◌≤◌, length, arith, rules}
-use Rattle.table.proofs.Begun.{Zeroed, zeroed-none, zeroed-more, zeroed-all}
+use Rattle.std.proofs.Common.{◌≡◌, ◌-◌, ◌≤◌, length}
+use Rattle.table.proofs.Begun.{Zeroed}
 use Rattle.table.proofs.setup.clear.Given as goal
 
 abbrev pub invariant-loop-i : goal.invariant-loop-i

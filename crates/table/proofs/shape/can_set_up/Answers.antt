@@ -1,6 +1,5 @@
 -- `shape::can_set_up` meets its contract: a table that is too short, a bad header and wrong lengths each refute the claim; else the cells and the subtypes decide it.
 use Rattle.std.proofs.Common.{sym, ◌∙◌, rules}
-use Rattle.laws.proofs.Tests.{passed, failed}
 use Rattle.table.proofs.Config.{header_read, too_short, wrong-header, wrong-lengths, right-frame, small_of, framed_of}
 use Rattle.table.proofs.shape.can_set_up.Goals as goal
 

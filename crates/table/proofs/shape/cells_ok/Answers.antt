@@ -1,9 +1,5 @@
 -- `shape::cells_ok` meets its contract: `ok` says that every cell passed is right.
-use Rattle.std.proofs.Common.{◌≡◌, ◌-◌, ◌≤◌, sym, ◌∙◌, arith, rules}
-use Rattle.rules.specs.Words.{all_below}
-use Rattle.rules.specs.Claim.{test}
-use Rattle.rules.specs.Layout.{cells, configuration}
-use Rattle.rules.specs.WellFormed.{cell_ok}
+use Rattle.std.proofs.Common.{sym, ◌∙◌, arith, rules}
 use Rattle.table.proofs.Loops.{all_first, all-next, all-last}
 use Rattle.table.proofs.Config.{cells-read}
 use Rattle.table.proofs.shape.cells_ok.Goals as goal

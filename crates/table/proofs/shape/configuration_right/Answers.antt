@@ -1,5 +1,4 @@
 -- `shape::configuration_right` meets its contract.
-use Rattle.std.proofs.Common.{rules}
 use Rattle.table.proofs.shape.configuration_right.Goals as goal
 
 pub returns : goal.returns

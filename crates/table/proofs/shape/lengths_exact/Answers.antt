@@ -1,5 +1,5 @@
 -- `shape::lengths_exact` meets its contract.
-use Rattle.std.proofs.Common.{mul-le-mul, arith, rules}
+use Rattle.std.proofs.Common.{mul-le-mul, arith}
 use Rattle.rules.specs.Layout.{file}
 use Rattle.rules.specs.WellFormed.{lengths_exact}
 use Rattle.table.proofs.Config.{slots_read, base_read, blocks-read}

@@ -1,6 +1,5 @@
 -- `shape::levels_distinct` meets its contract: `ok` says that every cell passed has a level of its own, and that this one differs from those before it that are passed.
-use Rattle.std.proofs.Common.{◌≡◌, ℕ, ◌-◌, ◌<◌, ◌≤◌, Bool, not, ◌&&◌, ltb, List, get_or, sym, ap, ◌∙◌, ap₂, arith, rules, lt-ltb}
-use Rattle.rules.specs.Words.{all_below}
+use Rattle.std.proofs.Common.{◌≡◌, ℕ, ◌<◌, ◌≤◌, not, ltb, List, get_or, sym, ap, ◌∙◌, ap₂, arith, rules, lt-ltb}
 use Rattle.rules.specs.Level.{equals}
 use Rattle.rules.specs.Layout.{max_cells, cells, level_of, configuration}
 use Rattle.rules.specs.WellFormed.{levels_distinct}
@@ -8,7 +7,7 @@ use Rattle.laws.proofs.Tests.{cond-true}
 use Rattle.laws.proofs.Fill.{tab-at}
 use Rattle.levels.specs.declared.Level.{Level}
 use Rattle.levels.specs.Rule.{rule_level}
-use Rattle.table.proofs.Loops.{all_first, all-last, pairs_below, pair-first, pair-next, pair-last}
+use Rattle.table.proofs.Loops.{all_first, all-last, pair-first, pair-next, pair-last}
 use Rattle.table.proofs.Config.{cells-read}
 use Rattle.table.proofs.shape.levels_distinct.Invariants.{differ}
 use Rattle.table.proofs.shape.levels_distinct.Goals.{After-levels-all}

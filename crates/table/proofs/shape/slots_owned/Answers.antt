@@ -1,7 +1,6 @@
 -- `shape::slots_owned` meets its contract: the sum of the cells passed, which fits since each word does.
-use Rattle.std.proofs.Common.{◌≡◌, ◌-◌, ◌*◌, ◌≤◌, sym, ◌∙◌, arith, rules}
-use Rattle.rules.specs.Words.{sum_below}
-use Rattle.rules.specs.Layout.{cells, cell_word, configuration, cell_at}
+use Rattle.std.proofs.Common.{sym, ◌∙◌, arith, rules}
+use Rattle.rules.specs.Layout.{cell_at}
 use Rattle.table.proofs.Loops.{sum_first, sum-next, sum-last}
 use Rattle.table.proofs.Config.{cells-read, cell-word}
 use Rattle.table.proofs.shape.slots_owned.Goals as goal

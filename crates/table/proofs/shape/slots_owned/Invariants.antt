@@ -1,9 +1,7 @@
 -- `shape::slots_owned` meets its contract: the sum of the cells passed, which fits since each word does.
-use Rattle.std.proofs.Common.{◌≡◌, ◌-◌, ◌*◌, ◌≤◌, sym, ◌∙◌, arith, rules}
+use Rattle.std.proofs.Common.{◌≡◌, ◌-◌, ◌*◌, ◌≤◌}
 use Rattle.rules.specs.Words.{sum_below}
-use Rattle.rules.specs.Layout.{cells, cell_word, configuration, cell_at}
-use Rattle.table.proofs.Loops.{sum_first, sum-next, sum-last}
-use Rattle.table.proofs.Config.{cells-read, cell-word}
+use Rattle.rules.specs.Layout.{cells, cell_word, configuration}
 use Rattle.table.proofs.shape.slots_owned.Given as goal
 
 abbrev pub invariant-loop-c : goal.invariant-loop-c

@@ -1,5 +1,5 @@
 -- `shape::subtype_ok` meets its contract: the subtype's claims, word by word.
-use Rattle.std.proofs.Common.{arith, rules}
+use Rattle.std.proofs.Common.{arith}
 use Rattle.rules.specs.WellFormed.{subtype_ok}
 use Rattle.table.proofs.Config.{cells-read, subtype-word}
 use Rattle.table.proofs.shape.subtype_ok.Goals as goal

@@ -1,11 +1,9 @@
 -- `shape::subtypes_ok` meets its contract: `ok` says that every subtype passed is right.
-use Rattle.std.proofs.Common.{◌≡◌, ◌-◌, ◌≤◌, sym, rules}
+use Rattle.std.proofs.Common.{◌≡◌, ◌-◌, ◌≤◌}
 use Rattle.rules.specs.Words.{all_below}
 use Rattle.rules.specs.Claim.{test}
 use Rattle.rules.specs.Layout.{subtypes, configuration}
 use Rattle.rules.specs.WellFormed.{subtype_ok}
-use Rattle.table.proofs.Loops.{all_first, all-next, all-last}
-use Rattle.table.proofs.Config.{subtypes-read}
 use Rattle.table.proofs.shape.subtypes_ok.Given as goal
 
 abbrev pub invariant-loop-i : goal.invariant-loop-i

@@ -2,7 +2,6 @@
 use Rattle.rules.specs.Layout.{first_slot, process, segment, file}
 use Rattle.rules.specs.WellFormed.{sums_match}
 use Rattle.table.proofs.Config.{slots_read}
-use Rattle.std.proofs.Common.{rules}
 use Rattle.table.proofs.shape.sums_match.Goals as goal
 
 pub returns : goal.returns

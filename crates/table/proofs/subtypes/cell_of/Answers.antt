@@ -1,5 +1,5 @@
 -- `subtypes::cell_of` meets its contract: the first of the subtype's words.
-use Rattle.std.proofs.Common.{ℕ, ◌+◌, get_or, sym, ap, ◌∙◌, arith, rules}
+use Rattle.std.proofs.Common.{ℕ, ◌+◌, get_or, sym, ap, ◌∙◌, arith}
 use Rattle.table.proofs.Config.{subtype-word}
 use Rattle.table.proofs.subtypes.cell_of.Goals as goal
 

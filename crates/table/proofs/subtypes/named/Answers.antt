@@ -1,5 +1,4 @@
 -- `subtypes::named` meets its contract.
-use Rattle.std.proofs.Common.{rules}
 use Rattle.table.proofs.subtypes.named.Goals as goal
 
 pub returns : goal.returns
