@@ -28,4 +28,3 @@ pub mod QuickPlaces
 pub mod QuickSteps
 pub mod Going
 pub mod GoingQuick
-pub mod Again

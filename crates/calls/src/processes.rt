@@ -35,7 +35,7 @@ pub(crate) fn spawn(
     bits: u32,
 ) -> Answer
     requires { Sound t.old n c × (q ≡ slot_found (configuration t.old) (words_of t.old) process c.cell) }
-    ensures* { λ r. ⌜ ((buffer : List ℕ) → Left t.old (λ h r. spawn h r c.slot a b bits buffer) r t.new) ⌝ }
+    ensures { (buffer : List ℕ) → Left t.old (λ h x. spawn h x c.slot a b bits buffer) result t.new }
 {
     let me = c.slot;
     let owner = read(t, n, Kind::Process, me, OWNER);

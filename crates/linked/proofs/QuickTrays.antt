@@ -69,7 +69,7 @@ module _ (d : DoneQuick) where
   leaves-work = d.last.1.1.1.1.0
 
   -- that is what the rules' quick tray leaves
-  pub leaves-is : leaves ≡ after_quick found work bytes tray .tray
+  pub leaves-is : leaves ≡ (after_quick found work bytes tray).tray
   leaves-is = λ i. left (state_of (d.allowed.table i) (d.allowed.store i)) (d.allowed.bytes i) (d.allowed.records i)
 
   -- and what is allowed is what the contract in the source says, word for word

@@ -1,4 +1,4 @@
-// What a host in C or Rust links: the proved functions under C names, with the same contracts. A slice is a pointer and a length.
+// What a host links: the proved functions, with the contracts that a host may take. The crate monitor_c exports them under the same names for C and Rust hosts. A slice is a pointer and a length.
 #![tactic(auto)]
 
 ghost use Rattle.std.specs.Prelude.{◌≡◌, cond, ◌+◌, ◌≤◌, length};
@@ -19,16 +19,14 @@ const WELL_FORMED: u32 = 0;
 
 const NOT_WELL_FORMED: u32 = 1;
 
-#[unsafe(no_mangle)]
-pub extern "C" fn monitor_setup(table: &mut [u32], store_bytes: usize) -> u32
+pub fn monitor_setup(table: &mut [u32], store_bytes: usize) -> u32
     ensures value { result ≡ set_up_answer table.old store_bytes }
     ensures table_after { table.new ≡ set_up_table table.old store_bytes }
 {
     table::set_up(table, store_bytes)
 }
 
-#[unsafe(no_mangle)]
-pub extern "C" fn monitor_check(table: &[u32], store_bytes: usize) -> u32
+pub fn monitor_check(table: &[u32], store_bytes: usize) -> u32
     ensures { result ≡ cond (test (well_formed table.now store_bytes)) 0 1 }
 {
     if table::check(table, store_bytes) {
@@ -37,8 +35,7 @@ pub extern "C" fn monitor_check(table: &[u32], store_bytes: usize) -> u32
     NOT_WELL_FORMED
 }
 
-#[unsafe(no_mangle)]
-pub extern "C" fn monitor_call(
+pub fn monitor_call(
     table: &mut [u32],
     store: &mut [u8],
     caller: u32,
@@ -54,31 +51,27 @@ pub extern "C" fn monitor_call(
 }
 
 // A part of the store can't be handed out here: its number, its first byte and its count are.
-#[unsafe(no_mangle)]
-pub extern "C" fn monitor_view(table: &[u32], store: &[u8], caller: u32, a: u32, b: u32) -> Part
+pub fn monitor_view(table: &[u32], store: &[u8], caller: u32, a: u32, b: u32) -> Part
     ensures value { result ≡ view_part (state_of table.now store.now) caller a b }
     ensures count_in_bounds { result.from + result.count ≤ length store.now }
 {
     calls::view_part(table, store, caller, a, b)
 }
 
-#[unsafe(no_mangle)]
-pub extern "C" fn monitor_image_length(table: &[u32], store_bytes: usize) -> usize
+pub fn monitor_image_length(table: &[u32], store_bytes: usize) -> usize
     ensures { result ≡ image_length table.now store_bytes }
 {
     image::image_length(table, store_bytes)
 }
 
-#[unsafe(no_mangle)]
-pub extern "C" fn monitor_image(table: &[u32], store: &[u8], out: &mut [u8]) -> u32
+pub fn monitor_image(table: &[u32], store: &[u8], out: &mut [u8]) -> u32
     ensures value { result ≡ image_answer table.now store.now out.old }
     ensures out_after { out.new ≡ image_out table.now store.now out.old }
 {
     image::image(table, store, out)
 }
 
-#[unsafe(no_mangle)]
-pub extern "C" fn monitor_reload(table: &mut [u32], store: &mut [u8], image: &[u8]) -> u32
+pub fn monitor_reload(table: &mut [u32], store: &mut [u8], image: &[u8]) -> u32
     ensures value { result ≡ reload_answer table.old store.old image.now }
     ensures table_after { table.new ≡ reload_table table.old store.old image.now }
     ensures store_after { store.new ≡ reload_store table.old store.old image.now }
@@ -86,8 +79,7 @@ pub extern "C" fn monitor_reload(table: &mut [u32], store: &mut [u8], image: &[u
     image::reload(table, store, image)
 }
 
-#[unsafe(no_mangle)]
-pub extern "C" fn monitor_tray(
+pub fn monitor_tray(
     table: &mut [u32],
     store: &mut [u8],
     records: &mut [Record],
@@ -98,23 +90,20 @@ pub extern "C" fn monitor_tray(
     calls::tray(table, store, records, buffers)
 }
 
-#[unsafe(no_mangle)]
-pub extern "C" fn monitor_work_length(table: &[u32], store_bytes: usize) -> usize
+pub fn monitor_work_length(table: &[u32], store_bytes: usize) -> usize
     ensures { result ≡ work_length table.now store_bytes }
 {
     work::work_length(table, store_bytes)
 }
 
-#[unsafe(no_mangle)]
-pub extern "C" fn monitor_work(table: &[u32], store_bytes: usize, work: &mut [u32]) -> u32
+pub fn monitor_work(table: &[u32], store_bytes: usize, work: &mut [u32]) -> u32
     ensures value { result ≡ fill_answer table.now store_bytes work.old }
     ensures work_after { work.new ≡ filled table.now store_bytes work.old }
 {
     work::fill(table, store_bytes, work)
 }
 
-#[unsafe(no_mangle)]
-pub extern "C" fn monitor_quick_tray(
+pub fn monitor_quick_tray(
     table: &mut [u32],
     store: &mut [u8],
     records: &mut [Record],

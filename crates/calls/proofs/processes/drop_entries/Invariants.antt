@@ -1,0 +1,20 @@
+-- `processes::drop_entries` meets its contract: so many entries are given up as turns were made.
+use Prim.Native.Nat.{◌≤◌, ◌-◌}
+use mathlib.Core.Path.{◌≡◌, ap, ◌∙◌}
+use native.Mathlib.Omega.{arith}
+use lib.ListN.{length}
+use Rattle.rules.specs.Layout.{configuration, entries}
+use Rattle.rules.specs.Rule.{write}
+use Rattle.rules.specs.Call02.{dropped_to}
+use Rattle.laws.proofs.Written.{length-write}
+use Rattle.layout.specs.Kinds.{kind_of}
+use Rattle.calls.specs.World.{words_of}
+use Rattle.calls.proofs.ProcessesLaws.{none_yet, ready, one_more}
+use borrow.Author.Rules.{rules}
+use Rattle.calls.proofs.processes.drop_entries.Given as goal
+
+abbrev pub invariant-loop-n : goal.invariant-loop-n
+invariant-loop-n l = (l.d ≤ entries) × (l.t ≡ write (configuration l.initial.t) l.initial.t (dropped_to (configuration l.initial.t) (words_of l.initial.t) (kind_of l.kind) l.q l.d))
+
+abbrev pub decreases-loop-n : goal.decreases-loop-n
+decreases-loop-n l = entries - l.d

@@ -1,0 +1,43 @@
+-- `quick_tray` meets its contract: the records that are due are run in order by the quick engine, and the working slice stays the table's.
+use native.Mathlib.Omega.{arith}
+use Rattle.calls.specs.declared.Record.{Record}
+use Rattle.calls.specs.Left.{said}
+use Rattle.calls.proofs.Going.{start, more, due-fits, good-if-due}
+use Rattle.calls.proofs.GoingQuick.{answer-quick, ready-quick, start-beside, more-beside, ends-quick}
+use Rattle.calls.proofs.quick_tray.Goals as goal
+
+-- what stands past the last record
+abbrev none : Record
+none = record { caller = 0; code = 0; a = 0; b = 0; c = 0; offset = 0; length = 0; answer = said 0 0 0 }
+
+pub loop-i-init : goal.loop-i-init
+loop-i-init c =
+    let x = c.args in
+    rw (c.begin_quick-hall.ensures.1, c.begin_quick-hall.ensures.2) (
+      start _ _ _ _ _ _ _ (due-fits _ _ _ c.due-n.ensures)
+          (ready-quick x.table.now x.store.now x.work.now x.records.now c.begin_quick-hall.result c.begin_quick-hall.ensures.0
+          c.verdict-error.result c.verdict-error.ensures c.matrix_of-m.result c.matrix_of-m.ensures c.due-n.result c.due-n.ensures),
+      start-beside x.table.now x.store.now x.work.now x.records.now c.begin_quick-hall.result c.begin_quick-hall.ensures.0
+          c.verdict-error.result c.verdict-error.ensures,
+    )
+
+pub loop-i-preserved : goal.loop-i-preserved
+loop-i-preserved c =
+    let good = good-if-due c.verdict-error.result c.due-n.result _ c.due-n.ensures (omega (arith, c.loop-i-test.true)) in (
+      more _ _ _ _ _ _ _ _ _ _ _ _ c.loop-i.invariant.0 _ _ _ _ _ c.loop-i-test.true c.run_quick.ensures.ran c.run_quick.auto.t
+          c.run_quick.auto.store c.run_quick.auto.bytes,
+      more-beside _ _ _ _ _ _ c.loop-i.invariant.1 good c.run_quick.auto.w c.run_quick.ensures.right_in,
+    )
+
+pub run_quick-requires : goal.run_quick-requires
+run_quick-requires c =
+    let good = good-if-due c.verdict-error.result c.due-n.result _ c.due-n.ensures (omega (arith, c.loop-i-test.true)) in
+    (c.loop-i.invariant.0.ready c.loop-i-test.true, c.loop-i.invariant.1.right good)
+
+pub returns : goal.returns
+returns c =
+    let x = c.args in
+    let answer = answer-quick x.table.now x.store.now x.work.now x.records.now c.begin_quick-hall.result c.begin_quick-hall.ensures.0
+    c.verdict-error.result c.verdict-error.ensures in
+    ends-quick _ _ _ _ _ _ _ _ _ _ _ _ _ _ c.loop-i.invariant.0 none c.loop-i-test.false c.verdict-error.result c.loop-i.invariant.1
+    answer c.due-n.ensures
