@@ -4,6 +4,7 @@ use mathlib.Core.List.{List, [], ◌++◌, append_assoc}
 use mathlib.Core.Logic.{inl, inr}
 use mathlib.Core.Path.{◌≡◌, refl, sym, ap, ◌∙◌, subst}
 use Prim.Native.Nat.{ℕ, ◌<◌, ◌≤◌}
+use Rattle.std.specs.Prelude.{ℤ}
 use native.Mathlib.Omega.{arith}
 use lib.ListN.{length, take, drop}
 use Rattle.laws.proofs.Tests.{failed, refuted, cond-false, or_left, or-by-right}
@@ -37,20 +38,20 @@ onward a b = record {
 abbrev has_found : Stand → Bool
 has_found Going = false
 has_found (Found more) = true
-has_found NoInput = false
-has_found NoRecorded = false
+has_found (NoInput error) = false
+has_found (NoRecorded error) = false
 
 abbrev with_more : Stand → Bool
 with_more Going = false
 with_more (Found more) = more
-with_more NoInput = false
-with_more NoRecorded = false
+with_more (NoInput error) = false
+with_more (NoRecorded error) = false
 
 pub going : (a : Stand) → is_going a ≡ true → a ≡ Going
 going Going e = refl
 going (Found more) e = absurd (true≢false (sym e))
-going NoInput e = absurd (true≢false (sym e))
-going NoRecorded e = absurd (true≢false (sym e))
+going (NoInput error) e = absurd (true≢false (sym e))
+going (NoRecorded error) e = absurd (true≢false (sym e))
 
 -- ---- what a turn comes to
 
@@ -117,7 +118,7 @@ module _ (p : Progress) (t st l o s r : List ℕ) (room : line_bytes ≤ length 
   }) (inl refl) (inl refl))
 
   -- it could not be read
-  pub went-none : (s' : List ℕ) (p' : Progress) → p' ≡ standing p.check p.from p.input p.at p.recorded p.ended NoInput
+  pub went-none : {error : ℤ} (s' : List ℕ) (p' : Progress) → p' ≡ standing p.check p.from p.input p.at p.recorded p.ended (NoInput error)
       → Went p t st l o s r p' t st l o s' r
   went-none s' p' e = rw e (fails p t st l o s r _ t st l o s' r refl refl closed)
 
@@ -186,7 +187,7 @@ module _ (p : Progress) (t st l o s r : List ℕ) (closed : Closed p) where
       }) (inl refl) (inl refl))
 
   -- it could not be read
-  pub went-blind : (r' : List ℕ) (p' : Progress) → p' ≡ standing p.check p.from p.input p.at p.recorded p.ended NoRecorded
+  pub went-blind : {error : ℤ} (r' : List ℕ) (p' : Progress) → p' ≡ standing p.check p.from p.input p.at p.recorded p.ended (NoRecorded error)
       → Went p t st l o s r p' t st l o s r'
   went-blind r' p' e = rw e (fails p t st l o s r _ t st l o s r' refl refl closed)
 

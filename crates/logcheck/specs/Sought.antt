@@ -3,7 +3,6 @@
 -- lent, stands at place i of a piece s of the input, of which it has not read ys, and at place j of a piece r of what is recorded, of which it has not read zs;
 -- it finds f.
 use Rattle.std.specs.Prelude.{Bool, true, false, not, List, [], ◌++◌, ◌⊎◌, ◌≡◌, ℕ, ◌≤◌, length, take}
-use Rattle.io.specs.Counts.{IsPrefixLen}
 use Rattle.text.specs.Room.{line_bytes}
 use Rattle.session.specs.Turn.{blank_table}
 use Rattle.session.proofs.Whole.{Lent}
@@ -16,6 +15,10 @@ use Rattle.logcheck.specs.declared.Stand.{Stand}
 use Rattle.logcheck.specs.declared.Stand.TheVariants.{Going, Found, NoInput, NoRecorded}
 use Rattle.logcheck.specs.declared.Progress.{Progress}
 
+-- n bytes stand at the front of xs (both are said, so that to lend them needs no more)
+abbrev pub IsPrefixLen : ℕ → List ℕ → Type 0
+IsPrefixLen n xs = (n ≤ length xs) × (n ≡ length (take n xs))
+
 -- r counts bytes at the front of xs, and they are its first n
 abbrev pub Front : ℕ → List ℕ → ℕ → Type 0
 Front n xs r = IsPrefixLen r xs × (take r xs ≡ take n xs)
@@ -23,8 +26,8 @@ Front n xs r = IsPrefixLen r xs × (take r xs ≡ take n xs)
 abbrev pub is_going : Stand → Bool
 is_going Going = true
 is_going (Found more) = false
-is_going NoInput = false
-is_going NoRecorded = false
+is_going (NoInput error) = false
+is_going (NoRecorded error) = false
 
 -- a progress, by its parts
 abbrev pub standing : Check → ℕ → ℕ → ℕ → ℕ → Bool → Stand → Progress

@@ -4,32 +4,37 @@
 #![tactic(auto)]
 
 ghost use Rattle.std.specs.Prelude.{true, false, List, ◌≡◌, ℕ, ◌≤◌, length, take};
-ghost use Rattle.io.specs.Counts.{IsPrefixLen};
 ghost use Rattle.text.specs.Room.{line_bytes};
 ghost use Rattle.rules.specs.Finding.{said};
 ghost use Rattle.checker.specs.Check.{wants_input, meant};
 ghost use Rattle.logcheck.specs.declared.Stand.TheVariants.{Going};
-ghost use Rattle.logcheck.specs.Sought.{Front, is_going, standing, Closed, told, Went, Enough, Sought};
+ghost use Rattle.logcheck.specs.Sought.{IsPrefixLen, Front, is_going, standing, Closed, told, Went, Enough, Sought};
 
 use checker::{Check, Finding};
-use libc::{STDERR_FILENO, STDIN_FILENO, STDOUT_FILENO};
-use player::{STORE_BYTES, TABLE_WORDS};
+use player::{PIECE_BYTES, STORE_BYTES, TABLE_WORDS, fail};
 use session::MAX_BUFFER;
+use std::env::{Env, FillError};
+use std::fs::File;
+use std::io;
+use std::io::Read;
+use std::os::fd::AsRawFd;
 
-// How many bytes came: none where the file has ended or the read failed.
+// How many bytes came: none where the file has ended or the read failed, which then has the system's number of the error.
 #[derive(Clone, Copy)]
 struct Input {
     bytes: usize,
     failed: bool,
+    error: i32,
 }
 
-// Where a check stands: it goes on; it has found something, with recorded bytes left or not; the input or what is recorded could not be read.
+// Where a check stands: it goes on; it has found something, with recorded bytes left or not; the input or what is recorded could not be read, by the number of
+// an error.
 #[derive(Clone, Copy)]
 enum Stand {
     Going,
     Found(bool),
-    NoInput,
-    NoRecorded,
+    NoInput(i32),
+    NoRecorded(i32),
 }
 
 // What is carried from turn to turn: the check; a piece of the input and one of what is recorded, by the place in it and its length; whether the input has ended; and
@@ -48,6 +53,18 @@ struct Progress {
 // The most that is shown of a line. Any line that is due fits.
 const WIDTH: usize = 1200;
 
+// Room for what is due, and for a file's name.
+const OUT_BYTES: usize = 4096;
+
+const NAME_BYTES: usize = 4096;
+
+// The highest number of the three standard streams, and the system's numbers of two errors.
+const STANDARD_ERROR: i32 = 2;
+
+const INVALID_ARGUMENT: i32 = 22;
+
+const NAME_TOO_LONG: i32 = 36;
+
 // Text that was put into a line: the place past it, and whether it is the whole line.
 #[derive(Clone, Copy)]
 struct Shown {
@@ -63,14 +80,21 @@ fn front(n: usize, s: &[u8]) -> usize
 }
 
 // All that is read comes by this function.
-fn take_in(fd: i32, piece: &mut [u8]) -> Input
+fn take_in<R: Read + Drop>(file: R, piece: &mut [u8]) -> Input
     ensures { IsPrefixLen result.bytes piece.new }
 {
-    let got = libc::read(fd, piece);
-    let bytes = io::count(got, piece);
-    Input {
-        bytes,
-        failed: got < 0,
+    let mut from = file;
+    match from.read(piece) {
+        Ok(bytes) => Input {
+            bytes,
+            failed: false,
+            error: 0,
+        },
+        Err(error) => Input {
+            bytes: 0,
+            failed: true,
+            error: error.raw_os_error().unwrap_or(0),
+        },
     }
 }
 
@@ -113,8 +137,8 @@ impl Progress {
         match stand {
             Stand::Going => true,
             Stand::Found(_) => false,
-            Stand::NoInput => false,
-            Stand::NoRecorded => false,
+            Stand::NoInput(_) => false,
+            Stand::NoRecorded(_) => false,
         }
     }
 }
@@ -122,7 +146,7 @@ impl Progress {
 // Goes on with the input.
 fn feed(
     p: Progress,
-    fd: i32,
+    file: &File,
     table: &mut [u32],
     store: &mut [u8],
     buf: &mut [u8],
@@ -140,9 +164,9 @@ fn feed(
         let check = q.check;
         return p.fed(check, q.next, p.input, false);
     }
-    let came = take_in(fd, input);
+    let came = take_in(file, input);
     if came.failed {
-        let stand = Stand::NoInput;
+        let stand = Stand::NoInput(came.error);
         return p.weighed(check, p.at, p.recorded, stand);
     }
     let bytes = came.bytes;
@@ -154,7 +178,7 @@ fn feed(
 }
 
 // Goes on with what is recorded.
-fn weigh(p: Progress, out: &[u8], recorded: &mut [u8]) -> Progress
+fn weigh(rt: &HostRuntime, p: Progress, out: &[u8], recorded: &mut [u8]) -> Progress
     requires { (wants_input p.check ≡ false) × Closed p }
     ensures { (t st l s : List ℕ) → Went p t st l out.now s recorded.old result t st l out.now s recorded.new }
 {
@@ -174,9 +198,9 @@ fn weigh(p: Progress, out: &[u8], recorded: &mut [u8]) -> Progress
         let stand = Stand::Going;
         return p.weighed(check, next, p.recorded, stand);
     }
-    let came = take_in(STDIN_FILENO, recorded);
+    let came = take_in(rt.stdin(), recorded);
     if came.failed {
-        let stand = Stand::NoRecorded;
+        let stand = Stand::NoRecorded(came.error);
         return p.weighed(check, at, p.recorded, stand);
     }
     let bytes = came.bytes;
@@ -189,8 +213,9 @@ fn weigh(p: Progress, out: &[u8], recorded: &mut [u8]) -> Progress
 }
 
 fn turn(
+    rt: &HostRuntime,
     p: Progress,
-    fd: i32,
+    file: &File,
     table: &mut [u32],
     store: &mut [u8],
     buf: &mut [u8],
@@ -203,14 +228,15 @@ fn turn(
 {
     let check = p.check;
     if check.wants_input() {
-        return feed(p, fd, table, store, buf, out, input);
+        return feed(p, file, table, store, buf, out, input);
     }
-    weigh(p, out, recorded)
+    weigh(rt, p, out, recorded)
 }
 
 // Turn after turn, until something is found, or cannot be read.
 fn seek(
-    fd: i32,
+    rt: &HostRuntime,
+    file: &File,
     table: &mut [u32],
     store: &mut [u8],
     buf: &mut [u8],
@@ -235,7 +261,7 @@ fn seek(
     // A proved loop has to end, and nothing says that a file does: no run uses this number up.
     let mut turns = u64::MAX;
     while turns > 0 {
-        p = turn(p, fd, table, store, buf, out, input, recorded);
+        p = turn(rt, p, file, table, store, buf, out, input, recorded);
         if !p.is_going() {
             return p;
         }
@@ -286,11 +312,11 @@ fn line_start(s: &[u8], at: usize) -> usize {
 }
 
 // The rest of a line that is recorded, where the piece at hand does not end it.
-fn read_on(line: &mut [u8], at: usize, recorded: &mut [u8]) -> usize {
+fn read_on(rt: &HostRuntime, line: &mut [u8], at: usize, recorded: &mut [u8]) -> usize {
     let mut next = at;
     let mut turns = u64::MAX;
     while turns > 0 {
-        let came = take_in(STDIN_FILENO, recorded);
+        let came = take_in(rt.stdin(), recorded);
         let n = came.bytes;
         if n == 0 {
             break;
@@ -306,7 +332,13 @@ fn read_on(line: &mut [u8], at: usize, recorded: &mut [u8]) -> usize {
 }
 
 // The line as it is recorded: what agrees of it with what is due, and then what follows in the piece at hand and after it.
-fn put_recorded(line: &mut [u8], p: Progress, out: &[u8], recorded: &mut [u8]) -> usize {
+fn put_recorded(
+    rt: &HostRuntime,
+    line: &mut [u8],
+    p: Progress,
+    out: &[u8],
+    recorded: &mut [u8],
+) -> usize {
     let check = p.check;
     let at = front(check.at, out);
     let start = line_start(out, at);
@@ -316,7 +348,7 @@ fn put_recorded(line: &mut [u8], p: Progress, out: &[u8], recorded: &mut [u8]) -
     if rest.whole {
         return rest.next;
     }
-    read_on(line, rest.next, recorded)
+    read_on(rt, line, rest.next, recorded)
 }
 
 // The line as it is due.
@@ -330,22 +362,22 @@ fn put_due(line: &mut [u8], p: Progress, out: &[u8]) -> usize {
 }
 
 // Writes a name and as much of a line.
-fn write_named(name: &[u8], line: &[u8], n: usize) -> bool {
+fn write_named(rt: &HostRuntime, name: &[u8], line: &[u8], n: usize) -> io::Result<()> {
     let k = front(n, line);
-    let named = io::write_all(STDOUT_FILENO, name);
-    let shown = io::write_all(STDOUT_FILENO, &line[..k]);
-    let ended = io::write_all(STDOUT_FILENO, b"\n");
-    named & shown & ended
+    let named = rt.write_all(name);
+    let shown = rt.write_all(&line[..k]);
+    let ended = rt.write_all(b"\n");
+    named.and(shown).and(ended)
 }
 
 // A wrong line, as it is recorded and as it is due.
-fn show(p: Progress, out: &[u8], recorded: &mut [u8]) -> bool {
+fn show(rt: &HostRuntime, p: Progress, out: &[u8], recorded: &mut [u8]) -> io::Result<()> {
     let mut line = [0u8; WIDTH];
-    let n = put_recorded(&mut line, p, out, recorded);
-    let first = write_named(b"recorded: ", &line, n);
+    let n = put_recorded(rt, &mut line, p, out, recorded);
+    let first = write_named(rt, b"recorded: ", &line, n);
     let m = put_due(&mut line, p, out);
-    let second = write_named(b"due:      ", &line, m);
-    first & second
+    let second = write_named(rt, b"due:      ", &line, m);
+    first.and(second)
 }
 
 // Puts the line that says what was found at the front of a buffer; answers the place past it.
@@ -370,48 +402,55 @@ fn is_wrong(p: Progress, more: bool) -> bool {
 }
 
 // Writes what was found.
-fn say(p: Progress, more: bool, out: &[u8], recorded: &mut [u8]) -> bool {
+fn say(
+    rt: &HostRuntime,
+    p: Progress,
+    more: bool,
+    out: &[u8],
+    recorded: &mut [u8],
+) -> io::Result<()> {
     let mut line = [0u8; WIDTH];
     let end = put_found(&mut line, p, more);
     let n = front(end, &line);
-    let said = io::write_all(STDOUT_FILENO, &line[..n]);
+    let said = rt.write_all(&line[..n]);
     if is_wrong(p, more) {
-        let shown = show(p, out, recorded);
-        return said & shown;
+        let shown = show(rt, p, out, recorded);
+        return said.and(shown);
     }
     said
 }
 
 // What the check came to: a finding, or what could not be read.
-fn report(p: Progress, out: &[u8], recorded: &mut [u8], name: &[u8]) {
+fn report(rt: &HostRuntime, p: Progress, out: &[u8], recorded: &mut [u8], name: &[u8]) {
     let stand = p.stand;
     match stand {
         Stand::Going => {}
         Stand::Found(more) => {
-            let told = say(p, more, out, recorded);
-            if !told {
-                os::fail(b"standard output");
+            let told = say(rt, p, more, out, recorded);
+            if let Err(error) = told {
+                fail(rt, b"standard output", &error);
             }
         }
-        Stand::NoInput => {
-            os::fail(name);
+        Stand::NoInput(error) => {
+            fail(rt, name, &io::Error::from_raw_os_error(error));
         }
-        Stand::NoRecorded => {
-            os::fail(b"standard input");
+        Stand::NoRecorded(error) => {
+            fail(rt, b"standard input", &io::Error::from_raw_os_error(error));
         }
     }
 }
 
-// Checks what is recorded on standard input against the input on a descriptor, which has that name.
-fn check_log(fd: i32, name: &[u8]) {
+// Checks what is recorded on standard input against the input in a file, which has that name.
+fn check_log(rt: &HostRuntime, file: &File, name: &[u8]) {
     let mut table = [0u32; TABLE_WORDS];
     let mut store = [0u8; STORE_BYTES];
     let mut buf = [0u8; MAX_BUFFER];
-    let mut out = io::buffer();
-    let mut input = io::large_buffer();
-    let mut recorded = io::large_buffer();
+    let mut out = [0u8; OUT_BYTES];
+    let mut input = [0u8; PIECE_BYTES];
+    let mut recorded = [0u8; PIECE_BYTES];
     let p = seek(
-        fd,
+        rt,
+        file,
         &mut table,
         &mut store,
         &mut buf,
@@ -419,29 +458,45 @@ fn check_log(fd: i32, name: &[u8]) {
         &mut input,
         &mut recorded,
     );
-    report(p, &out, &mut recorded, name);
+    report(rt, p, &out, &mut recorded, name);
 }
 
-fn main() {
-    let mut path = io::buffer();
-    let n = os::arg(1, &mut path);
-    if os::errno() != 0 {
-        os::fail(b"the input's name");
+// Opens the file of that name, and checks against it. A name that is not UTF-8 is refused: no file is opened by one.
+fn check_named(rt: &HostRuntime, name: &[u8]) {
+    let Ok(path) = std::str::from_utf8(name) else {
+        fail(rt, name, &io::Error::from(io::ErrorKind::InvalidFilename));
         return;
+    };
+    match File::open(rt, path) {
+        Ok(file) => {
+            // A program that is started without standard input, output or error gets its number for the file.
+            if file.as_raw_fd() <= STANDARD_ERROR {
+                let _ = Print::write_all(
+                    &rt.stderr(),
+                    b"standard input, output or error is closed\n",
+                );
+                return;
+            }
+            check_log(rt, &file, name);
+        }
+        Err(error) => fail(rt, name, &error),
     }
-    let fd = os::open_read(&path[..n]);
-    if fd < 0 {
-        os::fail(&path[..n]);
-        return;
+}
+
+// Says why the input's name cannot be had.
+fn fail_at_name(rt: &HostRuntime, error: i32) {
+    fail(
+        rt,
+        b"the input's name",
+        &io::Error::from_raw_os_error(error),
+    );
+}
+
+fn main(rt: HostRuntime) {
+    let mut path = [0u8; NAME_BYTES];
+    match rt.arg(1, &mut path) {
+        Ok(n) => check_named(&rt, &path[..n]),
+        Err(FillError::NotPresent) => fail_at_name(&rt, INVALID_ARGUMENT),
+        Err(FillError::TooLong) => fail_at_name(&rt, NAME_TOO_LONG),
     }
-    // A program that is started without standard input, output or error gets its number for the file.
-    if fd <= STDERR_FILENO {
-        io::write_all(
-            STDERR_FILENO,
-            b"standard input, output or error is closed\n",
-        );
-        return;
-    }
-    check_log(fd, &path[..n]);
-    libc::close(fd);
 }

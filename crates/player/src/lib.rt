@@ -6,14 +6,20 @@ ghost use Rattle.std.specs.Prelude.{◌≡◌, ◌≤◌, length};
 ghost use Rattle.text.specs.Room.{line_bytes};
 ghost use Rattle.player.specs.Went.{Came, Pieced, Went, Replayed};
 
-use libc::{STDIN_FILENO, STDOUT_FILENO};
+mod fault;
+
+pub use fault::fail;
 use rules::{BLOCK_BYTES, MAX_CONFIGURATION_WORDS, SLOT_WORDS};
 use session::{MAX_BUFFER, MAX_REPLAY_BLOCKS, MAX_REPLAY_SLOTS, Session};
+use std::io::Read;
 
 // Room for the largest table that replay takes, for its store, and for the bytes of a call.
 pub const TABLE_WORDS: usize = MAX_CONFIGURATION_WORDS + SLOT_WORDS * MAX_REPLAY_SLOTS;
 
 pub const STORE_BYTES: usize = MAX_REPLAY_BLOCKS * BLOCK_BYTES;
+
+// The most that is read at once, or handed on: with less a program would spend its time on the system's calls.
+pub const PIECE_BYTES: usize = 65536;
 
 // How many bytes came from standard input: none where it has ended or the read failed.
 #[derive(Clone, Copy)]
@@ -50,49 +56,48 @@ pub struct Report {
 }
 
 // All input comes by this function.
-fn take_in(input: &mut [u8]) -> Input
+fn take_in(rt: &HostRuntime, input: &mut [u8]) -> Input
     ensures { Came result.bytes input.new }
 {
-    let got = libc::read(STDIN_FILENO, input);
-    if got < 0 {
-        os::fail(b"read");
-        return Input {
-            bytes: 0,
-            failed: true,
-        };
-    }
-    let bytes = io::count(got, input);
-    Input {
-        bytes,
-        failed: false,
+    match rt.stdin().read(input) {
+        Ok(bytes) => Input {
+            bytes,
+            failed: false,
+        },
+        Err(error) => {
+            fail(rt, b"read", &error);
+            Input {
+                bytes: 0,
+                failed: true,
+            }
+        }
     }
 }
 
 // All output goes by this function: it hands on the whole slice that it is lent.
-fn hand_on(text: &[u8]) -> Output
+fn hand_on(rt: &HostRuntime, text: &[u8]) -> Output
     ensures { result.bytes ≡ length text.now }
 {
-    let taken = io::write_all(STDOUT_FILENO, text);
-    if !taken {
-        os::fail(b"write");
+    let taken = rt.write_all(text);
+    let failed = taken.is_err();
+    if let Err(error) = taken {
+        fail(rt, b"write", &error);
     }
     let bytes = text.len();
-    Output {
-        bytes,
-        failed: !taken,
-    }
+    Output { bytes, failed }
 }
 
 // Hands on the first n bytes of the output.
-fn emit(out: &[u8], n: usize) -> Output
+fn emit(rt: &HostRuntime, out: &[u8], n: usize) -> Output
     requires { n ≤ length out.now }
     ensures { result.bytes ≡ n }
 {
-    hand_on(&out[..n])
+    hand_on(rt, &out[..n])
 }
 
 // Plays a piece, and hands on its text each time that the output is full, and at the end.
 fn piece(
+    rt: &HostRuntime,
     x: Session,
     read: u64,
     handed: u64,
@@ -112,7 +117,7 @@ fn piece(
         let r = session::play(session, table, store, buf, out, s, from);
         session = r.session;
         from = r.next;
-        let sent = emit(out, r.end);
+        let sent = emit(rt, out, r.end);
         sum = std::num::wrapping_add_u64(sum, sent.bytes as u64);
         if sent.failed {
             return Progress {
@@ -135,6 +140,7 @@ fn piece(
 
 // Reads once, and plays what came; where the input has ended, hands on the text that is due then.
 fn turn(
+    rt: &HostRuntime,
     x: Session,
     read: u64,
     handed: u64,
@@ -147,7 +153,7 @@ fn turn(
     requires { line_bytes ≤ length out.old }
     ensures { Went x read handed table.old store.old buf.old result table.new store.new buf.new }
 {
-    let came = take_in(input);
+    let came = take_in(rt, input);
     let n = came.bytes;
     if came.failed {
         return Progress {
@@ -160,7 +166,7 @@ fn turn(
     }
     if n == 0 {
         let end = session::finish(x, out);
-        let sent = emit(out, end);
+        let sent = emit(rt, out, end);
         let sum = std::num::wrapping_add_u64(handed, sent.bytes as u64);
         return Progress {
             session: x,
@@ -171,18 +177,18 @@ fn turn(
         };
     }
     let sum = std::num::wrapping_add_u64(read, n as u64);
-    piece(x, sum, handed, table, store, buf, out, &input[..n])
+    piece(rt, x, sum, handed, table, store, buf, out, &input[..n])
 }
 
 // Replays standard input to its end.
-pub fn replay() -> Report
+pub fn replay(rt: &HostRuntime) -> Report
     ensures { Replayed result }
 {
     let mut table = [0u32; TABLE_WORDS];
     let mut store = [0u8; STORE_BYTES];
     let mut buf = [0u8; MAX_BUFFER];
-    let mut out = io::large_buffer();
-    let mut input = io::large_buffer();
+    let mut out = [0u8; PIECE_BYTES];
+    let mut input = [0u8; PIECE_BYTES];
     let mut session = session::start(&mut table);
     let mut read = 0;
     let mut handed = 0;
@@ -190,7 +196,7 @@ pub fn replay() -> Report
     let mut turns = u64::MAX;
     while turns > 0 {
         let p = turn(
-            session, read, handed, &mut table, &mut store, &mut buf, &mut out, &mut input,
+            rt, session, read, handed, &mut table, &mut store, &mut buf, &mut out, &mut input,
         );
         session = p.session;
         read = p.read;

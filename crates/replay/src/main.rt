@@ -1,6 +1,6 @@
 // Writes the listing of the script on standard input.
 #![tactic(auto)]
 
-fn main() {
-    player::replay();
+fn main(rt: HostRuntime) {
+    player::replay(&rt);
 }
