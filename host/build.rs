@@ -1,4 +1,4 @@
-//! Finds the proved archive. MONITOR_LIB_DIR is the folder of libmonitor.a; without it, the folder that `rt staticlib monitor`
+//! Finds the proved archive. MONITOR_LIB_DIR is the folder of libmonitor.a; without it, the folder that `tools/build`
 //! writes to, or, since that archive is for x86-64 alone, the one that `tools/native target/native` writes to elsewhere. Where that folder has only a libmonitor.so (a stand-in, see stand-in.sh), the shared library is linked. Build scripts
 //! of crates that depend on this one are told the folder as DEP_MONITOR_LIB_DIR.
 
@@ -19,10 +19,8 @@ fn main() {
         "dylib"
     } else {
         println!("cargo::error=there is no libmonitor.a in {}", folder.display());
-        let make = if x86_64 { "rt staticlib monitor" } else { "tools/native target/native" };
-        println!(
-            "cargo::error=run `rt check monitor replay logcheck && {make}` in the repository's root, or say in MONITOR_LIB_DIR where it is"
-        );
+        let make = if x86_64 { "tools/build" } else { "tools/build && tools/native target/native" };
+        println!("cargo::error=run `{make}` in the repository's root, or say in MONITOR_LIB_DIR where it is");
         return;
     };
     println!("cargo::rustc-link-search=native={}", folder.display());

@@ -1,7 +1,7 @@
 #!/usr/bin/env bash
 # The host's tests: the safe wrapper, the header, the C program and the examples over the proved library, the plain monitor by itself, and
 # the two against each other; and whether the trials find faults, some of which are drawn (faults.sh tries all). They read
-# target/staticlib/libmonitor.a and the programs in target/bin, which `rt staticlib monitor` and `rt check replay logcheck` write, or, where
+# target/staticlib/libmonitor.a and the programs in target/bin, which `tools/build` writes, or, where
 # the machine is not x86-64, what `tools/native target/native` makes of them; whatever the environment says.
 #
 #   test.sh [FOLDER]     with FOLDER, its library and its programs are tested instead. One with a libmonitor.so alone is a stand-in's: it has no
