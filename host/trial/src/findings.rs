@@ -258,7 +258,6 @@ pub fn program(variable: &str, here: &Path, name: &str) -> PathBuf {
 
 /// A program that must be there: no test passes for want of it.
 pub fn there(program: PathBuf) -> PathBuf {
-    let name = program.file_name().unwrap_or_default().display();
     assert!(program.is_file(), "no program at {}: run `tools/build` first", program.display());
     program
 }
