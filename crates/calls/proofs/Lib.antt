@@ -28,3 +28,4 @@ pub mod QuickPlaces
 pub mod QuickSteps
 pub mod Going
 pub mod GoingQuick
+pub mod Again
