@@ -20,9 +20,14 @@ use Rattle.rules.specs.Tray.{Tray, left, behind, in_order, tray_answer, after_tr
 use Rattle.laws.proofs.Tests.{cond-true, cond-false, split}
 use Rattle.layout.specs.Hall.{matrix_in}
 use Rattle.calls.specs.declared.Record.{Record}
+use Rattle.calls.specs.Left.{said}
 use Rattle.calls.specs.Did.{state_of}
 use Rattle.calls.specs.Tray.{rule_record, rule_records, Ran, Ready, Trayed, begun, verdict_of}
 use Rattle.calls.proofs.TrayLaws.{verdict-is, ready-if, ready-kept}
+
+-- what stands past the last record
+abbrev pub no_record : Record
+no_record = record { caller = 0; code = 0; a = 0; b = 0; c = 0; offset = 0; length = 0; answer = said 0 0 0 }
 
 -- a tray whose first records are run
 abbrev ahead : List rules.Record → Tray → Tray

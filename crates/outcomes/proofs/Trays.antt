@@ -1,6 +1,6 @@
--- The public functions to which records are lent: `calls::tray`, `calls::quick_tray`, `monitor_tray` and `monitor_quick_tray`. Of a function that is lent a slice of structs Rattle makes no module `Reads`; its
--- contract is what Rattle states of it, `clauses`: it asks nothing (`asks`), and it says `Said` (`says`), word for word. So here too each statement is about the
--- contract that stands in the source.
+-- The public functions to which records are lent: `calls::tray`, `calls::quick_tray`, `monitor_tray` and `monitor_quick_tray`. Here the contract is cited as Rattle states it of
+-- the function, `clauses`, and not by its module `Reads`, which a function that is lent a slice of structs once had none of: it asks nothing (`asks`), and it says `Said`
+-- (`says`), word for word. So here too each statement is about the contract that stands in the source.
 use mathlib.Core.Path.{◌≡◌, refl, sym, ap, ◌∙◌}
 use mathlib.Core.List.{List, [], ◌∷◌, map}
 use seplogic.Ra.Ura.{Ura}

@@ -1,14 +1,8 @@
 -- `quick_tray` meets its contract: the records that are due are run in order by the quick engine, and the working slice stays the table's.
 use native.Mathlib.Omega.{arith}
-use Rattle.calls.specs.declared.Record.{Record}
-use Rattle.calls.specs.Left.{said}
-use Rattle.calls.proofs.Going.{start, more, due-fits, good-if-due}
+use Rattle.calls.proofs.Going.{no_record, start, more, due-fits, good-if-due}
 use Rattle.calls.proofs.GoingQuick.{answer-quick, ready-quick, start-beside, more-beside, ends-quick}
 use Rattle.calls.proofs.quick_tray.Goals as goal
-
--- what stands past the last record
-abbrev none : Record
-none = record { caller = 0; code = 0; a = 0; b = 0; c = 0; offset = 0; length = 0; answer = said 0 0 0 }
 
 pub loop-i-init : goal.loop-i-init
 loop-i-init c =
@@ -39,5 +33,5 @@ returns c =
     let x = c.args in
     let answer = answer-quick x.table.now x.store.now x.work.now x.records.now c.begin_quick-hall.result c.begin_quick-hall.ensures.0
     c.verdict-error.result c.verdict-error.ensures in
-    ends-quick _ _ _ _ _ _ _ _ _ _ _ _ _ _ c.loop-i.invariant.0 none c.loop-i-test.false c.verdict-error.result c.loop-i.invariant.1
+    ends-quick _ _ _ _ _ _ _ _ _ _ _ _ _ _ c.loop-i.invariant.0 no_record c.loop-i-test.false c.verdict-error.result c.loop-i.invariant.1
     answer c.due-n.ensures

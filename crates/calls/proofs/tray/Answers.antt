@@ -1,12 +1,6 @@
 -- `tray` meets its contract: the records that are due are run in order, on a table that is judged once.
-use Rattle.calls.specs.declared.Record.{Record}
-use Rattle.calls.specs.Left.{said}
-use Rattle.calls.proofs.Going.{start, more, ends, due-fits, answer-is, ready-if-due}
+use Rattle.calls.proofs.Going.{no_record, start, more, ends, due-fits, answer-is, ready-if-due}
 use Rattle.calls.proofs.tray.Goals as goal
-
--- what stands past the last record
-abbrev none : Record
-none = record { caller = 0; code = 0; a = 0; b = 0; c = 0; offset = 0; length = 0; answer = said 0 0 0 }
 
 pub loop-i-init : goal.loop-i-init
 loop-i-init c =
@@ -26,4 +20,4 @@ returns c =
     let x = c.args in
     let answer = answer-is x.table.now x.store.now x.records.now c.begin-hall.result c.begin-hall.ensures.0 c.verdict-error.result
     c.verdict-error.ensures in
-    ends _ _ _ _ _ _ _ _ _ _ _ _ c.loop-i.invariant none c.loop-i-test.false c.verdict-error.result answer c.due-n.ensures
+    ends _ _ _ _ _ _ _ _ _ _ _ _ c.loop-i.invariant no_record c.loop-i-test.false c.verdict-error.result answer c.due-n.ensures

@@ -39,7 +39,8 @@ loop-within-smaller c = omega (arith, (inside (goal.at.loop-within-smaller c).In
 
 pub loop-within-preserved : goal.loop-within-preserved
 loop-within-preserved c =
-    agree-one c.loop-within.lines c.loop-within.within (text (goal.at.loop-within-preserved c).At-loop-within) (recorded (goal.at.loop-within-preserved c).At-loop-within) c.loop-within.at c.loop-within.next _ _
+    agree-one c.loop-within.lines c.loop-within.within (text (goal.at.loop-within-preserved c).At-loop-within)
+    (recorded (goal.at.loop-within-preserved c).At-loop-within) c.loop-within.at c.loop-within.next _ _
     (same (goal.at.loop-within-preserved c).In-loop-within) c.byte-b.ensures c.lines_after-lines.ensures
     ∙ c.loop-within.invariant
 

@@ -10,7 +10,8 @@ use Rattle.work.proofs.Listed.{list_in}
 use Rattle.work.proofs.put_lists.Given as goal
 
 abbrev pub invariant-loop-c : goal.invariant-loop-c
-invariant-loop-c l = Walk l.t l.c-end l.c × (l.from ≡ first_slot (configuration l.t) (kind_of l.kind) l.c) × (l.w ≡ sets l.initial.w l.at (joined l.c (list_in l.t (kind_of l.kind))))
+invariant-loop-c l = Walk l.t l.c-end l.c × (l.from ≡ first_slot (configuration l.t) (kind_of l.kind) l.c)
+    × (l.w ≡ sets l.initial.w l.at (joined l.c (list_in l.t (kind_of l.kind))))
 
 abbrev pub decreases-loop-c : goal.decreases-loop-c
 decreases-loop-c l = l.c-end - l.c

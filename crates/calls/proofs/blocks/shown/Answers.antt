@@ -17,7 +17,8 @@ told c =
 
 pub returns-then-e-ne-XOK : goal.returns-then-e-ne-XOK
 returns-then-e-ne-XOK c =
-    block-hidden (used (goal.at.returns-then-e-ne-XOK c).After-or_refuse-e-2) c.args.store.now c.args.b c.args.e (told (goal.at.returns-then-e-ne-XOK c).After-or_refuse-e-2) c.if-e-ne-XOK.true c.hidden.ensures
+    block-hidden (used (goal.at.returns-then-e-ne-XOK c).After-or_refuse-e-2) c.args.store.now c.args.b c.args.e
+    (told (goal.at.returns-then-e-ne-XOK c).After-or_refuse-e-2) c.if-e-ne-XOK.true c.hidden.ensures
 
 pub overflow_mul-stretch : goal.overflow_mul-stretch
 overflow_mul-stretch c = record { fits = stretch-fits (used (goal.at.overflow_mul-stretch c).After-or_refuse-e-2) c.wide-stretch.ensures }

@@ -18,7 +18,8 @@ told c =
 
 pub returns-then-e-ne-XOK : goal.returns-then-e-ne-XOK
 returns-then-e-ne-XOK c =
-    write-refused _ _ _ _ _ _ (write-number (used (goal.at.returns-then-e-ne-XOK c).After-or_refuse-e-2) c.args.store.now c.args.b c.args.buffer.now (told (goal.at.returns-then-e-ne-XOK c).After-or_refuse-e-2))
+    write-refused _ _ _ _ _ _ (write-number (used (goal.at.returns-then-e-ne-XOK c).After-or_refuse-e-2) c.args.store.now c.args.b c.args.buffer.now
+    (told (goal.at.returns-then-e-ne-XOK c).After-or_refuse-e-2))
     c.if-e-ne-XOK.true c.refused.ensures
 
 pub overflow_mul-stretch : goal.overflow_mul-stretch

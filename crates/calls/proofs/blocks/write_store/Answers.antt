@@ -7,4 +7,5 @@ use Rattle.calls.proofs.blocks.write_store.Goals as goal
 
 pub returns : goal.returns
 returns c =
-    let a = c.args in let k : a.f * a.n + a.n - a.f * a.n ≡ a.n = omega arith in stretch-written a.store.now a.buffer.now _ _ (a.f * a.n) a.n _ a.size a.b k (omega arith) (omega arith) c.fill_hole.ensures c.fill_block.ensures
+    let a = c.args in let k : a.f * a.n + a.n - a.f * a.n ≡ a.n = omega arith in stretch-written a.store.now a.buffer.now _ _ (a.f * a.n) a.n _ a.size
+    a.b k (omega arith) (omega arith) c.fill_hole.ensures c.fill_block.ensures

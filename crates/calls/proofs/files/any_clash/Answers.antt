@@ -105,7 +105,8 @@ overflow_sub-left c = omega (arith, c.loop-d.invariant.4)
 pub loop-d-preserved : goal.loop-d-preserved
 loop-d-preserved c =
     let inv = c.loop-d.invariant in
-    (inv.0, omega (arith, c.loop-d-test.true), below_more _ _ inv.2 (passed (goal.at.loop-d-preserved c).Joined-x-s).0.0, (passed (goal.at.loop-d-preserved c).Joined-x-s).0.1, (passed (goal.at.loop-d-preserved c).Joined-x-s).1)
+    let past = passed (goal.at.loop-d-preserved c).Joined-x-s in
+    (inv.0, omega (arith, c.loop-d-test.true), below_more _ _ inv.2 past.0.0, past.0.1, past.1)
 
 pub search-preserved : goal.search-preserved
 search-preserved c =

@@ -11,7 +11,8 @@ use mathlib.Core.Path.{◌≡◌}
 use Rattle.calls.proofs.files.any_clash.Given as goal
 
 abbrev pub invariant-loop-d : goal.invariant-loop-d
-invariant-loop-d l = (l.found ≡ false) × (l.d ≤ entries) × ((k : ℕ) → k < l.d → clashes_at (words_of l.t) l.s l.b (l.from + l.p) k ≡ false) × Unmet l.t l.s l.from l.count l.left l.p l.d × (0 < l.left)
+invariant-loop-d l = (l.found ≡ false) × (l.d ≤ entries) × ((k : ℕ) → k < l.d → clashes_at (words_of l.t) l.s l.b (l.from + l.p) k ≡ false)
+    × Unmet l.t l.s l.from l.count l.left l.p l.d × (0 < l.left)
 
 abbrev pub decreases-loop-d : goal.decreases-loop-d
 decreases-loop-d l = entries - l.d

@@ -35,5 +35,6 @@ overflow_add-links c =
 pub returns : goal.returns
 unfolding link
 returns c =
-    λ buffer. left-done _ (λ h q. link h q _ _ buffer) (number (goal.at.returns c).After-or_refuse-e buffer) c.if-e-ne-XOK.false c.answered.ensures (c.write.ensures ∙ link-words c.requires.0 _ buffer c.or_self-s.ensures c.look-f.ensures c.read-links.ensures
+    λ buffer. left-done _ (λ h q. link h q _ _ buffer) (number (goal.at.returns c).After-or_refuse-e buffer) c.if-e-ne-XOK.false c.answered.ensures
+    (c.write.ensures ∙ link-words c.requires.0 _ buffer c.or_self-s.ensures c.look-f.ensures c.read-links.ensures
     c.own-e.ensures (eqb c.read-links.result max_links) c.or_refuse-e.ensures c.if-e-ne-XOK.false)

@@ -23,5 +23,6 @@ returns-then-e-ne-XOK c = λ buffer. left-refused _ _ (number (goal.at.returns-t
 pub returns : goal.returns
 unfolding unlink
 returns c =
-    λ buffer. left-done _ (λ h q. unlink h q _ _ buffer) (number (goal.at.returns c).After-or_refuse-e buffer) c.if-e-ne-XOK.false c.answered.ensures (c.drop_link.ensures ∙ unlink-words c.requires.0 _ buffer c.or_self-s.ensures c.look-f.ensures c.read-links.ensures
+    λ buffer. left-done _ (λ h q. unlink h q _ _ buffer) (number (goal.at.returns c).After-or_refuse-e buffer) c.if-e-ne-XOK.false c.answered.ensures
+    (c.drop_link.ensures ∙ unlink-words c.requires.0 _ buffer c.or_self-s.ensures c.look-f.ensures c.read-links.ensures
     c.own-e.ensures (eqb c.read-links.result 0) c.or_refuse-e.ensures c.if-e-ne-XOK.false)

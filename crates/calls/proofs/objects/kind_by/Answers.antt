@@ -14,7 +14,8 @@ module _ (s : ℕ) {n : ℕ} (class-is : n ≡ class_of s) where
 
   module _ (no-process : n ≡ class process → ⊥) where
     a-segment : n ≡ class segment → segment ≡ kind_by s
-    a-segment e = sym (cond-false _ _ _ (ne_eqb (class_of s) (class process) (λ f. no-process (class-is ∙ f))) ∙ cond-true _ _ _ (eq-eqb (class_of s) (class segment) (sym class-is ∙ e)))
+    a-segment e = sym (cond-false _ _ _ (ne_eqb (class_of s) (class process) (λ f. no-process (class-is ∙ f)))
+        ∙ cond-true _ _ _ (eq-eqb (class_of s) (class segment) (sym class-is ∙ e)))
 
     else-file : (n ≡ class segment → ⊥) → file ≡ kind_by s
     else-file no-segment = sym (cond-false _ _ _ (ne_eqb (class_of s) (class process) (λ f. no-process (class-is ∙ f)))

@@ -9,7 +9,8 @@ use Rattle.calls.specs.World.{words_of}
 use Rattle.calls.proofs.processes.drop_entries.Given as goal
 
 abbrev pub invariant-loop-n : goal.invariant-loop-n
-invariant-loop-n l = (l.d ≤ entries) × (l.t ≡ write (configuration l.initial.t) l.initial.t (dropped_to (configuration l.initial.t) (words_of l.initial.t) (kind_of l.kind) l.q l.d))
+invariant-loop-n l = (l.d ≤ entries) × (l.t ≡ write (configuration l.initial.t) l.initial.t
+    (dropped_to (configuration l.initial.t) (words_of l.initial.t) (kind_of l.kind) l.q l.d))
 
 abbrev pub decreases-loop-n : goal.decreases-loop-n
 decreases-loop-n l = entries - l.d

@@ -85,7 +85,8 @@ drop_entries-requires-2 c =
 pub returns : goal.returns
 unfolding release_process
 returns c =
-    λ buffer. left-done _ (λ h r. release_process h r _ c.args.a buffer) (counted (goal.at.returns c).After-own-e buffer) c.if-e-ne-XOK.false c.answered.ensures (words c.requires.0 c.args.a
+    λ buffer. left-done _ (λ h r. release_process h r _ c.args.a buffer) (counted (goal.at.returns c).After-own-e buffer) c.if-e-ne-XOK.false
+    c.answered.ensures (words c.requires.0 c.args.a
     c.or_self-s.ensures c.look-q.ensures (sym (found
     (goal.at.returns c).After-own-e) ∙ c.if-e-ne-XOK.false) buffer (released-is _ (held (goal.at.returns c).Else-e-ne-XOK file refl) c.drop_entries.ensures c.drop_entries-2.ensures
     c.record_at.ensures.0 c.free_record.ensures))

@@ -53,7 +53,8 @@ mark_in-at-requires c =
 
 pub returns-then-is_here-valid : goal.returns-then-is_here-valid
 returns-then-is_here-valid c =
-    λ e. c.row_clash-clash.ensures ∙ clash-told c.requires.0 (c.requires.2 (omega (arith, c.if-w-eq0.false))) c.args.s c.args.b (in-here (goal.at.returns-then-is_here-valid c).Then-is_here-valid) (modes-valid (goal.at.returns-then-is_here-valid c).Then-is_here-valid)
+    λ e. c.row_clash-clash.ensures ∙ clash-told c.requires.0 (c.requires.2 (omega (arith, c.if-w-eq0.false))) c.args.s c.args.b
+    (in-here (goal.at.returns-then-is_here-valid c).Then-is_here-valid) (modes-valid (goal.at.returns-then-is_here-valid c).Then-is_here-valid)
     c.first_slot-processes.ensures.0 c.first_slot-files.ensures.0 c.in_cell-count.ensures c.in_cell-step.ensures
     c.index_of.ensures c.mark_in-at.ensures
 

@@ -25,13 +25,15 @@ overflow_add-at_desk c =
 pub returns-then-e-ne-XOK : goal.returns-then-e-ne-XOK
 returns-then-e-ne-XOK c =
     let s = c.args in
-    regrade-refused _ _ _ _ _ _ _ (regrade-number (used (goal.at.returns-then-e-ne-XOK c).After-or_refuse-e-4) s.store.now s.b s.c s.buffer.now c.requires.3 (told (goal.at.returns-then-e-ne-XOK c).After-or_refuse-e-4))
+    regrade-refused _ _ _ _ _ _ _ (regrade-number (used (goal.at.returns-then-e-ne-XOK c).After-or_refuse-e-4) s.store.now s.b s.c s.buffer.now
+    c.requires.3 (told (goal.at.returns-then-e-ne-XOK c).After-or_refuse-e-4))
     c.if-e-ne-XOK.true c.refused.ensures
 
 pub make_copy-s-requires : goal.make_copy-s-requires
 make_copy-s-requires c =
     let s = c.args in
-    let ready = record-ready (used (goal.at.make_copy-s-requires c).After-or_refuse-e-4) s.store.now s.b s.c s.buffer.now c.requires.3 (told (goal.at.make_copy-s-requires c).After-or_refuse-e-4)
+    let ready = record-ready (used (goal.at.make_copy-s-requires c).After-or_refuse-e-4) s.store.now s.b s.c s.buffer.now c.requires.3
+    (told (goal.at.make_copy-s-requires c).After-or_refuse-e-4)
     c.if-e-ne-XOK.false in
     (c.requires.0.known, ready.0, ready.1)
 

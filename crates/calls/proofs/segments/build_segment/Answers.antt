@@ -123,7 +123,8 @@ pub returns : goal.returns
 unfolding build_segment
 returns c =
     λ buffer. left-done _ (λ h q. build_segment h q _ _ _ _ buffer) (counted (goal.at.returns c).After-or_refuse-e-4 buffer)
-    c.if-e-ne-XOK.false (c.answered.ensures ∙ result c.requires.0 c.args.size c.args.bits c.args.sharable buffer c.free_entry-d.ensures c.requires.1 (room (goal.at.returns c).Else-e-ne-XOK)
+    c.if-e-ne-XOK.false (c.answered.ensures ∙ result c.requires.0 c.args.size c.args.bits c.args.sharable buffer c.free_entry-d.ensures c.requires.1
+    (room (goal.at.returns c).Else-e-ne-XOK)
     c.read-serial.ensures
     c.seid-s.ensures) (words c.requires.0 c.args.size c.args.bits c.args.sharable buffer c.free_entry-d.ensures c.requires.1 (room (goal.at.returns c).Else-e-ne-XOK)
     c.read-serial.ensures

@@ -44,7 +44,8 @@ tests r p s b g = (eqb b 0 || not (valid_access b) ⇒ XbParam) ∷ find_tests g
 
 -- what the code finds, test after test
 chained : (r : Addr → ℕ) (p s b : ℕ) (g : Seen) {d w n e₁ e₂ e₃ e₄ e₅ e : ℕ} {may asks reads writes lacking twice : Bool} → d ≡ free_entry r segment p
-    → n ≡ r (at segment g.slot sharable) → twice ≡ eqb e₄ 0 && already_held r p s → asks ≡ asks_write b → may ≡ valid_access b → reads ≡ asks_read b → writes ≡ asks_write b
+    → n ≡ r (at segment g.slot sharable) → twice ≡ eqb e₄ 0 && already_held r p s → asks ≡ asks_write b → may ≡ valid_access b → reads ≡ asks_read b
+    → writes ≡ asks_write b
     → lacking ≡ lacks g.rights reads writes → w ≡ d → e₁ ≡ or_refuse 0 (eqb b 0 || not may) XbParam
     → e₂ ≡ refusing e₁ (find_tests g segment (not g.flows || (asks && not g.own))) → e₃ ≡ or_refuse e₂ (eqb n 0) XsgNoAcc → e₄ ≡ or_refuse e₃ lacking XdapViol
     → e₅ ≡ or_refuse e₄ twice XdupSg → e ≡ or_refuse e₅ (leb entries w) XodSpace → e ≡ first_refusal (tests r p s b g)
@@ -120,7 +121,8 @@ take_up-requires c = (
 pub returns : goal.returns
 unfolding rendezvous
 returns c =
-    λ buffer. left-done _ (λ h q. rendezvous h q _ c.args.a c.args.b buffer) (counted (goal.at.returns c).After-or_refuse-e-5 buffer) c.if-e-ne-XOK.false (c.answered.ensures ∙ ap (λ
+    λ buffer. left-done _ (λ h q. rendezvous h q _ c.args.a c.args.b buffer) (counted (goal.at.returns c).After-or_refuse-e-5 buffer)
+    c.if-e-ne-XOK.false (c.answered.ensures ∙ ap (λ
     (x : ℕ). said 0 x 0) c.free_entry-d.ensures)
     (c.take_up.ensures ∙ words c.requires.0 c.args.a c.args.b buffer c.or_self-s.ensures c.look-g.ensures (sym (found
     (goal.at.returns c).After-or_refuse-e-5) ∙ c.if-e-ne-XOK.false) c.free_entry-d.ensures c.entry_at-entry.ensures.0

@@ -78,7 +78,7 @@ returns c =
     let k = kind_of c.args.kind in
     let end : l.e ≡ used = omega (arith, l.invariant.0, c.loop-e-test.false) in
     let x = c.requires.entries_in_bounds.2 in
-    -- an entry'at-start two words are right; the entry counts for slot i
+    -- an entry's two words are right; the entry counts for slot i
     let right : ℕ → ℕ → Bool = λ v u. test (entry_ok h (rd h t) k mine v u) in
     let right-at : ℕ → Bool = λ d. right (held_word t from d) (used_word t from d) in
     let counts-at : ℕ → ℕ → Bool = λ i d. names h k mine (held_word t from d) i in record {

@@ -7,7 +7,8 @@ use Rattle.table.proofs.runs.slot_cells.Given as goal
 abbrev pub invariant-loop-i : goal.invariant-loop-i
 invariant-loop-i l =
     (l.i ≤ l.end) × (l.end ≤ max_slots) × (length l.of ≡ max_slots)
-    × ((κ : Kind) → cell_slots_word κ ≡ l.k → (first_slot (configuration l.t) κ l.c ≤ l.i) × (l.end ≡ first_slot (configuration l.t) κ (l.c + 1)) × (l.of ≡ cells_to (configuration l.t) κ l.i))
+    × ((κ : Kind) → cell_slots_word κ ≡ l.k → (first_slot (configuration l.t) κ l.c ≤ l.i) × (l.end ≡ first_slot (configuration l.t) κ (l.c + 1))
+    × (l.of ≡ cells_to (configuration l.t) κ l.i))
 
 abbrev pub decreases-loop-i : goal.decreases-loop-i
 decreases-loop-i l = l.end - l.i

@@ -60,7 +60,8 @@ loop-c-preserved c =
     let lower : i < cells h = omega (arith, c.loop-c-test.true, low) in (
       search rules,
       pair-next (differ c.args.t.now) d i c.loop-c.invariant.1
-          (ap not (c.equals.ensures ∙ ap₂ equals (level-is (goal.at.loop-c-preserved c).After-levels-all i _ few lower) (level-is (goal.at.loop-c-preserved c).After-levels-all d _ few low))),
+          (ap not (c.equals.ensures ∙ ap₂ equals (level-is (goal.at.loop-c-preserved c).After-levels-all i _ few lower)
+          (level-is (goal.at.loop-c-preserved c).After-levels-all d _ few low))),
     )
 
 pub loop-d-preserved : goal.loop-d-preserved

@@ -5,7 +5,8 @@ use Rattle.rules.specs.Layout.{cells, cell_word, configuration}
 use Rattle.table.proofs.shape.slots_owned.Given as goal
 
 abbrev pub invariant-loop-c : goal.invariant-loop-c
-invariant-loop-c l = (l.c ≤ l.c-end) × (l.c-end ≡ cells (configuration l.t)) × (l.sum ≡ sum_below l.c (λ c. cell_word (configuration l.t) c l.k)) × (l.sum ≤ 4294967296 * l.c)
+invariant-loop-c l = (l.c ≤ l.c-end) × (l.c-end ≡ cells (configuration l.t)) × (l.sum ≡ sum_below l.c (λ c. cell_word (configuration l.t) c l.k))
+    × (l.sum ≤ 4294967296 * l.c)
 
 abbrev pub decreases-loop-c : goal.decreases-loop-c
 decreases-loop-c l = l.c-end - l.c

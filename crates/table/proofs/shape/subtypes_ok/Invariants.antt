@@ -7,7 +7,8 @@ use Rattle.rules.specs.WellFormed.{subtype_ok}
 use Rattle.table.proofs.shape.subtypes_ok.Given as goal
 
 abbrev pub invariant-loop-i : goal.invariant-loop-i
-invariant-loop-i l = (l.i ≤ l.i-end) × (l.i-end ≡ subtypes (configuration l.t)) × (l.i-end ≡ l.n.subtypes) × (l.ok ≡ all_below l.i (λ i. test (subtype_ok (configuration l.t) i)))
+invariant-loop-i l = (l.i ≤ l.i-end) × (l.i-end ≡ subtypes (configuration l.t)) × (l.i-end ≡ l.n.subtypes)
+    × (l.ok ≡ all_below l.i (λ i. test (subtype_ok (configuration l.t) i)))
 
 abbrev pub decreases-loop-i : goal.decreases-loop-i
 decreases-loop-i l = l.i-end - l.i
