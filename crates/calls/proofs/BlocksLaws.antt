@@ -9,8 +9,9 @@ use native.Mathlib.Nat.{mul-le-mul_right}
 use lib.Dec.{eqb, leb}
 use lib.ListN.{length, set, take, drop, replicate, length-replicate, length-take, length-drop}
 use lib.Seq.{take-set-le, take-set-lt, drop-set-lt, drop-set-add, sets}
-use borrow.Author.Tests.{eqb-true, ne_eqb, leb-false}
+use borrow.Author.Tests.{eqb-true, leb-false}
 use borrow.Rule.Slice.PartMut.{mid_of, put_mid, put_same}
+use Rattle.std.specs.Prelude.{Result, Ok, Err, IsErr, IsErrAnd}
 use Rattle.rules.specs.Words.{part}
 use Rattle.rules.specs.Layout.{block_bytes, process, file, configuration, slots, blocks, store_bytes, Addr, at, live, entries, held_at, used_at, size}
 use Rattle.rules.specs.Seid.{index_of, formed, present}
@@ -26,25 +27,23 @@ use Rattle.laws.proofs.Tests.{passed, both_ways, split}
 use Rattle.laws.proofs.Shape.{file-record}
 use Rattle.layout.specs.declared.Header.{Header}
 use Rattle.layout.specs.Header.{place_of}
-use Rattle.calls.specs.declared.Answer.{Answer}
+use Rattle.calls.specs.declared.error.Error.{Error}
 use Rattle.calls.specs.declared.Caller.{Caller}
-use Rattle.calls.specs.declared.Part.{Part}
 use Rattle.calls.specs.declared.entries.Entry.{Entry}
 use Rattle.calls.specs.declared.objects.Seen.{Seen}
 use Rattle.calls.specs.World.{Known, Sound, words_of}
 use Rattle.calls.specs.Seen.{named_of, seen_of}
 use Rattle.calls.specs.Entries.{entry_of}
 use Rattle.calls.specs.Calls.{use_tests}
-use Rattle.calls.specs.Refusing.{or_refuse, refusing}
-use Rattle.calls.specs.Left.{said, rule_at}
-use Rattle.calls.specs.Blocks.{read_use, ReadLeft, WriteLeft}
-use Rattle.calls.specs.View.{part_of, part_at, ShownBy}
-use Rattle.calls.specs.declared.blocks.Use.{Use}
+use Rattle.calls.specs.Refusing.{number_of}
+use Rattle.calls.specs.Left.{told, rule_at}
+use Rattle.calls.specs.Blocks.{ReadLeft, WriteLeft}
+use Rattle.calls.specs.View.{ShownBy}
 use Rattle.calls.proofs.Worlds.{spot, shape, blocks_is}
 use Rattle.laws.proofs.Refusals.{Clear, clear}
-use Rattle.calls.proofs.Refusals.{refusing-first, refusing-alike, none_found}
+use Rattle.calls.proofs.Refused.{stopped, later}
 use Rattle.calls.proofs.Looks.{seen-formed, unseen-is, slot_is, slot-in}
-use Rattle.calls.proofs.Leaves.{left-refused, left-done, store-refused, store-done, buffer-refused, buffer-done}
+use Rattle.calls.proofs.Leaves.{refusal-some, left-stopped, left-told, store-refused, store-done, buffer-refused, buffer-done}
 
 -- ---- a part that is lent: bytes stored in it are stored in the whole
 
@@ -57,7 +56,7 @@ module _ {A : Type 0} (a k : ℕ) where
       let before : a ≤ a + i = omega arith in
       rw (take-set-le a l (a + i) v before, drop-set-add a l i v, drop-set-lt k (drop a l) i v h)
 
-  mid-sets : (vs l : List A) (i : ℕ) → i + length vs ≤ k → put_mid a k l (sets (mid_of a k l) i vs) ≡ sets l (a + i) vs
+  pub mid-sets : (vs l : List A) (i : ℕ) → i + length vs ≤ k → put_mid a k l (sets (mid_of a k l) i vs) ≡ sets l (a + i) vs
   mid-sets [] l i h = put_same a k l
   mid-sets (v ∷ vs) l i h =
       let here : i < k = omega arith in
@@ -151,176 +150,202 @@ module _ {t : List ℕ} {n : Header} {c : Caller} {a : ℕ} {d : Entry} {f : See
           | no q ↦ omega (arith, u.sized, x.free (omega (arith, x.flag)) size (omega arith) (omega arith))
         ]
 
--- ---- reading, with a buffer or by a view: e₀ is the number that has refused so far, e the one that the code has found
+-- ---- reading, with a buffer or by a view
 
-abbrev pub read_tests : ℕ → Entry → Seen → ℕ → ℕ → ℕ → List Refusal
-read_tests a d f z blocks b = use_tests a d.held (reads d.used) XnotReadable f true false ++ (leb blocks b ⇒ XbadBlockNo) ∷ (leb z b ⇒ XendOfFile) ∷ []
+-- the steps of the code: the entry, and the block
+abbrev entry_read : ℕ → Entry → Seen → List Refusal
+entry_read a d f = use_tests a d.held (reads d.used) XnotReadable f true false
+
+abbrev block_read : ℕ → ℕ → ℕ → List Refusal
+block_read z blocks b = (leb blocks b ⇒ XbadBlockNo) ∷ (leb z b ⇒ XendOfFile) ∷ []
+
+abbrev read_tests : ℕ → Entry → Seen → ℕ → ℕ → ℕ → List Refusal
+read_tests a d f z blocks b = entry_read a d f ++ block_read z blocks b
 
 -- the slot, the block and the file's blocks as the code has them: v, y and x
-module _ {t : List ℕ} {n : Header} {c : Caller} {a : ℕ} {d : Entry} {f : Seen} {z : ℕ} (u : Used t n c a d f z) (st : List ℕ) (b e₀ : ℕ) {e : ℕ} where
-  pub read_told : {w : Use} {e1 e2 : ℕ} → w ≡ read_use d.used → e1 ≡ refusing e₀ (use_tests a d.held w.held w.number f w.read w.write)
-      → e2 ≡ or_refuse e1 (leb n.blocks b) XbadBlockNo → e ≡ or_refuse e2 (leb z b) XendOfFile → e ≡ refusing e₀ (read_tests a d f z n.blocks b)
-  read_told to_read tests block end = rw (end, block, tests, to_read) refl
+module _ {t : List ℕ} {n : Header} {c : Caller} {a : ℕ} {d : Entry} {f : Seen} {z : ℕ} (u : Used t n c a d f z) (st : List ℕ) (b : ℕ) where
+  pub entry-stops : (e : Error) → number_of e ≡ first_refusal (entry_read a d f) → number_of e ≡ first_refusal (read_tests a d f z n.blocks b)
+  entry-stops = stopped (entry_read a d f) (block_read z n.blocks b)
 
-  module _ (told : e ≡ refusing e₀ (read_tests a d f z n.blocks b)) where
-    block-test : formed (configuration t) file d.held ≡ true → first_refusal ((leb n.blocks b ⇒ XbadBlockNo) ∷ (leb z b ⇒ XendOfFile) ∷ [])
-        ≡ first_refusal ((leb (blocks (configuration t)) b ⇒ XbadBlockNo) ∷ (leb (words_of t (at file (index_of d.held) size)) b ⇒ XendOfFile) ∷ [])
-    block-test g = rw (blocks_is u.sound.known, u.sized, at_slot u g)
+  pub entry-passes : 0 ≡ first_refusal (entry_read a d f) → {e : ℕ} → e ≡ first_refusal (block_read z n.blocks b)
+      → e ≡ first_refusal (read_tests a d f z n.blocks b)
+  entry-passes = later (entry_read a d f) (block_read z n.blocks b) refl
 
-    same-list : first_refusal (read_tests a d f z n.blocks b) ≡ first_refusal (unbuffered (configuration t) (words_of t) c.slot a b)
-    same-list =
-        same_number u (reads d.used) XnotReadable true false ((leb n.blocks b ⇒ XbadBlockNo) ∷ (leb z b ⇒ XendOfFile) ∷ [])
-        ((leb (blocks (configuration t)) b ⇒ XbadBlockNo) ∷ (leb (words_of t (at file (index_of d.held) size)) b ⇒ XendOfFile) ∷ []) block-test
-        ∙ rw (held-is u, used-is u)
+  block-test : formed (configuration t) file d.held ≡ true → first_refusal (block_read z n.blocks b)
+      ≡ first_refusal (block_read (words_of t (at file (index_of d.held) size)) (blocks (configuration t)) b)
+  block-test g = rw (blocks_is u.sound.known, u.sized, at_slot u g)
 
-    number_is : e ≡ refusing e₀ (unbuffered (configuration t) (words_of t) c.slot a b)
-    number_is = told ∙ refusing-alike e₀ (read_tests a d f z n.blocks b) (unbuffered (configuration t) (words_of t) c.slot a b) refl refl same-list
+  same-list : first_refusal (read_tests a d f z n.blocks b) ≡ first_refusal (unbuffered (configuration t) (words_of t) c.slot a b)
+  same-list =
+      same_number u (reads d.used) XnotReadable true false (block_read z n.blocks b)
+      (block_read (words_of t (at file (index_of d.held) size)) (blocks (configuration t)) b) block-test
+      ∙ rw (held-is u, used-is u)
 
-    pub block-hidden : (e ≡ 0 → ⊥) → {r : Part} → r ≡ part_of e 0 0 → ShownBy e₀ t st c.slot a b r
-    block-hidden some re = record { is = re ∙ rw (← number_is, ne_eqb e 0 some) refl; inside = rw re (omega arith) }
+  pub block-hidden : (e : Error) (r : Result ℕ Error) → number_of e ≡ first_refusal (read_tests a d f z n.blocks b) → IsErr r → IsErrAnd r (λ x. x ≡ e)
+      → ShownBy t st c.slot a b r
+  block-hidden e (Ok i) found is same = absurd same
+  block-hidden e (Err x) found is same = record { refused = ap number_of same ∙ found ∙ same-list; place = tt }
 
-    module _ (none : e ≡ 0) where
-      read-clear : Clear (read_tests a d f z n.blocks b)
-      read-clear = clear (read_tests a d f z n.blocks b) refl (none_found e₀ (read_tests a d f z n.blocks b) refl (sym told ∙ none))
+  module _ (none : 0 ≡ first_refusal (read_tests a d f z n.blocks b)) where
+    read-clear : Clear (read_tests a d f z n.blocks b)
+    read-clear = clear (read_tests a d f z n.blocks b) refl (sym none)
 
-      read-formed : formed (configuration t) file d.held ≡ true
-      read-formed = form u read-clear.1.1.1.0
+    read-formed : formed (configuration t) file d.held ≡ true
+    read-formed = form u read-clear.1.1.1.0
 
-      pub block_within : {v x y : ℕ} → length st ≡ store_bytes (configuration t) → x ≡ n.blocks → v ≡ f.slot → y ≡ b
-          → (v * (x * block_bytes) + x * block_bytes ≤ length st) × (y * block_bytes + block_bytes ≤ x * block_bytes)
-      block_within long xe ve ye = (
-        stretch-of u read-formed (length st) long xe ve,
-        omega (arith, leb-false n.blocks b read-clear.1.1.1.1.1.0),
-      )
+    pub block_within : {x : ℕ} → length st ≡ store_bytes (configuration t) → x ≡ n.blocks * block_bytes
+        → (f.slot * x + x ≤ length st) × (b * block_bytes + block_bytes ≤ x)
+    block_within long xe = rw xe (
+      stretch-of u read-formed (length st) long refl refl,
+      omega (arith, leb-false n.blocks b read-clear.1.1.1.1.1.0),
+    )
 
-      place_is : {v x y i : ℕ} → x ≡ n.blocks → v ≡ f.slot → y ≡ b → i ≡ v * (x * block_bytes) + y * block_bytes
-          → i ≡ block_place (configuration t) (words_of t) c.slot a b
-      unfolding block_place
-      place_is xe ve ye ie = ie ∙ rw (xe, ve, ye, at_slot u read-formed, held-is u, blocks_is u.sound.known)
+    place_is : {x i : ℕ} → x ≡ n.blocks * block_bytes → i ≡ f.slot * x + b * block_bytes → i ≡ block_place (configuration t) (words_of t) c.slot a b
+    unfolding block_place
+    place_is xe ie = ie ∙ rw (xe, at_slot u read-formed, held-is u, blocks_is u.sound.known)
 
-      pub block-shown : {v x y i : ℕ} → x ≡ n.blocks → v ≡ f.slot → y ≡ b → (i ≡ v * (x * block_bytes) + y * block_bytes) × (i + block_bytes ≤ length st)
-          → ShownBy e₀ t st c.slot a b (part_of 0 i block_bytes)
-      block-shown xe ve ye ie = record { is = rw (← number_is, none, place_is xe ve ye ie.0) refl; inside = ie.1 }
+    pub block-shown : {x i : ℕ} → x ≡ n.blocks * block_bytes → (i ≡ f.slot * x + b * block_bytes) × (i + block_bytes ≤ length st)
+        → ShownBy t st c.slot a b (Ok i)
+    block-shown xe ie = record { refused = none ∙ same-list; place = (place_is xe ie.0, ie.1) }
 
--- a read: the part s has been found after the test of the buffer's length, which has left e
-module _ (t st : List ℕ) (p a b : ℕ) (buf : List ℕ) {e : ℕ} {s : Part} (long : e ≡ or_refuse 0 (not (eqb (length buf) block_bytes)) XbSz) (found : ShownBy e t st p a b s) where
-  abbrev number : ℕ
-  number = refusing e (unbuffered (configuration t) (words_of t) p a b)
+-- the first step of both calls
+abbrev length_test : List ℕ → List Refusal
+length_test buf = (not (eqb (length buf) block_bytes) ⇒ XbSz) ∷ []
 
-  told : s.error ≡ number
-  told = ap (λ (x : Part). x.error) found.is
+pub right-length : (buf : List ℕ) → 0 ≡ first_refusal (length_test buf) → length buf ≡ block_bytes
+right-length buf long = eqb-true (length buf) block_bytes (passed (eqb (length buf) block_bytes) (clear (length_test buf) refl (sym long)).0)
 
-  pub read_number : s.error ≡ first_refusal (rule_at t (λ h q. read_block h q st p a b buf)).refusals
+-- a read: past the test of the buffer's length, what refuses the block or its place
+module _ (t st : List ℕ) (p a b : ℕ) (buf : List ℕ) where
+  pub read-stops : (e : Error) → number_of e ≡ first_refusal (length_test buf)
+      → number_of e ≡ first_refusal (rule_at t (λ h q. read_block h q st p a b buf)).refusals
   unfolding read_block
-  read_number = told ∙ rw long (refusing-first (rule_at t (λ h q. read_block h q st p a b buf)).refusals refl)
+  read-stops = stopped (length_test buf) (unbuffered (configuration t) (words_of t) p a b)
 
-  module _ (none : s.error ≡ 0) where
-    at_block : s ≡ part_of 0 (block_place (configuration t) (words_of t) p a b) block_bytes
-    at_block = found.is ∙ ap (λ (x : ℕ). part_at x (block_place (configuration t) (words_of t) p a b)) (sym told ∙ none)
-
-    right-length : length buf ≡ block_bytes
+  module _ (long : 0 ≡ first_refusal (length_test buf)) where
+    pub read-passes : {e : ℕ} → e ≡ first_refusal (unbuffered (configuration t) (words_of t) p a b)
+        → e ≡ first_refusal (rule_at t (λ h q. read_block h q st p a b buf)).refusals
     unfolding read_block
-    right-length =
-        let unrefused = clear (rule_at t (λ h q. read_block h q st p a b buf)).refusals refl (sym read_number ∙ none) in
-        eqb-true (length buf) block_bytes (passed (eqb (length buf) block_bytes) unrefused.0)
+    read-passes = later (length_test buf) (unbuffered (configuration t) (words_of t) p a b) refl long
 
-    pub read-within : (s.from + block_bytes ≤ length st) × (length buf ≡ block_bytes)
-    read-within = (omega (arith, found.inside, ap (λ (x : Part). x.count) at_block), right-length)
+  pub read-buffer : {i k : ℕ} {buf' : List ℕ} → i ≡ block_place (configuration t) (words_of t) p a b → k ≡ block_bytes → buf' ≡ take k (drop i st)
+      → buf' ≡ (rule_at t (λ h q. read_block h q st p a b buf)).effects.buffer
+  unfolding read_block block block_place part
+  read-buffer ie ke be = be ∙ rw (ke, ie) refl
 
-    pub read-buffer : {buf' : List ℕ} → buf' ≡ part st s.from block_bytes → buf' ≡ (rule_at t (λ h q. read_block h q st p a b buf)).effects.buffer
-    unfolding read_block block block_place
-    read-buffer be = be ∙ rw at_block refl
+-- ---- writing
 
--- ---- writing: e is the number that the code has found
+-- the steps of the code past that: the entry and the block
+abbrev entry_written : ℕ → Entry → Seen → List Refusal
+entry_written a d f = use_tests a d.held (writes d.used) XnotWritable f false true
 
-abbrev pub write_tests : ℕ → ℕ → Entry → Seen → ℕ → ℕ → List Refusal
-write_tests bytes a d f blocks b =
-    (not (eqb bytes block_bytes) ⇒ XbSz) ∷ use_tests a d.held (writes d.used) XnotWritable f false true ++ (leb blocks b ⇒ XbadBlockNo) ∷ []
+abbrev block_written_to : ℕ → ℕ → List Refusal
+block_written_to blocks b = (leb blocks b ⇒ XbadBlockNo) ∷ []
 
-module _ {t : List ℕ} {n : Header} {c : Caller} {a : ℕ} {d : Entry} {f : Seen} {z : ℕ} (u : Used t n c a d f z) (st : List ℕ) (b : ℕ) (buf : List ℕ) {e : ℕ} where
-  pub write-told : {held : Bool} {e1 e2 : ℕ} → held ≡ writes d.used → e1 ≡ or_refuse 0 (not (eqb (length buf) block_bytes)) XbSz
-      → e2 ≡ refusing e1 (use_tests a d.held held XnotWritable f false true) → e ≡ or_refuse e2 (leb n.blocks b) XbadBlockNo
-      → e ≡ first_refusal (write_tests (length buf) a d f n.blocks b)
-  write-told held long tests block = rw (block, tests, held, long) (refusing-first (write_tests (length buf) a d f n.blocks b) refl)
+abbrev write_tests : List ℕ → ℕ → Entry → Seen → ℕ → ℕ → List Refusal
+write_tests buf a d f blocks b = length_test buf ++ (entry_written a d f ++ block_written_to blocks b)
 
-  module _ (told : e ≡ first_refusal (write_tests (length buf) a d f n.blocks b)) where
-    pub write-number : e ≡ first_refusal (rule_at t (λ h q. write_block h q c.slot a b buf)).refusals
-    unfolding write_block
-    write-number =
-        told
-        ∙ ap (cond (not (eqb (length buf) block_bytes)) XbSz) (same_number u (writes d.used) XnotWritable false true ((leb n.blocks b ⇒ XbadBlockNo) ∷ [])
-        ((leb (blocks (configuration t)) b ⇒ XbadBlockNo) ∷ []) (λ _. rw (blocks_is u.sound.known)))
-        ∙ rw (held-is u, used-is u)
+module _ {t : List ℕ} {n : Header} {c : Caller} {a : ℕ} {d : Entry} {f : Seen} {z : ℕ} (u : Used t n c a d f z) (st : List ℕ) (b : ℕ) (buf : List ℕ) where
+  write-number : {e : ℕ} → e ≡ first_refusal (write_tests buf a d f n.blocks b)
+      → e ≡ first_refusal (rule_at t (λ h q. write_block h q c.slot a b buf)).refusals
+  unfolding write_block
+  write-number told =
+      told
+      ∙ ap (cond (not (eqb (length buf) block_bytes)) XbSz) (same_number u (writes d.used) XnotWritable false true (block_written_to n.blocks b)
+      (block_written_to (blocks (configuration t)) b) (λ _. rw (blocks_is u.sound.known)))
+      ∙ rw (held-is u, used-is u)
 
-    module _ (none : e ≡ 0) where
-      write-clear : Clear (write_tests (length buf) a d f n.blocks b)
-      write-clear = clear (write_tests (length buf) a d f n.blocks b) refl (sym told ∙ none)
+  pub length-stops : (e : Error) → number_of e ≡ first_refusal (length_test buf)
+      → number_of e ≡ first_refusal (rule_at t (λ h q. write_block h q c.slot a b buf)).refusals
+  length-stops e told = write-number (stopped (length_test buf) (entry_written a d f ++ block_written_to n.blocks b) e told)
 
-      write-formed : formed (configuration t) file d.held ≡ true
-      write-formed = form u write-clear.1.1.1.1.0
+  module _ (long : 0 ≡ first_refusal (length_test buf)) where
+    past-length : {e : ℕ} → e ≡ first_refusal (entry_written a d f ++ block_written_to n.blocks b) → e ≡ first_refusal (write_tests buf a d f n.blocks b)
+    past-length = later (length_test buf) (entry_written a d f ++ block_written_to n.blocks b) refl long
 
-      block_in : b < n.blocks
-      block_in = leb-false n.blocks b write-clear.1.1.1.1.1.1.0
+    pub use-stops : (e : Error) → number_of e ≡ first_refusal (entry_written a d f)
+        → number_of e ≡ first_refusal (rule_at t (λ h q. write_block h q c.slot a b buf)).refusals
+    use-stops e told = write-number (past-length (stopped (entry_written a d f) (block_written_to n.blocks b) e told))
 
-      pub next_small : b + 1 < 2 ^ 32
-      next_small = omega (arith, block_in, blocks_is u.sound.known, (shape u.sound.known).few-blocks)
+    module _ (held : 0 ≡ first_refusal (entry_written a d f)) where
+      past-use : {e : ℕ} → e ≡ first_refusal (block_written_to n.blocks b) → e ≡ first_refusal (write_tests buf a d f n.blocks b)
+      past-use told = past-length (later (entry_written a d f) (block_written_to n.blocks b) refl held told)
 
-      size_is : z ≡ words_of t (at file (index_of (words_of t (at process c.slot (held_at file a)))) size)
-      size_is = rw (← (held-is u), ← (at_slot u write-formed)) u.sized
+      pub use-passes : {e : ℕ} → e ≡ first_refusal (block_written_to n.blocks b)
+          → e ≡ first_refusal (rule_at t (λ h q. write_block h q c.slot a b buf)).refusals
+      use-passes told = write-number (past-use told)
 
-      pub write-within : {v x y w : ℕ} → length st ≡ store_bytes (configuration t) → x ≡ n.blocks → v ≡ f.slot → w ≡ z → y ≡ b
-          → (v * (x * block_bytes) + x * block_bytes ≤ length st) × (w * block_bytes ≤ x * block_bytes) × (y * block_bytes + length buf ≤ x * block_bytes) × (y < 2 ^ 32)
-      write-within long xe ve we ye = (
-        stretch-of u write-formed (length st) long xe ve,
-        omega (arith, size_of u write-formed, blocks_is u.sound.known),
-        omega (arith, block_in, eqb-true (length buf) block_bytes (passed (eqb (length buf) block_bytes) write-clear.0)),
-        omega (arith, next_small),
-      )
+      -- past the last step
+      module _ (none : 0 ≡ first_refusal (block_written_to n.blocks b)) where
+        write-clear : Clear (write_tests buf a d f n.blocks b)
+        write-clear = clear (write_tests buf a d f n.blocks b) refl (sym (past-use none))
 
-      -- the bytes and the size written
-      pub write_bytes : {v x y w : ℕ} {st' : List ℕ} → x ≡ n.blocks → v ≡ f.slot → w ≡ z → y ≡ b
-          → st' ≡ sets (sets st (v * (x * block_bytes) + w * block_bytes) (replicate ((y - w) * block_bytes) 0)) (v * (x * block_bytes) + y * block_bytes) buf
-          → st' ≡ store (configuration t) st (rule_at t (λ h q. write_block h q c.slot a b buf)).effects.bytes
-      unfolding write_block block_written
-      write_bytes xe ve we ye be = be ∙ rw (xe, ve, we, ye, size_is, at_slot u write-formed, held-is u, blocks_is u.sound.known)
+        write-formed : formed (configuration t) file d.held ≡ true
+        write-formed = form u write-clear.1.1.1.1.0
 
-      pub write-words : {l : ℕ} {t' : List ℕ} → l ≡ max z (b + 1) → t' ≡ set t (place_of n (at file f.slot size)) l
-          → t' ≡ write (configuration t) t (rule_at t (λ h q. write_block h q c.slot a b buf)).effects.words
-      unfolding write_block
-      write-words le te = te ∙ rw (le, spot u.sound.known (at file f.slot size), size_is, at_slot u write-formed, held-is u)
+        block_in : b < n.blocks
+        block_in = leb-false n.blocks b write-clear.1.1.1.1.1.1.0
+
+        pub next_small : b + 1 < 2 ^ 32
+        next_small = omega (arith, block_in, blocks_is u.sound.known, (shape u.sound.known).few-blocks)
+
+        size_is : z ≡ words_of t (at file (index_of (words_of t (at process c.slot (held_at file a)))) size)
+        size_is = rw (← (held-is u), ← (at_slot u write-formed)) u.sized
+
+        pub write-within : {x : ℕ} → length st ≡ store_bytes (configuration t) → x ≡ n.blocks * block_bytes
+            → (f.slot * x + x ≤ length st) × (z * block_bytes ≤ x) × (b * block_bytes + length buf ≤ x) × (b < 2 ^ 32)
+        write-within stored xe = rw xe (
+          stretch-of u write-formed (length st) stored refl refl,
+          omega (arith, size_of u write-formed, blocks_is u.sound.known),
+          omega (arith, block_in, right-length buf long),
+          omega (arith, next_small),
+        )
+
+        -- the bytes and the size written
+        pub write_bytes : {x : ℕ} {st' : List ℕ} → x ≡ n.blocks * block_bytes
+            → st' ≡ sets (sets st (f.slot * x + z * block_bytes) (replicate ((b - z) * block_bytes) 0)) (f.slot * x + b * block_bytes) buf
+            → st' ≡ store (configuration t) st (rule_at t (λ h q. write_block h q c.slot a b buf)).effects.bytes
+        unfolding write_block block_written
+        write_bytes xe be = be ∙ rw (xe, size_is, at_slot u write-formed, held-is u, blocks_is u.sound.known)
+
+        pub write-words : {l : ℕ} {t' : List ℕ} → l ≡ max z (b + 1) → t' ≡ set t (place_of n (at file f.slot size)) l
+            → t' ≡ write (configuration t) t (rule_at t (λ h q. write_block h q c.slot a b buf)).effects.words
+        unfolding write_block
+        write-words le te = te ∙ rw (le, spot u.sound.known (at file f.slot size), size_is, at_slot u write-formed, held-is u)
 
 -- ---- what the calls leave
 
-module _ (t st : List ℕ) (p a b : ℕ) (buf : List ℕ) {e : ℕ} {r : Answer} where
-  pub read-refused : e ≡ first_refusal (rule_at t (λ h q. read_block h q st p a b buf)).refusals → (e ≡ 0 → ⊥) → r ≡ said e 0 0 → ReadLeft t st p a b buf r buf
-  read-refused found n re = record {
-    left = left-refused t (λ h q. read_block h q st p a b buf) found n re;
-    store = store-refused (rule_at t (λ h q. read_block h q st p a b buf)) found (configuration t) st n;
-    buffer = buffer-refused (rule_at t (λ h q. read_block h q st p a b buf)) found buf n;
-  }
+module _ (t st : List ℕ) (p a b : ℕ) (buf : List ℕ) where
+  module _ (e : Error) (r : Result (ℕ × ℕ) Error) (is : IsErr r) (same : IsErrAnd r (λ x. x ≡ e)) where
+    pub read-refused : number_of e ≡ first_refusal (rule_at t (λ h q. read_block h q st p a b buf)).refusals → ReadLeft t st p a b buf (told r) buf
+    read-refused found = record {
+      left = left-stopped t (λ h q. read_block h q st p a b buf) e r found is same;
+      store = store-refused (rule_at t (λ h q. read_block h q st p a b buf)) found (configuration t) st (refusal-some e);
+      buffer = buffer-refused (rule_at t (λ h q. read_block h q st p a b buf)) found buf (refusal-some e);
+    }
 
-  pub read_done : {buf' : List ℕ} → e ≡ first_refusal (rule_at t (λ h q. read_block h q st p a b buf)).refusals → e ≡ 0 → r ≡ said 0 0 0
-      → buf' ≡ (rule_at t (λ h q. read_block h q st p a b buf)).effects.buffer → ReadLeft t st p a b buf r buf'
+    pub write-refused : number_of e ≡ first_refusal (rule_at t (λ h q. write_block h q p a b buf)).refusals → WriteLeft t st p a b buf (told r) t st
+    write-refused found = record {
+      left = left-stopped t (λ h q. write_block h q p a b buf) e r found is same;
+      store = store-refused (rule_at t (λ h q. write_block h q p a b buf)) found (configuration t) st (refusal-some e);
+      buffer = buffer-refused (rule_at t (λ h q. write_block h q p a b buf)) found buf (refusal-some e);
+    }
+
+  pub read_done : {buf' : List ℕ} → 0 ≡ first_refusal (rule_at t (λ h q. read_block h q st p a b buf)).refusals
+      → buf' ≡ (rule_at t (λ h q. read_block h q st p a b buf)).effects.buffer → ReadLeft t st p a b buf (told (Ok (0, 0))) buf'
   unfolding read_block
-  read_done found z re be = record {
-    left = left-done t (λ h q. read_block h q st p a b buf) found z re refl;
-    store = store-done (rule_at t (λ h q. read_block h q st p a b buf)) found (configuration t) st z;
-    buffer = be ∙ buffer-done (rule_at t (λ h q. read_block h q st p a b buf)) found buf z;
+  read_done found be = record {
+    left = left-told t (λ h q. read_block h q st p a b buf) found refl refl refl;
+    store = store-done (rule_at t (λ h q. read_block h q st p a b buf)) found (configuration t) st refl;
+    buffer = be ∙ buffer-done (rule_at t (λ h q. read_block h q st p a b buf)) found buf refl;
   }
 
-  pub write-refused : e ≡ first_refusal (rule_at t (λ h q. write_block h q p a b buf)).refusals → (e ≡ 0 → ⊥) → r ≡ said e 0 0 → WriteLeft t st p a b buf r t st
-  write-refused found n re = record {
-    left = left-refused t (λ h q. write_block h q p a b buf) found n re;
-    store = store-refused (rule_at t (λ h q. write_block h q p a b buf)) found (configuration t) st n;
-    buffer = buffer-refused (rule_at t (λ h q. write_block h q p a b buf)) found buf n;
-  }
-
-  pub write_done : {t' st' : List ℕ} → e ≡ first_refusal (rule_at t (λ h q. write_block h q p a b buf)).refusals → e ≡ 0 → r ≡ said 0 0 0
+  pub write_done : {t' st' : List ℕ} → 0 ≡ first_refusal (rule_at t (λ h q. write_block h q p a b buf)).refusals
       → t' ≡ write (configuration t) t (rule_at t (λ h q. write_block h q p a b buf)).effects.words
-      → st' ≡ store (configuration t) st (rule_at t (λ h q. write_block h q p a b buf)).effects.bytes → WriteLeft t st p a b buf r t' st'
+      → st' ≡ store (configuration t) st (rule_at t (λ h q. write_block h q p a b buf)).effects.bytes → WriteLeft t st p a b buf (told (Ok (0, 0))) t' st'
   unfolding write_block
-  write_done found z re te be = record {
-    left = left-done t (λ h q. write_block h q p a b buf) found z re te;
-    store = be ∙ store-done (rule_at t (λ h q. write_block h q p a b buf)) found (configuration t) st z;
-    buffer = buffer-done (rule_at t (λ h q. write_block h q p a b buf)) found buf z;
+  write_done found te be = record {
+    left = left-told t (λ h q. write_block h q p a b buf) found refl refl te;
+    store = be ∙ store-done (rule_at t (λ h q. write_block h q p a b buf)) found (configuration t) st refl;
+    buffer = buffer-done (rule_at t (λ h q. write_block h q p a b buf)) found buf refl;
   }

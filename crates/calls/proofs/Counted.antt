@@ -18,7 +18,7 @@ use Rattle.laws.proofs.Shape.{opens-counted}
 use Rattle.layout.specs.declared.Header.{Header}
 use Rattle.calls.specs.World.{Sound, words_of, holds_at, holders_among}
 use Rattle.calls.specs.declared.Caller.{Caller}
-use Rattle.calls.proofs.Worlds.{shape, cells_is, first-by-kind}
+use Rattle.calls.proofs.Worlds.{shape, cells_is}
 use Rattle.calls.proofs.Searches.{home-in, run-slots}
 
 sum-within : (n : ℕ) (f g : ℕ → ℕ) → ((k : ℕ) → k < n → f k ≤ g k) → sum_below n f ≤ sum_below n g
@@ -51,7 +51,7 @@ module _ {t : List ℕ} {n : Header} {c : Caller} (sound : Sound t n c) (s : ℕ
   many = cell_slots (configuration t) process c.cell
 
   run_in : from + many ≤ slots (configuration t) process
-  run_in = run-slots sound process refl (sym (first-by-kind (configuration t) process c.cell)) refl
+  run_in = run-slots sound.known process c.cell (home-in sound) refl refl
 
   home : (k : ℕ) → k < many → cell_of (configuration t) process (from + k) ≡ c.cell
   home k l = cell-run (configuration t) process (from + k) c.cell (omega (arith, home-in sound, cells_is sound.known)) (omega arith) (omega arith)

@@ -2,6 +2,7 @@
 pub mod Worlds
 pub mod Searches
 pub mod Refusals
+pub mod Refused
 pub mod Names
 pub mod Looks
 pub mod Leaves
@@ -20,6 +21,7 @@ pub mod Statuses
 pub mod BlocksLaws
 pub mod RegradeLaws
 pub mod Codes
+pub mod Named
 pub mod Whole
 pub mod ViewLaws
 pub mod TrayLaws

@@ -1,22 +1,27 @@
 -- The address map: a map as the code holds it is the rule's, page by page; what is judged of it, and what is written.
-use mathlib.Core.Path.{◌≡◌, refl, ap, ◌∙◌}
+use mathlib.Core.Path.{◌≡◌, refl, sym, ap, ◌∙◌}
 use mathlib.Core.Bool.{Bool, true, false, cond, ◌&&◌, ◌||◌, not}
-use mathlib.Core.List.{List}
-use Prim.Native.Nat.{ℕ, ◌+◌, ◌<◌}
+use mathlib.Core.List.{List, [], ◌∷◌}
+use Prim.Native.Nat.{ℕ, zero, suc, ◌+◌, ◌-◌, ◌≤◌, ◌<◌, min}
 use native.Mathlib.Omega.{arith}
 use native.Mathlib.Nat.{zero-add}
 use native.Mathlib.Numerals.{add-one}
 use lib.Dec.{ltb, leb, eqb}
-use lib.ListN.{set}
-use borrow.Author.Tests.{ltb-false}
+use lib.ListN.{length, get_or, set, take, drop, replicate, length-take, length-drop, length-replicate}
+use lib.Seq.{sets, length-sets, get_or-take, get_or-drop}
+use borrow.Rule.Slice.PartMut.{mid_of, put_mid}
+use Rattle.std.proofs.lemmas.List.{get_or-replicate}
+use Rattle.std.specs.List.{list_any}
+use borrow.Author.Tests.{ltb-true, ltb-false, leb-true, lt-ltb, le-leb}
 use Rattle.rules.specs.Words.{some_below, tab_from}
 use Rattle.rules.specs.Layout.{process, segment, configuration, Addr, at, held_at, pages, page_at}
 use Rattle.rules.specs.Rule.{Word, ◌≔◌, write}
 use Rattle.rules.specs.Find.{page_left, pages_set, pages_cleared}
 use Rattle.rules.specs.Call19.{named, is_mapped, pages_of, conflict, page_taken, remapped}
 use Rattle.laws.proofs.Below.{some_same}
-use Rattle.laws.proofs.Tests.{split}
-use Rattle.laws.proofs.Tab.{tab-more}
+use Rattle.laws.proofs.Tests.{and_left, and_right, and_both, both_ways, split}
+use Rattle.laws.proofs.Stored.{sets-in, sets-out}
+use Rattle.laws.proofs.Tab.{tab-more, is-tab}
 use Rattle.laws.proofs.Fill.{tab-at, tab-same}
 use Rattle.laws.proofs.Written.{write-append}
 use Rattle.layout.specs.declared.Header.{Header}
@@ -24,6 +29,8 @@ use Rattle.layout.specs.Header.{place_of}
 use Rattle.calls.specs.World.{Known}
 use Rattle.calls.specs.Map.{held, map_of, left_by, taken_by}
 use Rattle.calls.proofs.Worlds.{spot}
+use Rattle.calls.proofs.Queues.{sets-all}
+use Rattle.calls.proofs.BlocksLaws.{part_length, mid-sets}
 
 -- ---- pages written
 
@@ -49,15 +56,74 @@ pages-same p f g e =
     tab-same pages (λ k. at process p (page_at k) ≔ f k) (λ k. at process p (page_at k) ≔ g k) (at process p 0 ≔ 0)
     (λ k l. ap (λ (v : ℕ). at process p (page_at k) ≔ v) (e k l))
 
--- ---- loops that ask whether some page passes a test
+-- ---- whether some page passes a test
 
-pub some_first : (f : ℕ → Bool) → false ≡ some_below 0 f
-unfolding some_below
-some_first f = refl
+or-again : (a b c : Bool) → (a || b) || c ≡ a || (b || c)
+or-again true b c = refl
+or-again false b c = refl
 
-pub some_next : (f : ℕ → Bool) (i : ℕ) {b x : Bool} → b ≡ some_below i f → x ≡ f i → b || x ≡ some_below (i + 1) f
+or-none : (a : Bool) → false || a ≡ a || false
+or-none true = refl
+or-none false = refl
+
+-- the first of them or one of the others
+some_front : (n : ℕ) (f : ℕ → Bool) → some_below (suc n) f ≡ f 0 || some_below n (λ k. f (suc k))
 unfolding some_below
-some_next f i be xe = rw (add-one i, be, xe)
+some_front zero f = or-none (f 0)
+some_front (suc n) f = ap (λ (b : Bool). b || f (suc n)) (some_front n f) ∙ or-again (f 0) (some_below n (λ k. f (suc k))) (f (suc n))
+
+pub some_listed : (p : ℕ → Bool) (l : List ℕ) → list_any p l ≡ some_below (length l) (λ k. p (get_or l k 0))
+unfolding some_below
+some_listed p [] = refl
+some_listed p (x ∷ l) = ap (λ (b : Bool). p x || b) (some_listed p l) ∙ sym (some_front (length l) (λ k. p (get_or (x ∷ l) k 0)))
+
+-- the same of a part: n of them from a place on
+pub some_part : (p : ℕ → Bool) (l : List ℕ) (at n : ℕ) {k : ℕ} → k ≡ n → at + n ≤ length l
+    → list_any p (take k (drop at l)) ≡ some_below n (λ i. p (get_or l (at + i) 0))
+some_part p l at n {k} ke fits =
+    let long : length (take k (drop at l)) ≡ n = omega (arith, length-take k (drop at l), length-drop at l) in
+    (rw long at (some_listed p (take k (drop at l))))
+    ∙ some_same n _ _ (λ i h. ap p (get_or-take k (drop at l) i 0 (omega arith) ∙ get_or-drop at l i 0))
+
+-- ---- v stored in n of the pages from b on, as far as there are pages
+
+module _ (m : List ℕ) (v b n : ℕ) (long : length m ≡ pages) where
+  a : ℕ
+  a = min b pages
+
+  k : ℕ
+  k = min (b + n) pages - min b pages
+
+  stored-at : (g : ℕ) → g < pages → (z : Bool) → leb b g && ltb g (b + n) ≡ z → get_or (sets m a (replicate k v)) g 0 ≡ cond z v (held m g)
+  unfolding a k
+  stored-at g l true q =
+      let low : b ≤ g = leb-true b g (and_left (leb b g) (ltb g (b + n)) q) in
+      let high : g < b + n = ltb-true g (b + n) (and_right (leb b g) (ltb g (b + n)) q) in
+      let at : a + (g - a) ≡ g = omega arith in
+      let near : g - a < k = omega arith in
+      (rw at at (sets-in (replicate k v) m a (g - a) (omega (arith, length-replicate k v)) (omega arith))) ∙ get_or-replicate k (g - a) v 0 near
+  stored-at g l false q =
+      sets-out (replicate k v) m a g (λ low high.
+      let in_run : leb b g && ltb g (b + n) ≡ true
+      = and_both (leb b g) (ltb g (b + n)) (le-leb b g (omega arith)) (lt-ltb g (b + n) (omega (arith, length-replicate k v))) in
+      both_ways (leb b g && ltb g (b + n)) in_run q)
+
+  stored-all : sets m a (replicate k v) ≡ tab_from 0 pages (λ g. cond (leb b g && ltb g (b + n)) v (held m g))
+  stored-all =
+      is-tab pages _ 0 (sets m a (replicate k v)) (length-sets m a (replicate k v) ∙ long)
+      (λ g l. stored-at g l (leb b g && ltb g (b + n)) refl)
+
+  pub taken-part : {comes : Bool} → comes ≡ true → {from to : ℕ} → from ≡ min b pages → to ≡ min (b + n) pages
+      → {part : List ℕ} → part ≡ replicate (length (take (to - from) (drop from m))) v → put_mid from (to - from) m part ≡ taken_by m comes v b n
+  unfolding a k
+  taken-part e fe te pe =
+      let whole : length (take k (drop a m)) ≡ k = part_length m a k (omega arith) in
+      rw (e, pe, fe, te, whole)
+      (ap (put_mid a k m) (sym (sets-all (mid_of a k m) (replicate k v) (length-replicate k v ∙ sym whole)))
+      ∙ mid-sets a k (replicate k v) m 0 (omega (arith, length-replicate k v)) ∙ ap (λ (i : ℕ). sets m i (replicate k v)) (omega arith) ∙ stored-all)
+
+pub taken-none : (m : List ℕ) (v b n : ℕ) → length m ≡ pages → {comes : Bool} → comes ≡ false → m ≡ taken_by m comes v b n
+taken-none m v b n long e = rw e (is-tab pages (held m) 0 m long (λ k l. refl))
 
 -- ---- the map m of process p as the code holds it, and what is left of it once designator d has left
 

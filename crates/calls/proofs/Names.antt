@@ -1,6 +1,6 @@
 -- What a word names, and what is seen of it, as the code finds it.
 use mathlib.Core.Path.{◌≡◌, sym, ap, ◌∙◌}
-use mathlib.Core.Bool.{Bool, true, false, cond, ◌&&◌, true≢false}
+use mathlib.Core.Bool.{Bool, true, false, cond, ◌&&◌}
 use mathlib.Core.List.{List, []}
 use Prim.Native.Nat.{ℕ, ◌+◌, ◌≤◌, ◌<◌, ◌^◌}
 use native.Mathlib.Omega.{arith}
@@ -23,25 +23,26 @@ use Rattle.layout.specs.declared.Header.{Header}
 use Rattle.layout.specs.Header.{slots_of, record_of}
 use Rattle.layout.specs.Hall.{cells_at, hall_of}
 use Rattle.layout.proofs.Hall.{cell-told}
-use Rattle.ids.specs.Seid.{seid_of}
+use Rattle.std.specs.Prelude.{Option, Some, None}
+use Rattle.std.proofs.lemmas.Option.{cond_some}
+use Rattle.ids.specs.Seid.{identifier, seid_of}
 use Rattle.ids.proofs.Parts.{seid-fits}
 use Rattle.calls.specs.declared.Caller.{Caller}
 use Rattle.calls.specs.declared.objects.Named.{Named}
 use Rattle.calls.specs.declared.objects.Seen.{Seen}
 use Rattle.calls.specs.World.{Known, Sound, words_of}
-use Rattle.calls.specs.Seen.{name_of, no_name, named_of, Sixteen, unseen, seen_of}
+use Rattle.calls.specs.Seen.{name_of, named_of, Sixteen, unseen, seen_of}
 use Rattle.calls.proofs.Worlds.{spot, shape, slots-is}
 
-module _ (n : Header) (k : Kind) (s : ℕ) where
-  -- w is the identifier's word, i and z its parts
-  pub named : {w i z : ℕ} → is_seid (class k) (slots_of n k) s ≡ true → s ≡ w → i ≡ index_of w → z ≡ serial_of w
-      → ◌≡◌ {A = Named} (record { formed = true; slot = i; serial = z }) (named_of n k s)
-  unfolding named_of
-  named form same ie ze = rw (form, ie, ze, same)
-
-  pub name-none : is_seid (class k) (slots_of n k) s ≡ false → no_name ≡ named_of n k s
-  unfolding named_of
-  name-none e = rw e
+-- what an identifier of a kind says of its word: `of` makes one of a word, and `word_of` gives the word back
+module _ {I : Type 0} (k : Kind) (of : ℕ → I) (word_of : I → ℕ) (back : (w : ℕ) → word_of (of w) ≡ w) (size s : ℕ) where
+  -- x is the identifier that the word is, i and z its parts
+  pub named : {x : I} {i z : ℕ} → identifier k of size s ≡ Some x → i ≡ index_of (word_of x) → z ≡ serial_of (word_of x)
+      → ◌≡◌ {A = Option Named} (Some (record { slot = i; serial = z })) (identifier k name_of size s)
+  named {x} e ie ze =
+      let r = cond_some (is_seid (class k) size s) (of s) x e in
+      let w : word_of x ≡ s = ap word_of (sym r.1) ∙ back s in
+      rw (r.0, ie, ze, w)
 
 -- the matrix has sixteen rows, and past them a row of none
 pub sixteen : (h : List ℕ) {m : List (List Bool)} → m ≡ flow_matrix h → Sixteen m
@@ -93,32 +94,30 @@ bits_in segment = omega arith
 bits_in file = omega arith
 
 -- what a word names is one of the table's slots
-pub named_in : {t : List ℕ} {n : Header} → Known t n → (k : Kind) (s : ℕ) {name : Named} → name ≡ named_of n k s → name.formed ≡ true
-    → name.slot < slots (configuration t) k
+pub named_in : {t : List ℕ} {n : Header} → Known t n → (k : Kind) (s : ℕ) {x : Named} → named_of n k s ≡ Some x → x.slot < slots (configuration t) k
 unfolding named_of
-named_in {t} {n} known k s {name} e some = split _ (is_seid (class k) (slots_of n k) s)
-    (λ f. let q : name ≡ name_of s = rw f at e in
-    omega (arith, ap (λ (y : Named). y.slot) q, (is-formed (class k) (slots_of n k) s f).index_in, slots-is known k))
-    (λ f. let q : name ≡ no_name = rw f at e in absurd (true≢false (sym some ∙ ap (λ (y : Named). y.formed) q)))
+named_in {t} {n} known k s {x} e =
+    let r = cond_some (is_seid (class k) (slots_of n k) s) (name_of s) x e in
+    omega (arith, ap (λ (y : Named). y.slot) r.1, (is-formed (class k) (slots_of n k) s r.0).index_in, slots-is known k)
 
 -- ---- what is seen: nothing, where the word names nothing
 
-pub not_seen : (h : List ℕ) (r : Addr → ℕ) (n : Header) (p : ℕ) (k : Kind) (s : ℕ) {name : Named} {x : Seen} → name ≡ named_of n k s → name.formed ≡ false → x ≡ unseen
+pub not_seen : (h : List ℕ) (r : Addr → ℕ) (n : Header) (p : ℕ) (k : Kind) (s : ℕ) {x : Seen} → named_of n k s ≡ None → x ≡ unseen
     → x ≡ seen_of h r p k (named_of n k s)
-not_seen h r n p k s e none xe = rw (← e, none, xe)
+not_seen h r n p k s e xe = rw (e, xe)
 
 -- and else field by field
 
 module _ {t : List ℕ} {n : Header} {c : Caller} (sound : Sound t n c) {m : List (List Bool)} (matrix : m ≡ flow_matrix (configuration t)) (k : Kind)
-    (s : ℕ) {name : Named} {cell live-word serial-word owner-word group-word bits_at bits-word mine my-group x : ℕ} {f : Bool} (name-is : name ≡ named_of n k s)
+    (s : ℕ) {name : Named} {cell live-word serial-word owner-word group-word bits_at bits-word mine my-group x : ℕ} {f : Bool} (name-is : named_of n k s ≡ Some name)
     (cell-is : cell ≡ cell_of (configuration t) k name.slot) (live-is : live-word ≡ words_of t (at k name.slot live))
     (serial-is : serial-word ≡ words_of t (at k name.slot serial))
     (owner-is : owner-word ≡ words_of t (at k name.slot owner)) (group-is : group-word ≡ words_of t (at k name.slot group)) (bits-at-is : bits_at ≡ bits k)
     (bits_is : bits-word ≡ words_of t (at k name.slot bits_at)) (mine-is : mine ≡ words_of t (at process c.slot owner))
     (my-group-is : my-group ≡ words_of t (at process c.slot group))
     (flow-is : f ≡ get_or (get_or m cell []) c.cell false) (rights-is : x ≡ rights mine my-group owner-word group-word bits-word) where
-  pub seen : name.formed ≡ true → ◌≡◌ {A = Seen} (record {
-    formed = name.formed;
+  pub seen : ◌≡◌ {A = Seen} (record {
+    formed = true;
     slot = name.slot;
     cell = cell;
     own = eqb cell c.cell;
@@ -128,6 +127,6 @@ module _ {t : List ℕ} {n : Header} {c : Caller} (sound : Sound t n c) {m : Lis
     rights = x;
   }) (seen_of (configuration t) (words_of t) c.slot k (named_of n k s))
   unfolding rights_at
-  seen some =
-      rw (← name-is, some, rights-is, flow-is, bits_is, bits-at-is, live-is, serial-is, owner-is, group-is, mine-is, my-group-is, matrix, cell-is, sound.home)
+  seen =
+      rw (name-is, rights-is, flow-is, bits_is, bits-at-is, live-is, serial-is, owner-is, group-is, mine-is, my-group-is, matrix, cell-is, sound.home)
       (rw (matrix-any (configuration t) (shape sound.known).few-cells _ _))

@@ -9,7 +9,7 @@ use lib.Dec.{eqb}
 use lib.ListN.{length}
 use borrow.Author.Tests.{eqb-true, eq-eqb}
 use Rattle.rules.specs.Words.{some_below, sum_below, count_below}
-use Rattle.rules.specs.Layout.{process, file, configuration, slots, cell_word, cell_slots_word, at, entries, held_at, used_at}
+use Rattle.rules.specs.Layout.{process, file, configuration, slots, cell_slots, first_slot, at, entries, held_at, used_at}
 use Rattle.rules.specs.Call08.{clashes_at}
 use Rattle.laws.proofs.Tests.{and_left, both_ways, refuted}
 use Rattle.laws.proofs.Below.{some-none, sum_more, sum-grows, count-more, count-some}
@@ -18,12 +18,11 @@ use Rattle.layout.specs.declared.Header.{Header}
 use Rattle.layout.specs.Header.{record_of}
 use Rattle.calls.specs.declared.Caller.{Caller}
 use Rattle.calls.specs.declared.entries.Entry.{Entry}
-use Rattle.calls.specs.World.{Sound, words_of, holds_at, holders_among, Clashable, first_by}
+use Rattle.calls.specs.World.{Sound, words_of, holds_at, holders_among, Clashable}
 use Rattle.calls.specs.Entries.{entry_of, entry_from}
-use Rattle.calls.proofs.Worlds.{first-by-kind}
 use Rattle.calls.proofs.Names.{record-there}
 use Rattle.calls.proofs.Given.{entry_read}
-use Rattle.calls.proofs.Searches.{run-slots}
+use Rattle.calls.proofs.Searches.{home-in, run-slots}
 use Rattle.calls.proofs.FilesLaws.{clash-none, clash-held}
 
 -- ---- rows of w entries, of which some are counted
@@ -97,15 +96,15 @@ module _ (t : List ℕ) (s from m left : ℕ) where
 
 -- ---- the search in the processes of the caller's cell: from is the first, m how many there are
 
-module _ {t : List ℕ} {n : Header} {c : Caller} (sound : Sound t n c) {s b most : ℕ} (good : Clashable t n c.cell s b most) {from m : ℕ} (fe : from ≡ first_by (configuration t) (cell_slots_word process) c.cell)
-    (me : m ≡ cell_word (configuration t) c.cell (cell_slots_word process)) where
+module _ {t : List ℕ} {n : Header} {c : Caller} (sound : Sound t n c) {s b most : ℕ} (good : Clashable t n c.cell s b most) {from m : ℕ} (fe : from ≡ first_slot (configuration t) process c.cell)
+    (me : m ≡ cell_slots (configuration t) process c.cell) where
   pub begun : {left : ℕ} → left ≡ most → (p : ℕ) → Unmet t s from m left p 0
   begun {left} e p =
-      let few : holders_among t from m s ≤ most = rw (fe ∙ first-by-kind (configuration t) process c.cell, me) good.few in
+      let few : holders_among t from m s ≤ most = rw (fe, me) good.few in
       unmet-first t s from m left p (omega (arith, few))
 
   in_table : (k : ℕ) → k < m → from + k < slots (configuration t) process
-  in_table k l = omega (arith, run-slots sound process refl fe me)
+  in_table k l = omega (arith, run-slots sound.known process c.cell (home-in sound) fe me)
 
   -- the descriptors of process p begin at a place: the table has them all, and what is read there is the entry
   module _ (p : ℕ) (lp : p < m) {first : ℕ} (there : first ≡ record_of n process (from + p) + held_at file 0) where

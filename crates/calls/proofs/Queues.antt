@@ -1,18 +1,19 @@
 -- Messages: a message shown as bytes, the queue moved up, in the rule's words; and the two ends of a receive.
 use mathlib.Core.Path.{◌≡◌, refl, sym, ap, ◌∙◌}
 use mathlib.Core.Bool.{not}
-use mathlib.Core.List.{List, ◌++◌, append-nil}
+use mathlib.Core.List.{List, [], ◌∷◌, ◌++◌, append-nil}
 use Prim.Native.Nat.{ℕ, zero, suc, ◌+◌, ◌*◌, ◌-◌, ◌≤◌, ◌<◌, ◌^◌}
 use native.Mathlib.Omega.{arith}
 use native.Mathlib.Numerals.{add-one}
 use lib.Dec.{eqb}
-use lib.ListN.{length, get_or, set, length-set, replicate}
-use lib.Seq.{sets, length-sets, sets-eq, drop-length, get_or-set_other}
+use lib.ListN.{length, get_or, set, drop, length-set, length-drop, replicate}
+use lib.Seq.{sets, length-sets, sets-eq, drop-length, get_or-drop, get_or-set_other, paste, paste-zero, paste-suc}
 use borrow.Author.Tests.{eqb-true}
+use Rattle.std.specs.Prelude.{Result, Ok, IsErr, IsErrAnd}
 use Rattle.rules.specs.Words.{tab_from, bytes4}
 use Rattle.rules.specs.Layout.{process, configuration, at, offset, rd, queue, messages, message_words, messages_at, message_at}
 use Rattle.rules.specs.Errors.{XbSz, XbNoMes}
-use Rattle.rules.specs.Rule.{◌≔◌, write, first_refusal}
+use Rattle.rules.specs.Rule.{Refusal, ◌⇒◌, ◌≔◌, write, first_refusal}
 use Rattle.rules.specs.Find.{zeros}
 use Rattle.rules.specs.Call16.{moved_up, receive, message_bytes}
 use Rattle.laws.proofs.Tab.{tab-more}
@@ -20,17 +21,16 @@ use Rattle.laws.proofs.Tests.{passed}
 use Rattle.laws.proofs.Written.{write-append}
 use Rattle.layout.specs.declared.Header.{Header}
 use Rattle.layout.specs.Header.{record_of, place_of}
-use Rattle.calls.specs.declared.Answer.{Answer}
 use Rattle.calls.specs.declared.Caller.{Caller}
 use Rattle.calls.specs.World.{words_of, Known, Sound}
-use Rattle.calls.specs.Left.{said, rule_at, buffer_of, Left}
-use Rattle.calls.specs.Refusing.{or_refuse}
-use Rattle.calls.specs.Mail.{shown_at, moved_at}
+use Rattle.calls.specs.Left.{told, rule_at, buffer_of, Left}
+use Rattle.calls.specs.declared.error.Error.{Error}
+use Rattle.calls.specs.Refusing.{number_of}
+use Rattle.calls.specs.Mail.{shown_at}
 use Rattle.calls.proofs.Worlds.{shape, spot}
 use Rattle.calls.proofs.Given.{zeros-is}
 use Rattle.laws.proofs.Refusals.{clear}
-use Rattle.calls.proofs.Refusals.{refusing-first}
-use Rattle.calls.proofs.Leaves.{left-refused, left-done, buffer-refused, buffer-done}
+use Rattle.calls.proofs.Leaves.{refusal-some, left-stopped, left-told, buffer-refused, buffer-done}
 
 -- ---- a message shown
 
@@ -59,28 +59,22 @@ shown-four t from b e =
 
 -- ---- the queue moved up
 
-moved_more : (t : List ℕ) (from n : ℕ) → moved_at t from (n + 1) ≡ set (moved_at t from n) (from + n) (get_or t (from + n + message_words) 0)
-unfolding moved_at
-moved_more t from n = rw add-one
+-- n words from a place on, each taken from a message further
+moved_at : List ℕ → ℕ → ℕ → List ℕ
+moved_at t from zero = t
+moved_at t from (suc n) = set (moved_at t from n) (from + n) (get_or t (from + n + message_words) 0)
 
-pub length_moved : (t : List ℕ) (from n : ℕ) → length (moved_at t from n) ≡ length t
+-- copied at once
+moved-pasted : (t : List ℕ) (from n : ℕ) → from + n + message_words ≤ length t → paste t from (drop (from + message_words) t) n ≡ moved_at t from n
 unfolding moved_at
-length_moved t from zero = refl
-length_moved t from (suc n) = length-set (moved_at t from n) (from + n) (get_or t (from + n + message_words) 0) ∙ length_moved t from n
-
--- words not yet passed are as they were
-moved_later : (t : List ℕ) (from n j : ℕ) → from + n ≤ j → get_or (moved_at t from n) j 0 ≡ get_or t j 0
-unfolding moved_at
-moved_later t from zero j l = refl
-moved_later t from (suc n) j l =
-    get_or-set_other (moved_at t from n) (from + n) j (get_or t (from + n + message_words) 0) 0 (λ e. omega arith) ∙ moved_later t from n j (omega arith)
-
--- one word more, read before anything is stored there
-pub moved-next : (t l : List ℕ) (from i : ℕ) → l ≡ moved_at t from i → set l (from + i) (get_or l (from + i + message_words) 0) ≡ moved_at t from (i + 1)
-moved-next t l from i e =
-    ap (λ (x : List ℕ). set x (from + i) (get_or x (from + i + message_words) 0)) e
-    ∙ ap (λ (v : ℕ). set (moved_at t from i) (from + i) v) (moved_later t from i (from + i + message_words) (omega arith))
-    ∙ sym (moved_more t from i)
+moved-pasted t from zero l = sym (paste-zero t from (drop (from + message_words) t))
+moved-pasted t from (suc n) l =
+    let s = drop (from + message_words) t in
+    let further : from + message_words + n ≡ from + n + message_words = omega arith in
+    sym (paste-suc t from s n 0 (omega arith) (omega (arith, length-drop (from + message_words) t)))
+    ∙ ap (λ (v : ℕ). set (paste t from s n) (from + n) v)
+    (get_or-drop (from + message_words) t n 0 ∙ ap (λ (i : ℕ). get_or t i 0) further)
+    ∙ ap (λ (x : List ℕ). set x (from + n) (get_or t (from + n + message_words) 0)) (moved-pasted t from n (omega arith))
 
 -- the caller's messages lie within the table, also once a word was stored; x is where its record begins
 pub messages-within : {t u : List ℕ} {n : Header} {c : Caller} → Sound t n c → {x : ℕ} (i v : ℕ) → x ≡ record_of n process c.slot → u ≡ set t i v
@@ -116,35 +110,44 @@ kept_word h t p j v =
     ap (λ (k : ℕ). get_or t k 0) e
     ∙ sym (get_or-set_other t (offset h (at process p queue)) (offset h (at process p messages_at) + j + message_words) v 0 (λ q. omega arith))
 
--- ---- receive, in the numbers that the code has found: what waits, and the number that refuses
+-- ---- receive, of what the code has found to wait
 
-module _ (t : List ℕ) (p : ℕ) (b : List ℕ) {waiting e e2 : ℕ} (queued : waiting ≡ words_of t (at process p queue))
-    (long : e ≡ or_refuse 0 (not (eqb (length b) message_bytes)) XbSz) (empty : e2 ≡ or_refuse e (eqb waiting 0) XbNoMes) where
-  receive-number : e2 ≡ first_refusal (rule_at t (λ h q. receive h q p b)).refusals
+abbrev pub receive_tests : ℕ → ℕ → List Refusal
+receive_tests bytes waiting = (not (eqb bytes message_bytes) ⇒ XbSz) ∷ (eqb waiting 0 ⇒ XbNoMes) ∷ []
+
+module _ (t : List ℕ) (p : ℕ) (b : List ℕ) {waiting : ℕ} (queued : waiting ≡ words_of t (at process p queue)) where
+  receive-number : {e : ℕ} → e ≡ first_refusal (receive_tests (length b) waiting) → e ≡ first_refusal (rule_at t (λ h q. receive h q p b)).refusals
   unfolding receive
-  receive-number = rw (empty, long, queued) (refusing-first (rule_at t (λ h q. receive h q p b)).refusals refl)
+  receive-number f = f ∙ rw queued
 
-  pub receive-refused : (e2 ≡ 0 → ⊥) → {r : Answer} → r ≡ said e2 0 0
-      → Left t (λ h q. receive h q p b) r t × (b ≡ buffer_of b (rule_at t (λ h q. receive h q p b)))
-  receive-refused ne re = (left-refused t _ receive-number ne re, buffer-refused _ receive-number b ne)
+  pub receive-refused : (e : Error) (r : Result (ℕ × ℕ) Error) → number_of e ≡ first_refusal (receive_tests (length b) waiting)
+      → IsErr r → IsErrAnd r (λ x. x ≡ e)
+      → Left t (λ h q. receive h q p b) (told r) t × (b ≡ buffer_of b (rule_at t (λ h q. receive h q p b)))
+  receive-refused e r f is same = (
+    left-stopped t _ e r (receive-number f) is same,
+    buffer-refused (rule_at t (λ h q. receive h q p b)) (receive-number f) b (refusal-some e),
+  )
 
-  module _ {n : Header} (known : Known t n) (none : e2 ≡ 0) {x : ℕ} (record-at : x ≡ record_of n process p) where
+  module _ {n : Header} (known : Known t n) (none : 0 ≡ first_refusal (receive_tests (length b) waiting)) {x : ℕ} (record-at : x ≡ record_of n process p) where
     from_is : x + messages_at ≡ offset (configuration t) (at process p messages_at)
     from_is = omega (arith, record-at, spot known (at process p messages_at))
 
     -- the words: the count, the queue moved up, the last place cleared
     receive-words : {m : ℕ} {u v z : List ℕ} → m ≡ waiting - 1 → u ≡ set t (place_of n (at process p queue)) m
-        → v ≡ moved_at u (x + messages_at) 28 → z ≡ sets v (x + messages_at + 28) (replicate message_words 0)
+        → x + messages_at + 28 + message_words ≤ length u
+        → {k : ℕ} → k ≡ 28 → v ≡ paste u (x + messages_at) (drop (x + messages_at + message_words) u) k
+        → z ≡ sets v (x + messages_at + 28) (replicate message_words 0)
         → z ≡ write (configuration t) t (rule_at t (λ h q. receive h q p b)).effects.words
     unfolding receive moved_up
-    receive-words {m} {u} {v} {z} me ue ve ze =
+    receive-words {m} {u} {v} {z} me ue fits ke ve ze =
         let h = configuration t in
         let f0 = offset h (at process p messages_at) in
         let u0 = set t (offset h (at process p queue)) (words_of t (at process p queue) - 1) in
         let uu : u ≡ u0 = rw (ue, spot known (at process p queue), me, queued) refl in
         let moved = moved-is h t u0 p 28 (λ j l. kept_word h t p j (words_of t (at process p queue) - 1)) in
         let last : offset h (at process p (message_at (messages - 1) 0)) ≡ f0 + 28 = omega arith in
-        ze ∙ rw (ve, from_is, uu) refl
+        let ve' : v ≡ moved_at u (x + messages_at) 28 = ve ∙ rw ke (moved-pasted u (x + messages_at) 28 fits) in
+        ze ∙ rw (ve', from_is, uu) refl
         ∙ sym (
         write-append h u0 (tab_from messages_at 28 (λ k. at process p k ≔ rd h t (at process p (k + message_words)))) (zeros process p (message_at (messages - 1) 0) message_words)
         ∙ ap (λ (l : List ℕ). write h l (zeros process p (message_at (messages - 1) 0) message_words)) moved
@@ -160,16 +163,15 @@ module _ (t : List ℕ) (p : ℕ) (b : List ℕ) {waiting e e2 : ℕ} (queued : 
         shown-four t (x + messages_at) b l ∙ rw (at-word 0, at-word 1, at-word 2, at-word 3)
 
     sixteen : length b ≡ message_bytes
-    unfolding receive
-    sixteen =
-        let tests = (rule_at t (λ h q. receive h q p b)).refusals in
-        eqb-true (length b) message_bytes (passed (eqb (length b) message_bytes) (clear tests refl (sym receive-number ∙ none)).0)
+    sixteen = eqb-true (length b) message_bytes (passed _ (clear (receive_tests (length b) waiting) refl (sym none)).0)
 
-    pub receive-done : {m : ℕ} {r : Answer} {u v z y : List ℕ} → m ≡ waiting - 1 → u ≡ set t (place_of n (at process p queue)) m
-        → v ≡ moved_at u (x + messages_at) 28 → z ≡ sets v (x + messages_at + 28) (replicate message_words 0) → y ≡ shown_at t (x + messages_at) b message_words
-        → r ≡ said 0 0 0 → Left t (λ h q. receive h q p b) r z × (y ≡ buffer_of b (rule_at t (λ h q. receive h q p b)))
+    pub receive-done : {m : ℕ} {u v z y : List ℕ} → m ≡ waiting - 1 → u ≡ set t (place_of n (at process p queue)) m
+        → x + messages_at + 28 + message_words ≤ length u
+        → {k : ℕ} → k ≡ 28 → v ≡ paste u (x + messages_at) (drop (x + messages_at + message_words) u) k
+        → z ≡ sets v (x + messages_at + 28) (replicate message_words 0) → y ≡ shown_at t (x + messages_at) b message_words
+        → Left t (λ h q. receive h q p b) (told (Ok (0, 0))) z × (y ≡ buffer_of b (rule_at t (λ h q. receive h q p b)))
     unfolding receive
-    receive-done me ue ve ze ye re = (
-      left-done t (λ h q. receive h q p b) receive-number none re (receive-words me ue ve ze),
-      ye ∙ receive-buffer sixteen ∙ buffer-done (rule_at t (λ h q. receive h q p b)) receive-number b none,
+    receive-done me ue fits ke ve ze ye = (
+      left-told t (λ h q. receive h q p b) (receive-number none) refl refl (receive-words me ue fits ke ve ze),
+      ye ∙ receive-buffer sixteen ∙ buffer-done (rule_at t (λ h q. receive h q p b)) (receive-number none) b refl,
     )

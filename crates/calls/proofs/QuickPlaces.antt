@@ -1,12 +1,14 @@
 -- Where the words of a working slice stand, by the header's numbers, and whether a word names a slot of the caller's cell.
-use mathlib.Core.Path.{◌≡◌, refl, sym, ap, ap₂, ◌∙◌}
-use mathlib.Core.Bool.{Bool, true, false, cond, true≢false}
+use Rattle.std.specs.Prelude.{Option}
+use Rattle.rules.specs.Find.{free_slot}
+use mathlib.Core.Path.{◌≡◌, refl, sym, ap, ◌∙◌}
+use mathlib.Core.Bool.{true, false, cond}
 use mathlib.Core.List.{List}
 use Prim.Native.Nat.{ℕ, ◌+◌, ◌*◌, ◌-◌, ◌≤◌, ◌<◌, ◌^◌}
 use native.Mathlib.Omega.{arith}
 use native.Mathlib.Nat.{mul-le-mul}
 use native.Mathlib.Numerals.{add-one}
-use lib.Dec.{eqb, leb}
+use lib.Dec.{eqb}
 use lib.ListN.{get_or}
 use borrow.Author.Tests.{eqb-true}
 use Rattle.rules.specs.Words.{sum_below}
@@ -33,15 +35,13 @@ use Rattle.follow.proofs.Places.{rows_next}
 use Rattle.follow.proofs.Slots.{run_small, next-free}
 use Rattle.follow.proofs.Rows.{row-clashes}
 use Rattle.calls.specs.declared.Caller.{Caller}
-use Rattle.calls.specs.declared.room.Slot.{Slot}
-use Rattle.calls.specs.World.{Known, Sound, words_of, first_by}
-use Rattle.calls.specs.Seen.{slot_found}
+use Rattle.calls.specs.World.{Known, Sound, words_of}
 use Rattle.table.specs.Shape.{Small}
 use Rattle.work.specs.Parts as parts
 use Rattle.work.specs.Parts.{lists_at}
-use Rattle.calls.specs.Quick.{RightIn, kind_made, makes, Made, Near}
+use Rattle.calls.specs.Quick.{RightIn, Made, Near}
 use Rattle.calls.proofs.Searches.{home-in}
-use Rattle.calls.proofs.Worlds.{spot, shape, cells_is, blocks_is, slots-is, first-by-kind}
+use Rattle.calls.proofs.Worlds.{spot, shape, cells_is, blocks_is, slots-is}
 
 -- ---- a cell's run of a kind, and the masks of the cells before one
 
@@ -64,6 +64,12 @@ rows-most h s c l =
     omega (arith, sum-le c (λ c. cell_slots h process c * cell_slots h file c) (2 ^ 16) (λ j m. row-most h s j (omega arith)), s.few-cells)
 
 -- ---- by the header
+
+-- they are few
+pub lists-few : {n : Header} → Small n → (k : Kind) → lists_at n k < 2 ^ 12
+lists-few small process = omega arith
+lists-few small segment = omega (arith, small.few-cells, small.few-processes)
+lists-few small file = omega (arith, small.few-cells, small.few-processes, small.few-segments)
 
 module _ {t : List ℕ} {n : Header} (known : Known t n) where
   pub few : Small n
@@ -97,15 +103,11 @@ module _ {t : List ℕ} {n : Header} (known : Known t n) where
   pub rows_fit : (c : ℕ) → c ≤ n.cells → rows_to (configuration t) c ≤ 2 ^ 20
   rows_fit c l = omega (arith, rows-most (configuration t) (shape known) c (omega (arith, cells_is known)))
 
-  -- a cell's run begins at `from`, by the kind's word
-  first-is : (kind : Kind) (c : ℕ) {k from : ℕ} → k ≡ cell_slots_word kind → from ≡ first_by (configuration t) k c → from ≡ first_slot (configuration t) kind c
-  first-is kind c ke fe = fe ∙ rw ke (first-by-kind (configuration t) kind c)
-
   -- the lists of a kind begin at b, the run of cell c at `from`
-  pub list-told : (kind : Kind) (c : ℕ) {k b from : ℕ} → k ≡ cell_slots_word kind → b ≡ lists_at n kind → from ≡ first_by (configuration t) k c
+  pub list-told : (kind : Kind) (c : ℕ) {b from : ℕ} → b ≡ lists_at n kind → from ≡ first_slot (configuration t) kind c
       → b + (from + c) ≡ list_at (configuration t) kind c
   unfolding list_at
-  list-told kind c ke be fe = rw (be, lists-is kind, first-is kind c ke fe)
+  list-told kind c be fe = rw (be, lists-is kind, fe)
 
   -- the masks begin at b, those of cell c after m words, and a process of it has x
   pub mark-told : (c f i : ℕ) {b m x : ℕ} → b ≡ parts.rows_at n → m ≡ rows_to (configuration t) c → x ≡ cell_word (configuration t) c (cell_slots_word file)
@@ -120,21 +122,20 @@ module _ {t : List ℕ} {n : Header} (known : Known t n) where
       omega (arith, mul-le-mul low few-files)
 
   -- a slot of the caller's cell, counted from the run's first
-  module _ {me : Caller} (kind : Kind) (i : ℕ) (near : Near t me kind i) {k from : ℕ} (ke : k ≡ cell_slots_word kind)
-      (fe : from ≡ first_by (configuration t) k me.cell) where
+  module _ {me : Caller} (kind : Kind) (i : ℕ) (near : Near t me kind i) {from : ℕ} (fe : from ≡ first_slot (configuration t) kind me.cell) where
     pub near-from : from ≤ i
     near-from =
         let lo : first_slot (configuration t) kind (cell_of (configuration t) kind i) ≤ i = (in-run (configuration t) (shape known) kind i near.in-range).1 in
-        omega (arith, rw near.in_cell at lo, first-is kind me.cell ke fe)
+        omega (arith, rw near.in_cell at lo, fe)
 
     pub near-low : i - from < max_slots
     near-low = omega (arith, near.in-range, (shape known).few kind)
 
-  pub mark-of-told : {me : Caller} (p f : ℕ) → Near t me process p → {x y r : ℕ} → x ≡ first_by (configuration t) (cell_slots_word process) me.cell
-      → y ≡ first_by (configuration t) (cell_slots_word file) me.cell → r ≡ mark_at (configuration t) me.cell (f - y) (p - x) → r ≡ mark_of (configuration t) p f
+  pub mark-of-told : {me : Caller} (p f : ℕ) → Near t me process p → {x y r : ℕ} → x ≡ first_slot (configuration t) process me.cell
+      → y ≡ first_slot (configuration t) file me.cell → r ≡ mark_at (configuration t) me.cell (f - y) (p - x) → r ≡ mark_of (configuration t) p f
   unfolding mark_of
   mark-of-told {me} p f near xe ye re =
-      rw (near.in_cell, ← (first-is process me.cell refl xe), ← (first-is file me.cell refl ye)) re
+      rw (near.in_cell, ← xe, ← ye) re
 
 -- ---- whether a word names a slot of the caller's cell: it has the form of an identifier, and its slot is of that cell
 
@@ -169,46 +170,30 @@ near-here {t} {me = me} sound k s e =
 
 module _ {t w : List ℕ} {n : Header} (known : Known t n) (right : RightIn t w) where
   -- the run of cell c has m slots from `from` on, the list is at a place, and x is its next slot
-  pub listed-told : (kind : Kind) (c : ℕ) → c < n.cells → {k from m place x : ℕ} → k ≡ cell_slots_word kind → from ≡ first_by (configuration t) k c
-      → m ≡ cell_word (configuration t) c k → place ≡ list_at (configuration t) kind c → x ≡ next_slot w place (from + m)
-      → ◌≡◌ {A = Slot} (record { index = x; none = leb (from + m) x }) (slot_found (configuration t) (words_of t) kind c)
-  listed-told kind c l ke fe me pe xe =
-      let f = first-is known kind c ke fe in let g : _ ≡ cell_slots (configuration t) kind c = me ∙ rw ke in
-      rw (xe, pe, f, g, next-free (configuration t) (shape known) (words_of t) w right kind c (omega (arith, cells_is known)))
+  pub listed-told : (kind : Kind) (c : ℕ) → c < n.cells → {from m place x : ℕ} → from ≡ first_slot (configuration t) kind c
+      → m ≡ cell_slots (configuration t) kind c → place ≡ list_at (configuration t) kind c → x ≡ next_slot w place (from + m)
+      → x ≡ free_slot (configuration t) (words_of t) kind c
+  listed-told kind c l fe me pe xe =
+      rw (xe, pe, fe, me, next-free (configuration t) (shape known) (words_of t) w right kind c (omega (arith, cells_is known)))
 
 -- the file's masks are at a place, a step x apart, and its cell has m processes from p on
 pub clash-told : {t w : List ℕ} {n : Header} {me : Caller} → Sound t n me → RightIn t w → (s b : ℕ) → here (configuration t) me.slot file s ≡ true
-    → valid_modes b ≡ true → {p f m x i place : ℕ} → p ≡ first_by (configuration t) (cell_slots_word process) me.cell
-    → f ≡ first_by (configuration t) (cell_slots_word file) me.cell → m ≡ cell_slots (configuration t) process me.cell
+    → valid_modes b ≡ true → {p f m x i place : ℕ} → p ≡ first_slot (configuration t) process me.cell
+    → f ≡ first_slot (configuration t) file me.cell → m ≡ cell_slots (configuration t) process me.cell
     → x ≡ cell_slots (configuration t) file me.cell → i ≡ index_of s → place ≡ mark_at (configuration t) me.cell (i - f) 0
     → row_met t w (record_of n process p + held_at file 0) m place x s b ≡ clashes (configuration t) (words_of t) me.cell s b
 clash-told {t} {w} {n} {me} sound right s b e valid {p} pe fe we xe ie ae =
     let h = configuration t in let near = near-here sound file s e in
-    let p-is = first-is sound.known process me.cell refl pe in
-    let f-is = first-is sound.known file me.cell refl fe in
     let there : record_of n process p + held_at file 0 ≡ offset h (at process (first_slot h process me.cell) (held_at file 0)) =
-    spot sound.known (at process p (held_at file 0)) ∙ rw p-is in
-    rw (we, xe, ae, ie, f-is)
+    spot sound.known (at process p (held_at file 0)) ∙ rw pe in
+    rw (we, xe, ae, ie, fe)
     (row-clashes h t w (shape sound.known) (fine_of h (words_of t) sound.records) right s b near.0 valid me.cell _ near.1.in_cell there)
 
 -- ---- the slot for what a call makes
 
+-- a copy into a cell that there isn't takes none
 module _ (t : List ℕ) (me : Caller) (code b : ℕ) where
-  pub made_found : {k : Kind} {cell : ℕ} {q : Slot} → k ≡ kind_made code → cell ≡ cond (eqb code regrade_code) b me.cell
-      → q ≡ slot_found (configuration t) (words_of t) k cell → Made t me code b q
-  made_found {k} {cell} {q} ke ce qe =
-      let found : (n : ℕ) → code ≡ n → q ≡ slot_found (configuration t) (words_of t) (kind_made n) (cond (eqb n regrade_code) b me.cell)
-      = λ n e. qe ∙ ap₂ (slot_found (configuration t) (words_of t)) (ke ∙ ap kind_made e) (ce ∙ ap (λ (x : ℕ). cond (eqb x regrade_code) b me.cell) e) in
-      record { spawned = found 1; built = found 3; created = found 7; copied = λ e l. found regrade_code e }
-
-  -- what makes nothing takes none
-  pub made_nothing : {x : Bool} {q : Slot} → x ≡ makes code → x ≡ false → Made t me code b q
-  made_nothing {x} xe e =
-      let none : (n : ℕ) → makes n ≡ true → code ≡ n → ⊥ = λ n m f. true≢false (sym m ∙ ap makes (sym f) ∙ sym xe ∙ e) in
-      record { spawned = λ f. absurd (none 1 refl f); built = λ f. absurd (none 3 refl f); created = λ f. absurd (none 7 refl f); copied = λ f l. absurd (none regrade_code refl f) }
-
-  -- nor does a copy into a cell that there isn't
-  pub made-nowhere : {n : Header} {cell : ℕ} {q : Slot} → Sound t n me → cell ≡ cond (eqb code regrade_code) b me.cell → n.cells ≤ cell → Made t me code b q
+  pub made-nowhere : {n : Header} {cell : ℕ} {q : Option ℕ} → Sound t n me → cell ≡ cond (eqb code regrade_code) b me.cell → n.cells ≤ cell → Made t me code b q
   made-nowhere {n} {cell} sound ce l =
       let own : (x : ℕ) → cond (eqb x regrade_code) b me.cell ≡ me.cell → code ≡ x → ⊥
       = λ x s f. omega (arith, ce ∙ ap (λ (y : ℕ). cond (eqb y regrade_code) b me.cell) f ∙ s, home-in sound) in

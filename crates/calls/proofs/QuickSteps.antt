@@ -9,7 +9,7 @@ use lib.ListN.{length, get_or}
 use lib.Seq.{sets, ext_get_or}
 use borrow.Author.Tests.{le-leb, lt-leb, leb-false, le-ltb, ltb-true, eq-eqb, ne_eqb, eqb-true, eqb-false}
 use Rattle.rules.specs.Claim.{Holds}
-use Rattle.rules.specs.Layout.{max_slots, max_serial, max_bits, Kind, process, segment, file, record_words, cells, slots, cell_word, cell_slots, cell_slots_word, first_slot, configuration, cell_of, store_bytes, Addr, at, rd, live, serial, entries, held_at}
+use Rattle.rules.specs.Layout.{max_slots, max_serial, max_bits, Kind, process, segment, file, record_words, cells, slots, cell_slots, first_slot, configuration, cell_of, store_bytes, Addr, at, rd, live, serial, entries, held_at}
 use Rattle.rules.specs.Seid.{class, index_of, formed, or_self}
 use Rattle.rules.specs.WellFormed.{lengths_exact, well_formed}
 use Rattle.rules.specs.Rule.{first_refusal}
@@ -40,12 +40,12 @@ use Rattle.follow.proofs.Follows.{follows-step}
 use Rattle.calls.specs.declared.Answer.{Answer}
 use Rattle.calls.specs.declared.Caller.{Caller}
 use Rattle.calls.specs.declared.entries.Entry.{Entry}
-use Rattle.calls.specs.World.{Known, Sound, words_of, first_by}
+use Rattle.calls.specs.World.{Known, Sound, words_of}
 use Rattle.calls.specs.Entries.{entry_of}
 use Rattle.calls.specs.Left.{answer_of, table_of}
 use Rattle.calls.specs.Did.{state_of, call_of, Did, Through, rule_in}
 use Rattle.calls.specs.Quick.{RightIn, Near, Followable}
-use Rattle.calls.proofs.Worlds.{see, spot, shape, slots-is, first-by-kind}
+use Rattle.calls.proofs.Worlds.{see, spot, shape, slots-is}
 use Rattle.calls.proofs.Searches.{run_small}
 use Rattle.calls.proofs.Names.{slot-few}
 use Rattle.calls.proofs.Codes.{done}
@@ -130,20 +130,14 @@ module _ (h : List ℕ) (q : Addr → ℕ) (p : ℕ) (k : Kind) (s : ℕ) (w : L
         let key : z * max_slots + i ≡ q (at k (index_of s) serial) * max_slots + index_of s = rw (ze, ie) in
         ve ∙ ap₂ (given w) (pe ∙ ap (list_at h k) ce) key ∙ sym (cond-true (here h p k s && can_take q k (index_of s)) _ w both)
 
--- ---- a list is made anew: j is the kind's word of a cell's record, from and m the first slot and the length of the cell's run
+-- ---- a list is made anew: from and m are the first slot and the length of the cell's run
 
-module _ {t : List ℕ} {n : Header} (known : Known t n) (k : Kind) (c : ℕ) (l : c < n.cells) {j from m : ℕ} (je : j ≡ cell_slots_word k)
-    (fe : from ≡ first_by (configuration t) j c) (me : m ≡ cell_word (configuration t) c j) where
-  from_is : from ≡ first_slot (configuration t) k c
-  from_is = fe ∙ rw je (first-by-kind (configuration t) k c)
-
-  many_is : m ≡ cell_slots (configuration t) k c
-  many_is = me ∙ rw je
-
+module _ {t : List ℕ} {n : Header} (known : Known t n) (k : Kind) (c : ℕ) (l : c < n.cells) {from m : ℕ} (fe : from ≡ first_slot (configuration t) k c)
+    (me : m ≡ cell_slots (configuration t) k c) where
   -- the keys by the table's words
   keys-told : free_list t (base_of n k) (record_words k) m from ≡ free_keys (configuration t) (words_of t) k c
   unfolding free_list free_keys free_test key_of serial_at key_at rd
-  keys-told = rw (from_is, many_is)
+  keys-told = rw (fe, me)
       (sorted-same (free_test t (base_of n k) (record_words k)) (can_take (words_of t) k) (key_of t (base_of n k) (record_words k)) (key_at (words_of t) k) _ _
       (λ i a b. rw (spot known (at k i live), spot known (at k i serial))) (λ i a b f. rw (spot known (at k i serial))))
 
@@ -151,27 +145,23 @@ module _ {t : List ℕ} {n : Header} (known : Known t n) (k : Kind) (c : ℕ) (l
       → v ≡ listed_anew (configuration t) (words_of t) k c w
   unfolding relisted listed_anew
   list-told w pe ve =
-      ve ∙ cond-true (leb (from + m) max_slots) _ w (le-leb _ _ (run_small known k c l je fe me))
-      ∙ ap₂ (sets w) pe (ap₂ list_words keys-told many_is)
+      ve ∙ cond-true (leb (from + m) max_slots) _ w (le-leb _ _ (run_small known k c l fe me))
+      ∙ ap₂ (sets w) pe (ap₂ list_words keys-told me)
 
 -- ---- and so are the masks of a process i of a cell: first is where the processes of the cell begin, from and m are the cell's files
 
 module _ {t : List ℕ} {n : Header} (known : Known t n) (c i : ℕ) (il : i < n.processes) (cell : cell_of (configuration t) process i ≡ c) {first : ℕ}
-    (ie : first ≡ first_by (configuration t) (cell_slots_word process) c) where
-  first-is : first ≡ first_slot (configuration t) process c
-  first-is = ie ∙ first-by-kind (configuration t) process c
-
+    (ie : first ≡ first_slot (configuration t) process c) where
   process-in : i < slots (configuration t) process
   process-in = omega (arith, il, slots-is known process)
 
   pub first_below : first ≤ i
-  first_below = rw (first-is, ← cell) (in-run (configuration t) (shape known) process i process-in).1
+  first_below = rw (ie, ← cell) (in-run (configuration t) (shape known) process i process-in).1
 
   pub place-small : i - first < max_slots
   place-small = omega (arith, slot-few known process i process-in)
 
-  module _ (l : c < n.cells) {from m : ℕ} (fe : from ≡ first_by (configuration t) (cell_slots_word file) c)
-      (me : m ≡ cell_word (configuration t) c (cell_slots_word file)) where
+  module _ (l : c < n.cells) {from m : ℕ} (fe : from ≡ first_slot (configuration t) file c) (me : m ≡ cell_slots (configuration t) file c) where
     abbrev held : ℕ
     held = record_of n process i + held_at file 0
 
@@ -180,7 +170,7 @@ module _ {t : List ℕ} {n : Header} (known : Known t n) (c i : ℕ) (il : i < n
 
     masks-told : masks_at t held m from ≡ masks (configuration t) (words_of t) c i
     unfolding masks_at masks names_at names
-    masks-told = rw (from_is known file c l refl fe me, many_is known file c l refl fe me)
+    masks-told = rw (fe, me)
         (ext_get_or 0 _ _ (length-tab _ _ _ ∙ sym (length-tab _ _ _)) (λ f b.
         let long = length-tab (first_slot (configuration t) file c) (cell_slots (configuration t) file c) (λ g. mask (names_at t held g) entries 0) in
         let fl : f < cell_slots (configuration t) file c = omega (arith, long) in
@@ -194,8 +184,8 @@ module _ {t : List ℕ} {n : Header} (known : Known t n) (c i : ℕ) (il : i < n
     unfolding masked masked_anew mark_of
     mask-told w {place} pe ve =
         let none : first_slot (configuration t) file c - first_slot (configuration t) file c ≡ 0 = omega arith in
-        let there : place ≡ mark_of (configuration t) i (first_slot (configuration t) file c) = rw (pe, cell, none, first-is) refl in
-        ve ∙ cond-true (leb (from + m) max_slots) _ w (le-leb _ _ (run_small known file c l refl fe me)) ∙ ap₂ (sets w) there masks-told
+        let there : place ≡ mark_of (configuration t) i (first_slot (configuration t) file c) = rw (pe, cell, none, ie) refl in
+        ve ∙ cond-true (leb (from + m) max_slots) _ w (le-leb _ _ (run_small known file c l fe me)) ∙ ap₂ (sets w) there masks-told
 
 -- a process is released
 pub release-told : (h : List ℕ) (q : Addr → ℕ) (c i : ℕ) (w : List ℕ) {v₁ v₂ v₃ v₄ : List ℕ} → v₁ ≡ listed_anew h q process c w → v₂ ≡ listed_anew h q segment c v₁

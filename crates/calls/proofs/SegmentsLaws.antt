@@ -1,5 +1,6 @@
 -- The caller's entries: what a filled one holds has its kind's form, and names the object that is seen. Four words of a new record.
 use mathlib.Core.Path.{◌≡◌, refl}
+use Rattle.std.specs.Prelude.{Some}
 use mathlib.Core.Bool.{Bool, true, false, cond}
 use mathlib.Core.List.{List, ◌∷◌}
 use Prim.Native.Nat.{ℕ, ◌<◌}
@@ -22,7 +23,7 @@ pub after : (b : Bool) (n : ℕ) {x y : ℕ} → (b ≡ false → x ≡ y) → c
 after true n f = refl
 after false n f = f refl
 
-pub name-is : {t : List ℕ} {n : Header} → Known t n → (k : Kind) (s : ℕ) → is_seid (class k) (slots (configuration t) k) s ≡ true → named_of n k s ≡ name_of s
+pub name-is : {t : List ℕ} {n : Header} → Known t n → (k : Kind) (s : ℕ) → is_seid (class k) (slots (configuration t) k) s ≡ true → named_of n k s ≡ Some (name_of s)
 unfolding named_of
 name-is known k s form = rw (slots-is known k, form)
 
@@ -34,7 +35,7 @@ entry-formed {t} sound q d ql dl some = ((designator (configuration t) (words_of
 -- designator a of the caller, past the refusals of one past the last and of an empty one
 pub entry_named : {t : List ℕ} {n : Header} {c : Caller} → Sound t n c → (a : ℕ) → leb entries a ≡ false
     → eqb (words_of t (at process c.slot (held_at segment a))) 0 ≡ false
-    → named_of n segment (words_of t (at process c.slot (held_at segment a))) ≡ name_of (words_of t (at process c.slot (held_at segment a)))
+    → named_of n segment (words_of t (at process c.slot (held_at segment a))) ≡ Some (name_of (words_of t (at process c.slot (held_at segment a))))
 entry_named {t} {n} {c} sound a l some =
     name-is sound.known segment _ (entry-formed sound c.slot a sound.caller (leb-false entries a l) (eqb-false _ 0 some))
 

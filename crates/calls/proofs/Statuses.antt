@@ -1,13 +1,13 @@
 -- Status: what refuses it, its sixteen bytes, and which kind's rule a seid's class asks for.
 use mathlib.Core.Path.{◌≡◌, refl, sym, ap, ◌∙◌, subst}
 use mathlib.Core.Bool.{Bool, true, false, not}
-use mathlib.Core.List.{List, [], ◌∷◌}
-use Prim.Native.Nat.{ℕ, ◌/◌, ◌%◌, ◌<◌}
+use mathlib.Core.List.{List, [], ◌∷◌, ◌++◌}
+use Prim.Native.Nat.{ℕ, ◌<◌}
 use native.Mathlib.Omega.{arith}
 use lib.Dec.{eqb}
 use lib.ListN.{length}
-use lib.Seq.{sets}
 use borrow.Author.Tests.{lt-ltb, eqb-true}
+use Rattle.std.specs.Prelude.{Result, Ok, IsErr, IsErrAnd}
 use Rattle.rules.specs.Claim.{Holds}
 use Rattle.rules.specs.Level.{Level}
 use Rattle.rules.specs.WellFormed.{configured}
@@ -26,49 +26,51 @@ use Rattle.calls.specs.declared.Caller.{Caller}
 use Rattle.calls.specs.declared.objects.Seen.{Seen}
 use Rattle.calls.specs.World.{Sound, words_of}
 use Rattle.calls.specs.Seen.{named_of, kind_by, seen_of, find_tests}
-use Rattle.calls.specs.Refusing.{or_refuse, refusing}
-use Rattle.calls.specs.Left.{said, rule_at, answer_of, buffer_of}
+use Rattle.calls.specs.declared.error.Error.{Error}
+use Rattle.calls.specs.Refusing.{number_of}
+use Rattle.calls.specs.Left as call
+use Rattle.calls.specs.Left.{rule_at, answer_of, buffer_of}
 use Rattle.calls.specs.Told.{told_at}
 use Rattle.calls.proofs.Worlds.{shape}
 use Rattle.laws.proofs.Refusals.{Clear, clear}
-use Rattle.calls.proofs.Refusals.{refusing-first}
+use Rattle.calls.proofs.Refused.{stopped, later, answer-stopped}
 use Rattle.calls.proofs.Looks.{find-numbered, by_kind, formed-is, seen-formed, slot_is, slot-in}
-use Rattle.calls.proofs.Leaves.{answer-refused, answer-done, buffer-refused, buffer-done}
-use Rattle.calls.proofs.Queues.{sets-all}
+use Rattle.calls.proofs.Leaves.{refusal-some, answer-done, buffer-refused, buffer-done}
 
 -- what a status call leaves: the answer and the buffer of a rule
 abbrev pub Shown : Rule → List ℕ → Answer → List ℕ → Type 0
 Shown k b r z = (r ≡ answer_of k) × (z ≡ buffer_of b k)
 
--- sixteen bytes stored four at a time
-all_told : (h : List ℕ) (r : Addr → ℕ) (k : Kind) (i : ℕ) (b : List ℕ) → length b ≡ status_bytes
-    → told_at h (class k) (cell_of h k i) (r (at k i owner)) (r (at k i group)) (r (at k i (bits k))) b ≡ told h r k i
+all_told : (h : List ℕ) (r : Addr → ℕ) (k : Kind) (i : ℕ)
+    → told_at h (class k) (cell_of h k i) (r (at k i owner)) (r (at k i group)) (r (at k i (bits k))) ≡ told h r k i
 unfolding told told_at
-all_told h r k i b l = sets-all b (told h r k i) (sym l)
+all_told h r k i = refl
 
 pub class-small : (k : Kind) {x : ℕ} → x ≡ class k → x < 256
 class-small process e = omega arith
 class-small segment e = omega arith
 class-small file e = omega arith
 
--- what refuses a status of the object that is seen
-abbrev status_tests : Seen → Kind → ℕ → List Refusal
-status_tests x k bytes = (not (eqb bytes status_bytes) ⇒ XbSz) ∷ find_tests x k (not x.flows)
+-- what refuses a status of the object that is seen: the buffer's length, and then "find"
+abbrev length_test : ℕ → List Refusal
+length_test bytes = (not (eqb bytes status_bytes) ⇒ XbSz) ∷ []
 
--- a status past its last test: what the code has seen, and the number that refuses
+abbrev status_tests : Seen → Kind → ℕ → List Refusal
+status_tests x k bytes = length_test bytes ++ find_tests x k (not x.flows)
+
+-- a status that is judged: what the code has seen, and the number that refuses, or 0
 pub record StatusJudged (t : List ℕ) (n : Header) (c : Caller) (k : Kind) (s : ℕ) (b : List ℕ) (x : Seen) (e : ℕ) : Type 0 where
   pub sound : Sound t n c
   pub seen : x ≡ seen_of (configuration t) (words_of t) c.slot k (named_of n k s)
   pub number : e ≡ first_refusal (status_tests x k (length b))
 
-pub judged-by : {t : List ℕ} {n : Header} {c : Caller} → Sound t n c → (k : Kind) (s : ℕ) (b : List ℕ) {x : Seen} {e e2 : ℕ}
-    → x ≡ seen_of (configuration t) (words_of t) c.slot k (named_of n k s) → e ≡ or_refuse 0 (not (eqb (length b) status_bytes)) XbSz
-    → e2 ≡ refusing e (find_tests x k (not x.flows)) → StatusJudged t n c k s b x e2
-judged-by sound k s b {x} seen long find = record {
-  sound = sound;
-  seen = seen;
-  number = rw (find, long) (refusing-first (status_tests x k (length b)) (find-numbered x k (not x.flows) [] refl));
-}
+module _ {t : List ℕ} {n : Header} {c : Caller} (sound : Sound t n c) (k : Kind) (s : ℕ) (b : List ℕ) {x : Seen}
+    (seen : x ≡ seen_of (configuration t) (words_of t) c.slot k (named_of n k s)) where
+  pub wrong_length : (e : Error) → number_of e ≡ first_refusal (length_test (length b)) → StatusJudged t n c k s b x (number_of e)
+  wrong_length e f = record { sound = sound; seen = seen; number = stopped (length_test (length b)) (find_tests x k (not x.flows)) e f }
+
+  pub right_length : 0 ≡ first_refusal (length_test (length b)) → {e : ℕ} → e ≡ first_refusal (find_tests x k (not x.flows)) → StatusJudged t n c k s b x e
+  right_length z f = record { sound = sound; seen = seen; number = later (length_test (length b)) (find_tests x k (not x.flows)) refl z f }
 
 module _ {t : List ℕ} {n : Header} {c : Caller} {k : Kind} {s : ℕ} {b : List ℕ} {x : Seen} {e : ℕ} (p : StatusJudged t n c k s b x e) where
   by_form : (f : Bool) → formed (configuration t) k s ≡ f
@@ -80,10 +82,11 @@ module _ {t : List ℕ} {n : Header} {c : Caller} {k : Kind} {s : ℕ} {b : List
   found : e ≡ first_refusal (rule_at t (λ h q. status_of h q c.slot s b k)).refusals
   found = p.number ∙ by_form (formed (configuration t) k s) refl
 
-  pub status-refused : {r : Answer} → (e ≡ 0 → ⊥) → r ≡ said e 0 0 → Shown (rule_at t (λ h q. status_of h q c.slot s b k)) b r b
-  status-refused ne re = (
-    re ∙ answer-refused (rule_at t (λ h q. status_of h q c.slot s b k)) found ne,
-    buffer-refused (rule_at t (λ h q. status_of h q c.slot s b k)) found b ne,
+  pub status-refused : (y : Error) (r : Result (ℕ × ℕ) Error) → e ≡ number_of y → IsErr r → IsErrAnd r (λ w. w ≡ y)
+      → Shown (rule_at t (λ h q. status_of h q c.slot s b k)) b (call.told r) b
+  status-refused y r en is same = (
+    answer-stopped (rule_at t (λ h q. status_of h q c.slot s b k)) y r (sym en ∙ found) is same,
+    buffer-refused (rule_at t (λ h q. status_of h q c.slot s b k)) (sym en ∙ found) b (refusal-some y),
   )
 
   -- past the refusals the buffer has sixteen bytes, and the seid its form
@@ -91,8 +94,9 @@ module _ {t : List ℕ} {n : Header} {c : Caller} {k : Kind} {s : ℕ} {b : List
     unrefused : Clear (status_tests x k (length b))
     unrefused = clear (status_tests x k (length b)) (find-numbered x k (not x.flows) [] refl) (sym p.number ∙ none)
 
-    sixteen : length b ≡ status_bytes
-    sixteen = eqb-true (length b) status_bytes (passed (eqb (length b) status_bytes) unrefused.0)
+    pub told-fits : (h : List ℕ) (class cell owner group bits : ℕ) {z : List ℕ} → z ≡ told_at h class cell owner group bits → length b ≡ length z
+    unfolding told_at
+    told-fits h class cell owner group bits ze = eqb-true (length b) status_bytes (passed (eqb (length b) status_bytes) unrefused.0) ∙ rw ze
 
     form : formed (configuration t) k s ≡ true
     form = passed _ (rw (formed-is p.sound.known c.slot k s p.seen) at unrefused.1.0)
@@ -104,13 +108,13 @@ module _ {t : List ℕ} {n : Header} {c : Caller} {k : Kind} {s : ℕ} {b : List
     in_cells = rw cell-is (in-run (configuration t) (shape p.sound.known) k x.slot (slot-in p.sound.known c.slot k s p.seen form)).0
 
     -- the class, the owner, the group and the bits as the code has them
-    pub status-done : {r : Answer} {z : List ℕ} {l o g y : ℕ} → l ≡ class k → o ≡ words_of t (at k x.slot owner) → g ≡ words_of t (at k x.slot group)
-        → y ≡ words_of t (at k x.slot (bits k)) → z ≡ told_at (configuration t) l x.cell o g y b → r ≡ said 0 0 0
-        → Shown (rule_at t (λ h q. status_of h q c.slot s b k)) b r z
-    status-done {z = z} le oe ge ye ze re =
+    pub status-done : {z : List ℕ} {l o g y : ℕ} → l ≡ class k → o ≡ words_of t (at k x.slot owner) → g ≡ words_of t (at k x.slot group)
+        → y ≡ words_of t (at k x.slot (bits k)) → z ≡ told_at (configuration t) l x.cell o g y
+        → Shown (rule_at t (λ h q. status_of h q c.slot s b k)) b (call.told (Ok (0, 0))) z
+    status-done {z = z} le oe ge ye ze =
         let bytes : z ≡ told (configuration t) (words_of t) k (index_of s)
-        = ze ∙ rw (le, oe, ge, ye, cell-is, slot_is p.sound.known c.slot k s p.seen form) (all_told (configuration t) (words_of t) k (index_of s) b sixteen) in (
-          re ∙ answer-done (rule_at t (λ h q. status_of h q c.slot s b k)) found none,
+        = ze ∙ rw (le, oe, ge, ye, cell-is, slot_is p.sound.known c.slot k s p.seen form) (all_told (configuration t) (words_of t) k (index_of s)) in (
+          answer-done (rule_at t (λ h q. status_of h q c.slot s b k)) found none,
           bytes ∙ buffer-done (rule_at t (λ h q. status_of h q c.slot s b k)) found b none,
         )
 
@@ -136,11 +140,3 @@ level-small t cell {l} c m e =
     let a : l.security ≡ cell_word (configuration t) cell 0 = ap (λ (x : Level). x.security) e in
     let b : l.integrity ≡ cell_word (configuration t) cell 1 = ap (λ (x : Level). x.integrity) e in
     (omega (arith, s.security cell m), omega (arith, s.integrity cell m))
-
--- four stores
-pub told-four : (h : List ℕ) (class cell owner group bits : ℕ) (b : List ℕ) {b1 b2 b3 b4 : List ℕ} {l : Code.Level} → rule_level l ≡ level_of h cell
-    → b1 ≡ sets b 0 (class ∷ cell ∷ owner / 256 % 256 ∷ owner % 256 ∷ []) → b2 ≡ sets b1 4 (group / 256 % 256 ∷ group % 256 ∷ bits / 256 % 256 ∷ bits % 256 ∷ [])
-    → b3 ≡ sets b2 8 (l.security ∷ l.integrity ∷ l.compartments / 16777216 % 256 ∷ l.compartments / 65536 % 256 ∷ [])
-    → b4 ≡ sets b3 12 (l.compartments / 256 % 256 ∷ l.compartments % 256 ∷ 0 ∷ 0 ∷ []) → b4 ≡ told_at h class cell owner group bits b
-unfolding told_at
-told-four h class cell owner group bits b e e1 e2 e3 e4 = rw (← e, e4, e3, e2, e1)

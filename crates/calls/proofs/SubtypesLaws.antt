@@ -1,19 +1,23 @@
 -- Subtypes: their words in the configuration, and what a caller sees of one.
 use mathlib.Core.Path.{◌≡◌, refl, sym, ap, ◌∙◌}
-use mathlib.Core.Bool.{Bool, true, false}
+use mathlib.Core.Bool.{Bool, true, false, cond, ◌&&◌, ◌||◌, not}
+use Rattle.std.specs.Prelude.{Some, None}
 use mathlib.Core.List.{List, [], ◌∷◌}
 use Prim.Native.Nat.{ℕ, ◌+◌, ◌≤◌, ◌<◌}
 use native.Mathlib.Omega.{arith}
-use lib.Dec.{eqb}
-use borrow.Author.Tests.{eqb-true, eq-eqb}
+use lib.Dec.{eqb, ltb}
+use borrow.Author.Tests.{ne_eqb}
 use lib.ListN.{get_or, take, length-take, get_or-eq_default}
-use Rattle.rules.specs.Layout.{subtype_words, process, configuration, configuration_words, subtypes, subtype_at, subtype_word, subtype_cell, subtype_owner, subtype_group, subtype_bits, flow_matrix, Addr, at, owner, group}
-use Rattle.rules.specs.Seid.{index_of, serial_of, formed_subtype}
+use Rattle.rules.specs.Layout.{subtype_words, process, configuration, configuration_words, subtypes, subtype_at, subtype_word, subtype_cell, subtype_owner, subtype_group, subtype_bits, flow_matrix, cell_of, Addr, at, owner, group, entries}
+use Rattle.rules.specs.Seid.{index_of, serial_of, is_subtype, formed_subtype}
 use Rattle.rules.specs.Rights.{rights}
 use Rattle.rules.specs.Errors.{XbadStCap, XbadSubtypeMatch}
-use Rattle.rules.specs.Rule.{◌⇒◌}
+use Rattle.rules.specs.Rule.{◌⇒◌, first_refusal}
+use Rattle.rules.specs.Modes.{reads, writes}
+use Rattle.rules.specs.Subtype.{held_by, modes_by, no_subtype}
+use Rattle.rules.specs.Call07.{unfit, subtype_for}
 use Rattle.rules.specs.Call08.{subtype_rights}
-use Rattle.laws.proofs.Tests.{split}
+use Rattle.laws.proofs.Tests.{both_ways, or_left, or_right}
 use Rattle.laws.proofs.Places.{conf-word, conf-cells, conf-subtypes}
 use Rattle.levels.proofs.Cells.{matrix-any}
 use Rattle.layout.specs.declared.Header.{Header}
@@ -21,10 +25,11 @@ use Rattle.layout.specs.Header.{subtype_of}
 use Rattle.calls.specs.declared.Caller.{Caller}
 use Rattle.calls.specs.declared.objects.Seen.{Seen}
 use Rattle.calls.specs.World.{Known, Sound, words_of}
-use Rattle.calls.specs.Refusing.{refusing}
-use Rattle.calls.specs.Seen.{unseen, seen_subtype}
+use Rattle.calls.specs.declared.entries.Entry.{Entry}
+use Rattle.calls.specs.Seen.{unseen, seen_subtype, capability_of}
 use Rattle.calls.specs.Calls.{create_under, open_under}
 use Rattle.calls.proofs.Worlds.{shape, cells_is}
+use Rattle.calls.proofs.Searches.{some-found, none-found}
 
 module _ {t : List ℕ} {n : Header} (known : Known t n) where
   pub subtypes-is : n.subtypes ≡ subtypes (configuration t)
@@ -70,13 +75,56 @@ module _ {t : List ℕ} {n : Header} {c : Caller} (sound : Sound t n c) (s : ℕ
         rw (form, rights-is, flow-is, matrix, bits_is, group-is, owner-is, cell-is, index_is, mine-is, my-group-is, serial-is, sound.home)
         (rw (matrix-any (configuration t) (shape sound.known).few-cells _ _))
 
--- ---- the tests of a create and of an open, made only where a subtype is named or asked for
+-- ---- the descriptor that c names: past the entries, of another kind, or of a subtype
 
-no_more : (e m n : ℕ) → refusing e ((false ⇒ m) ∷ (false ⇒ n) ∷ []) ≡ e
-no_more e m n = split _ (eqb e 0) (λ z. rw (z, eqb-true e 0 z) refl) (λ z. rw (z, z))
+module _ (r : Addr → ℕ) (p c : ℕ) where
+  pub held-past : eqb c 0 || ltb entries c ≡ true → None ≡ capability_of r p c
+  unfolding capability_of no_subtype
+  held-past e = past (eqb c 0) (ltb entries c) _ _ e
+    where
+      past : {A : Type 0} (a b c : Bool) (x : A) → a || b ≡ true → None ≡ cond (a || (b || c)) None (Some x)
+      past true b c x e = refl
+      past false true c x e = refl
+      past false false c x e = both_ways false e refl
 
-pub create-plain : (h : List ℕ) (r : Addr → ℕ) (p e : ℕ) {c : ℕ} → c ≡ 0 → e ≡ refusing e (create_under h r p c)
-create-plain h r p e z = rw (eq-eqb _ 0 z) (sym (no_more e XbadStCap XbadSubtypeMatch))
+  -- within the entries it goes by what the descriptor holds
+  module _ (within : eqb c 0 || ltb entries c ≡ false) where
+    pub held-other : is_subtype (held_by r p c) ≡ false → None ≡ capability_of r p c
+    unfolding capability_of no_subtype
+    held-other e = rw (or_left (eqb c 0) (ltb entries c) within, or_right (eqb c 0) (ltb entries c) within, e) refl
 
-pub open_plain : (r : Addr → ℕ) (p e b c : ℕ) {s : ℕ} → s ≡ 0 → e ≡ refusing e (open_under r p s b c)
-open_plain r p e b c z = rw (eq-eqb _ 0 z) (sym (no_more e XbadStCap XbadSubtypeMatch))
+    pub held-there : is_subtype (held_by r p c) ≡ true → Some (record { held = held_by r p c; used = modes_by r p c }) ≡ capability_of r p c
+    unfolding capability_of no_subtype
+    held-there e = rw (or_left (eqb c 0) (ltb entries c) within, or_right (eqb c 0) (ltb entries c) within, e) refl
+
+-- ---- the tests of a create and of an open, where a subtype is named or asked for: x is what the descriptor holds
+
+module _ (h : List ℕ) (r : Addr → ℕ) (p c : ℕ) (named : c ≡ 0 → ⊥) where
+  pub create-none : None ≡ capability_of r p c → XbadStCap ≡ first_refusal (create_under h r p c)
+  unfolding capability_of
+  create-none none = rw (ne_eqb c 0 named, none-found (no_subtype r p c) _ none) refl
+
+  pub create-held : {x : Entry} {cell e : ℕ} → Some x ≡ capability_of r p c → cell ≡ subtype_cell h (index_of x.held)
+      → e ≡ first_refusal ((not (eqb cell (cell_of h process p)) || not (reads x.used && writes x.used) ⇒ XbadSubtypeMatch) ∷ [])
+      → e ≡ first_refusal (create_under h r p c)
+  unfolding capability_of unfit
+  create-held {x} held ce found =
+      let there = some-found (no_subtype r p c) _ x held in
+      rw (ne_eqb c 0 named, there.0) (found ∙ rw (ce, there.1))
+
+pub create-subtype : (r : Addr → ℕ) (p c : ℕ) → (c ≡ 0 → ⊥) → {x : Entry} → Some x ≡ capability_of r p c → x.held ≡ subtype_for r p c
+unfolding capability_of subtype_for
+create-subtype r p c named {x} held = rw (ne_eqb c 0 named) (ap (λ (y : Entry). y.held) (some-found (no_subtype r p c) _ x held).1)
+
+module _ (r : Addr → ℕ) (p s b c : ℕ) (asked : s ≡ 0 → ⊥) where
+  pub open-none : None ≡ capability_of r p c → XbadStCap ≡ first_refusal (open_under r p s b c)
+  unfolding capability_of
+  open-none none = rw (ne_eqb s 0 asked, none-found (no_subtype r p c) _ none) refl
+
+  pub open-held : {x : Entry} {e : ℕ} → Some x ≡ capability_of r p c
+      → e ≡ first_refusal ((not (eqb x.held s) || ((reads b && not (reads x.used)) || (writes b && not (writes x.used))) ⇒ XbadSubtypeMatch) ∷ [])
+      → e ≡ first_refusal (open_under r p s b c)
+  unfolding capability_of
+  open-held {x} held found =
+      let there = some-found (no_subtype r p c) _ x held in
+      rw (ne_eqb s 0 asked, there.0) (found ∙ rw there.1)

@@ -29,10 +29,16 @@ use Rattle.layout.proofs.Hall.{flow-told, matrix-told}
 use Rattle.calls.specs.declared.Record.{Record}
 use Rattle.calls.specs.declared.Answer.{Answer}
 use Rattle.calls.specs.World.{words_of, Judged}
-use Rattle.calls.specs.Left.{said}
+use Rattle.std.specs.Prelude.{Result, Ok, Err}
+use Rattle.calls.specs.declared.code.Code.{Code}
+use Rattle.calls.specs.declared.error.Error.{Error}
+use Rattle.calls.specs.declared.error.Error.TheVariants as error
+use Rattle.calls.specs.Codes.{Asked}
+use Rattle.calls.proofs.Leaves.{refusal-some}
+use Rattle.calls.specs.Left.{said, told}
 use Rattle.calls.specs.Did.{state_of, call_of, rule_answer, Did}
 use Rattle.calls.specs.Tray.{rule_record, answered_by, Ran, Ready, no_hall, begun, verdict_of}
-use Rattle.calls.proofs.Whole.{header-conf}
+use Rattle.calls.proofs.Whole.{header-conf, good-code}
 
 -- ---- the judging of a tray
 
@@ -99,16 +105,18 @@ due-none e n f = sym (cond-false (eqb e 0) n 0 (ne_eqb e 0 f))
 abbrev number : List ℕ → Record → ℕ
 number t r = outside_number (state_of t []) (rule_record r)
 
-module _ (t : List ℕ) (r : Record) {x : Bool} (xe : x ≡ bad_caller (configuration t) (words_of t) r.caller) where
-  pub outside-caller : {z : Answer} → x ≡ true → z ≡ said XbPrSd 0 0 → z ≡ said (number t r) 0 0
-  outside-caller e ze = ze ∙ ap (λ (n : ℕ). said n 0 0) (sym (rw (sym xe ∙ e) refl))
+module _ (t : List ℕ) (r : Record) where
+  abbrev asked : Result Code Error → Type 0
+  asked = Asked (bad_caller (configuration t) (words_of t) r.caller) r.code
 
-  module _ {y : Bool} (ye : y ≡ bad_code r.code) where
-    pub outside-code : {z : Answer} → x ≡ false → y ≡ true → z ≡ said XbdKcl 0 0 → z ≡ said (number t r) 0 0
-    outside-code e f ze = ze ∙ ap (λ (n : ℕ). said n 0 0) (sym (rw (sym xe ∙ e, sym ye ∙ f) refl))
+  -- the caller is bad, or the code
+  pub outside-unasked : (e : Error) → asked (Err e) → told (Err e) ≡ said (number t r) 0 0
+  outside-unasked e a = ap (λ (n : ℕ). said n 0 0) (a ∙ split _ (bad_caller (configuration t) (words_of t) r.caller)
+      (λ x. rw x refl)
+      (λ x. split _ (bad_code r.code) (λ y. rw (x, y) refl) (λ y. absurd (refusal-some e (rw (x, y) at a)))))
 
-    pub outside-part : {z : Answer} → x ≡ false → y ≡ false → z ≡ said XbSz 0 0 → z ≡ said (number t r) 0 0
-    outside-part e f ze = ze ∙ ap (λ (n : ℕ). said n 0 0) (sym (rw (sym xe ∙ e, sym ye ∙ f) refl))
+  pub outside-asked : (k : Code) → asked (Ok k) → told (Err error.XbSz) ≡ said (number t r) 0 0
+  outside-asked k a = let good = good-code k in ap (λ (n : ℕ). said n 0 0) (sym (rw (a.0, rw a.1 at good) refl))
 
 -- ---- one record
 

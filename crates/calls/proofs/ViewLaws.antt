@@ -1,14 +1,17 @@
 -- The ends of a view: a bad table, a bad caller, and the block's own list.
 use mathlib.Core.Path.{◌≡◌, refl, sym, ap, ◌∙◌}
-use mathlib.Core.Bool.{Bool, true, false}
+use mathlib.Core.Bool.{Bool, true, false, cond}
 use mathlib.Core.List.{List}
 use Prim.Native.Nat.{ℕ, ◌+◌, ◌-◌, ◌≤◌}
 use native.Mathlib.Omega.{arith}
+use lib.Dec.{eqb}
 use lib.ListN.{length, take, drop}
+use borrow.Author.Tests.{ne_eqb}
 use borrow.Rule.Slice.Shared.{by_byte}
 use Rattle.rules.specs.Words.{part}
 use Rattle.rules.specs.Claim.{test}
-use Rattle.rules.specs.Layout.{configuration}
+use Rattle.rules.specs.Layout.{block_bytes, configuration}
+use Rattle.rules.specs.Rule.{first_refusal}
 use Rattle.rules.specs.WellFormed.{well_formed}
 use Rattle.rules.specs.Call13.{unbuffered}
 use Rattle.rules.specs.Step.{bad_caller}
@@ -17,10 +20,11 @@ use Rattle.layout.specs.declared.Header.{Header}
 use Rattle.layout.specs.Header.{header_of}
 use Rattle.calls.specs.declared.Part.{Part}
 use Rattle.calls.specs.World.{Known, words_of}
-use Rattle.calls.specs.Refusing.{refusing}
+use Rattle.calls.specs.declared.error.Error.{Error}
+use Rattle.calls.specs.Refusing.{number_of}
 use Rattle.calls.specs.Did.{state_of}
-use Rattle.calls.specs.View.{part_of, view_part, part_at, ShownBy}
-use Rattle.calls.proofs.Refusals.{refusing-first}
+use Rattle.calls.specs.View.{part_of, view_part}
+use Rattle.calls.proofs.Leaves.{refusal-some}
 use Rattle.calls.proofs.Whole.{ready_by, known}
 use Rattle.calls.proofs.TrayLaws.{ready-judged}
 
@@ -31,7 +35,10 @@ known_by t s xe e ne =
 
 module _ (t s : List ℕ) (p a b : ℕ) where
   -- the part hangs on the number alone
-  by_number : (e : ℕ) → view_number (state_of t s) p a b ≡ e → view_part (state_of t s) p a b ≡ part_at e (block_place (configuration t) (words_of t) p a b)
+  abbrev part_at : ℕ → Part
+  part_at e = part_of e (cond (eqb e 0) (block_place (configuration t) (words_of t) p a b) 0) (cond (eqb e 0) block_bytes 0)
+
+  by_number : (e : ℕ) → view_number (state_of t s) p a b ≡ e → view_part (state_of t s) p a b ≡ part_at e
   unfolding view_from view_count
   by_number e f = rw f refl
 
@@ -51,13 +58,23 @@ module _ (t s : List ℕ) (p a b : ℕ) where
         let number : view_number (state_of t s) p a b ≡ 2 = rw (good, bad) refl in
         (re ∙ sym (by_number 2 number), rw re (omega arith))
 
-    pub view-done : {r : Part} → y ≡ false → ShownBy 0 t s p a b r → (r ≡ view_part (state_of t s) p a b) × (r.from + r.count ≤ length s)
-    unfolding view_number view_refusals
-    view-done f d =
-        let own = unbuffered (configuration t) (words_of t) p a b in
-        let right : bad_caller (configuration t) (words_of t) p ≡ false = sym ye ∙ f in
-        let number : view_number (state_of t s) p a b ≡ refusing 0 own = rw (good, right) (sym (refusing-first own refl)) in
-        (d.is ∙ sym (by_number (refusing 0 own) number), d.inside)
+    module _ (right : y ≡ false) where
+      number-is : {e : ℕ} → e ≡ first_refusal (unbuffered (configuration t) (words_of t) p a b) → view_number (state_of t s) p a b ≡ e
+      unfolding view_number view_refusals
+      number-is own =
+          let here : bad_caller (configuration t) (words_of t) p ≡ false = sym ye ∙ right in
+          rw (good, here) (sym own)
+
+      pub view-refused : (e : Error) → number_of e ≡ first_refusal (unbuffered (configuration t) (words_of t) p a b)
+          → {r : Part} → r ≡ part_of (number_of e) 0 0
+          → (r ≡ view_part (state_of t s) p a b) × (r.from + r.count ≤ length s)
+      view-refused e own re =
+          let none = ne_eqb (number_of e) 0 (refusal-some e) in
+          (re ∙ sym (by_number (number_of e) (number-is own) ∙ rw none refl), rw re (omega arith))
+
+      pub view-done : 0 ≡ first_refusal (unbuffered (configuration t) (words_of t) p a b) → {i : ℕ} → i ≡ block_place (configuration t) (words_of t) p a b
+          → part_of 0 i block_bytes ≡ view_part (state_of t s) p a b
+      view-done own place = rw place (sym (by_number 0 (number-is own)))
 
   -- the bytes from the first on, and their place
   pub bytes-shown : (q : ℕ × ℕ) {r : Part} → r ≡ view_part (state_of t s) p a b

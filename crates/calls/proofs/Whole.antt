@@ -1,5 +1,5 @@
 -- The whole call: what its tests have shown, and its four ends.
-use mathlib.Core.Path.{◌≡◌, sym, ap, ◌∙◌, subst}
+use mathlib.Core.Path.{◌≡◌, refl, sym, ap, ◌∙◌, subst}
 use mathlib.Core.Bool.{Bool, true, false, cond, ◌||◌, not}
 use mathlib.Core.List.{List}
 use Prim.Native.Nat.{ℕ, ◌+◌, ◌≤◌, ◌<◌}
@@ -11,7 +11,9 @@ use Rattle.rules.specs.Claim.{Holds, test}
 use Rattle.rules.specs.Layout.{max_slots, process, segment, file, guard, configuration, slots, store_bytes, at, live}
 use Rattle.rules.specs.WellFormed.{well_formed, lengths_exact}
 use Rattle.rules.specs.Step.{bad_caller, bad_code, last_code, step}
-use Rattle.laws.proofs.Tests.{or_left, or_right, cond-true}
+use Rattle.std.specs.Prelude.{Ok, Err}
+use Rattle.calls.proofs.Leaves.{refusal-some}
+use Rattle.laws.proofs.Tests.{split, or_left, or_right, cond-true}
 use Rattle.laws.proofs.Claims.{holds}
 use Rattle.laws.proofs.Places.{conf-word, conf-cells, conf-slots, conf-subtypes, conf-blocks}
 use Rattle.layout.specs.declared.Header.{Header}
@@ -22,7 +24,11 @@ use Rattle.calls.specs.declared.Answer.{Answer}
 use Rattle.calls.specs.declared.Caller.{Caller}
 use Rattle.calls.specs.World.{Known, Sound, words_of, Judged}
 use Rattle.calls.specs.Tray.{Ready}
-use Rattle.calls.specs.Left.{said}
+use Rattle.calls.specs.declared.code.Code.{Code}
+use Rattle.calls.specs.declared.code.Code.TheVariants.{Spawn, ReleaseProcess, BuildSegment, Rendezvous, ReleaseSegment, SetAccess, Create, Open, Close, Link, Unlink, SetBits, ReadBlock, WriteBlock, Post, Receive, Status, Access, Remap, PageAccess, Regrade}
+use Rattle.calls.specs.declared.error.Error.{Error}
+use Rattle.calls.specs.Codes.{code_number, Asked}
+use Rattle.calls.specs.Left.{said, told}
 use Rattle.calls.specs.Did.{state_of, call_of, Did, Through, rule_in}
 use Rattle.calls.proofs.Worlds.{slots-is}
 use Rattle.calls.proofs.Codes.{bad-table, bad-caller, bad-code, done}
@@ -108,10 +114,51 @@ pub no_table : (t s : List ℕ) (p code a b c : ℕ) (buffer : List ℕ) {x : Bo
     → Did (step (state_of t s) (call_of p code a b c buffer)) r t s buffer
 no_table t s p code a b c buffer xe f re = bad-table t s p code a b c buffer (sym xe ∙ f) re
 
--- a good code is 1 to 21
-pub good-code : (code : ℕ) {z : Bool} → z ≡ bad_code code → z ≡ false → (1 ≤ code) × (code ≤ last_code)
+-- a number that no call has is no code, and each call's is one
+pub uncalled : (n : ℕ) → (1 ≤ n → n ≤ last_code → ⊥) → bad_code n ≡ true
 unfolding bad_code
-good-code code e f =
-    let u = eqb-false code 0 (or_left (eqb code 0) (ltb last_code code) (sym e ∙ f)) in
-    let v = ltb-false last_code code (or_right (eqb code 0) (ltb last_code code) (sym e ∙ f)) in
-    (omega arith, v)
+uncalled n none = split _ (eqb n 0) (λ e. rw e refl) (λ e. rw e (split _ (ltb last_code n) (λ l. l)
+    (λ l. absurd (none (omega (arith, eqb-false n 0 e)) (ltb-false last_code n l)))))
+
+pub good-code : (k : Code) → bad_code (code_number k) ≡ false
+unfolding bad_code
+good-code = elim [
+  | Spawn ↦ refl
+  | ReleaseProcess ↦ refl
+  | BuildSegment ↦ refl
+  | Rendezvous ↦ refl
+  | ReleaseSegment ↦ refl
+  | SetAccess ↦ refl
+  | Create ↦ refl
+  | Open ↦ refl
+  | Close ↦ refl
+  | Link ↦ refl
+  | Unlink ↦ refl
+  | SetBits ↦ refl
+  | ReadBlock ↦ refl
+  | WriteBlock ↦ refl
+  | Post ↦ refl
+  | Receive ↦ refl
+  | Status ↦ refl
+  | Access ↦ refl
+  | Remap ↦ refl
+  | PageAccess ↦ refl
+  | Regrade ↦ refl
+]
+
+-- what refuses a call before its own list
+pub unasked : {t s : List ℕ} {n : Header} {m : List (List Bool)} {hall : List ℕ} → Judged t s n m hall → (p code a b c : ℕ) (buffer : List ℕ) (e : Error)
+    → Asked (bad_caller (configuration t) (words_of t) p) code (Err e) → Did (step (state_of t s) (call_of p code a b c buffer)) (told (Err e)) t s buffer
+unasked {t} j p code a b c buffer e asked = split _ (bad_caller (configuration t) (words_of t) p)
+    (λ x. no-caller j p refl code a b c buffer x (ap (λ (n : ℕ). said n 0 0) (rw x at asked)))
+    (λ x. split _ (bad_code code)
+    (λ y. no_code j p refl code a b c buffer x refl y (ap (λ (n : ℕ). said n 0 0) (rw (x, y) at asked)))
+    (λ y. absurd (refusal-some e (rw (x, y) at asked))))
+
+-- past that the call is its rule carried out
+pub done-asked : {t s : List ℕ} {n : Header} {m : List (List Bool)} {hall : List ℕ} → Judged t s n m hall → (p code a b c : ℕ) (buffer : List ℕ) (k : Code)
+    → Asked (bad_caller (configuration t) (words_of t) p) code (Ok k) → {r : Answer} {t' s' b' : List ℕ}
+    → Through t s buffer (rule_in t s p (code_number k) a b c buffer) r t' s' b' → Did (step (state_of t s) (call_of p code a b c buffer)) r t' s' b'
+done-asked j p code a b c buffer k asked th =
+    let good = good-code k in
+    all_done j p refl code a b c buffer asked.0 refl (rw asked.1 at good) (rw asked.1 at th)

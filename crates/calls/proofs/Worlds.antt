@@ -2,12 +2,12 @@
 use mathlib.Core.Path.{◌≡◌, refl, sym, ap, ◌∙◌}
 use mathlib.Core.Bool.{Bool, true, false, cond}
 use mathlib.Core.List.{List}
-use Prim.Native.Nat.{ℕ, ◌+◌, ◌*◌, ◌≤◌, ◌<◌}
+use Prim.Native.Nat.{ℕ, ◌+◌, ◌≤◌, ◌<◌}
 use native.Mathlib.Omega.{arith}
 use native.Mathlib.Decide.{ℕ_discrete}
 use lib.Dec.{leb, ltb}
 use lib.ListN.{get_or}
-use borrow.Author.Tests.{lt-ltb, le-ltb, leb-true, leb-false, eq-eqb, ne_eqb}
+use borrow.Author.Tests.{lt-ltb, le-ltb, leb-true, leb-false}
 use Rattle.rules.specs.Words.{sum_below}
 use Rattle.rules.specs.Layout.{max_slots, Kind, process, segment, file, cell_words, cells, slots, blocks, guard, cell_word, cell_slots_word, configuration, first_slot, cell_of, Addr, at, base, offset, rd, cell_at}
 use Rattle.laws.proofs.Below.{sum_more, sum-grows}
@@ -17,7 +17,7 @@ use Rattle.laws.proofs.Places.{conf-cells, conf-cell}
 use Rattle.laws.proofs.Shape.{Shape, shape_of}
 use Rattle.layout.specs.declared.Header.{Header}
 use Rattle.layout.specs.Header.{slots_of, base_of, record_of, place_of}
-use Rattle.calls.specs.World.{Known, words_of, first_by, cell_by, empty_test}
+use Rattle.calls.specs.World.{Known, words_of, first_by, cell_by}
 
 -- ---- places and readings
 
@@ -171,19 +171,6 @@ module _ {t : List ℕ} {k i n end cell c : ℕ} (kl : k < cell_words) (p : Pass
       further = split (Passed t k i n (end + x) (cell + r) (c + 1)) (leb (end + x) i)
           (λ h. beyond (leb-true _ _ h) (omega (arith, g ∙ cond-true {A = ℕ} _ 1 0 h)))
           (λ h. there (leb-false _ _ h) (omega (arith, g ∙ cond-false {A = ℕ} _ 1 0 h)))
-
-      pub cell-small : cell + r ≤ n
-      cell-small = omega (arith, further.within)
-
--- ---- what the searches ask, in the words that the code has read: y is the place, x and z the words there
-
-pub empty-told : (t : List ℕ) (from d : ℕ) {y x : ℕ} → y ≡ d → x ≡ get_or t (from + 2 * y) 0 → x ≡ 0 → empty_test t from d ≡ true
-unfolding empty_test
-empty-told t from d e p r = rw (← e, ← p) (eq-eqb _ 0 r)
-
-pub filled-told : (t : List ℕ) (from d : ℕ) {y x : ℕ} → y ≡ d → x ≡ get_or t (from + 2 * y) 0 → (x ≡ 0 → ⊥) → empty_test t from d ≡ false
-unfolding empty_test
-filled-told t from d e p r = rw (← e, ← p) (ne_eqb _ 0 r)
 
 -- the word of a cell's record that counts the slots of a kind
 pub word-of-kind : (h : List ℕ) → Shape h → (k : Kind) → (cell_slots_word k < cell_words) × (first_by h (cell_slots_word k) (cells h) ≤ max_slots)

@@ -1,12 +1,19 @@
 -- What a call's function leaves: the answer and the table that its rule gives.
-use Rattle.std.specs.Prelude.{◌≡◌, cond, List, ℕ, eqb}
+use Rattle.std.specs.Prelude.{◌≡◌, cond, List, ℕ, eqb, Result, Ok, Err}
 use Rattle.rules.specs.Layout.{Addr, configuration, rd}
 use Rattle.rules.specs.Errors.{XOK}
 use Rattle.rules.specs.Rule.{first_refusal, Rule, write, store}
 use Rattle.calls.specs.declared.Answer.{Answer}
+use Rattle.calls.specs.declared.error.Error.{Error}
+use Rattle.calls.specs.Refusing.{number_of}
 
 abbrev pub said : ℕ → ℕ → ℕ → Answer
 said e x y = record { error = e; first = x; second = y }
+
+-- the answer of a call that ended so
+abbrev pub told : Result (ℕ × ℕ) Error → Answer
+told (Ok w) = said XOK w.0 w.1
+told (Err e) = said (number_of e) 0 0
 
 -- the rule of a call on a table: f takes the configuration and what the table holds
 abbrev pub rule_at : List ℕ → (List ℕ → (Addr → ℕ) → Rule) → Rule

@@ -3,6 +3,7 @@ pub mod Handed
 pub mod World
 pub mod Left
 pub mod Refusing
+pub mod Codes
 pub mod Seen
 pub mod Entries
 pub mod Map

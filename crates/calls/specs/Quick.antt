@@ -1,5 +1,5 @@
 -- What the quick engine counts on: a working slice that is the table's, and what is known of a clash before the search.
-use Rattle.std.specs.Prelude.{◌≡◌, Bool, true, false, cond, ◌&&◌, ◌||◌, List, ℕ, ◌<◌, eqb, length}
+use Rattle.std.specs.Prelude.{◌≡◌, Bool, cond, ◌&&◌, ◌||◌, List, Option, Some, None, IfSome, ℕ, ◌<◌, eqb, length}
 use Rattle.rules.specs.Layout.{Kind, process, segment, file, cells, slots, configuration, cell_of}
 use Rattle.rules.specs.Seid.{index_of}
 use Rattle.rules.specs.Call08.{clashes}
@@ -10,9 +10,7 @@ use Rattle.rules.specs.Work.{work_in}
 use Rattle.rules.specs.Quick.{same_words, quick_answer, after_quick}
 use Rattle.follow.specs.Right.{Right}
 use Rattle.calls.specs.declared.Caller.{Caller}
-use Rattle.calls.specs.declared.files.Foretold.{Foretold}
 use Rattle.calls.specs.declared.Record.{Record}
-use Rattle.calls.specs.declared.room.Slot.{Slot}
 use Rattle.calls.specs.World.{words_of}
 use Rattle.calls.specs.Seen.{slot_found}
 use Rattle.calls.specs.Regrade.{FoundIn}
@@ -26,27 +24,20 @@ RightIn t w = Right (configuration t) (words_of t) w
 abbrev pub OwnIfLent : List ℕ → List ℕ → Type 0
 OwnIfLent t w = 0 < length w → RightIn t w
 
--- the kind of object that a creating call makes
-abbrev pub kind_made : ℕ → Kind
-kind_made code = cond (eqb code 1) process (cond (eqb code 3) segment file)
+-- the kind of object that a call makes, if it makes one
+abbrev pub kind_made : ℕ → Option Kind
+kind_made code = cond (eqb code 1) (Some process) (cond (eqb code 3) (Some segment) (cond (eqb code 7 || eqb code regrade_code) (Some file) None))
 
-abbrev pub makes : ℕ → Bool
-makes code = (eqb code 1 || eqb code 3) || (eqb code 7 || eqb code regrade_code)
-
--- q is the slot that is found for what a call makes: in the caller's cell, and for a copy in cell b
-pub record Made (t : List ℕ) (c : Caller) (code b : ℕ) (q : Slot) : Type 0 where
+-- q is the slot that is found for what a call makes, if any: in the caller's cell, and for a copy in cell b
+pub record Made (t : List ℕ) (c : Caller) (code b : ℕ) (q : Option ℕ) : Type 0 where
   pub spawned : code ≡ 1 → q ≡ slot_found (configuration t) (words_of t) process c.cell
   pub built : code ≡ 3 → q ≡ slot_found (configuration t) (words_of t) segment c.cell
   pub created : code ≡ 7 → q ≡ slot_found (configuration t) (words_of t) file c.cell
   pub copied : code ≡ regrade_code → FoundIn t b q
 
--- nothing is known
-abbrev pub untold : Foretold
-untold = record { known = false; clash = false }
-
 -- what is known of an open of s with modes b, in a cell, is so
-abbrev pub Tells : List ℕ → ℕ → ℕ → ℕ → Foretold → Type 0
-Tells t c s b x = x.known ≡ true → x.clash ≡ clashes (configuration t) (words_of t) c s b
+abbrev pub Tells : List ℕ → ℕ → ℕ → ℕ → Option Bool → Type 0
+Tells t c s b x = IfSome x (λ clash. clash ≡ clashes (configuration t) (words_of t) c s b)
 
 -- slot i of a kind is one of the caller's cell
 pub record Near (t : List ℕ) (c : Caller) (k : Kind) (i : ℕ) : Type 0 where

@@ -1,16 +1,11 @@
 -- What a regrade leaves, and what its copy counts on.
-use Rattle.std.specs.Prelude.{◌≡◌, List, ℕ, ◌+◌, ◌*◌, ◌≤◌, ◌<◌, length}
+use Rattle.std.specs.Prelude.{◌≡◌, List, Option, ℕ, ◌+◌, ◌*◌, ◌≤◌, ◌<◌, length}
 use Rattle.rules.specs.Layout.{max_slots, max_blocks, block_bytes, file, cells, configuration}
 use Rattle.rules.specs.Call21.{regrade}
 use Rattle.calls.specs.declared.Answer.{Answer}
-use Rattle.calls.specs.declared.room.Slot.{Slot}
 use Rattle.calls.specs.World.{words_of}
 use Rattle.calls.specs.Seen.{slot_found}
 use Rattle.calls.specs.Left.{rule_at, store_of, buffer_of, Left}
-
--- none of n bytes from a place on is one of the n bytes that are stored from another on
-abbrev pub Apart : ℕ → ℕ → ℕ → Type 0
-Apart from to n = (i : ℕ) → i < n → to ≤ from + i → from + i < to + n → ⊥
 
 -- the first blocks of file f, as many as its size, can be copied to file g: the stretches are within the store, and the files are two
 pub record Copyable (st : List ℕ) (blocks f g size : ℕ) : Type 0 where
@@ -21,8 +16,8 @@ pub record Copyable (st : List ℕ) (blocks f g size : ℕ) : Type 0 where
   pub few-files : (f < max_slots) × (g < max_slots)
   pub other : f ≡ g → ⊥
 
--- the slot that the search finds in cell b, where the table has such a cell
-abbrev pub FoundIn : List ℕ → ℕ → Slot → Type 0
+-- the slot that the search finds in cell b, if any, where the table has such a cell
+abbrev pub FoundIn : List ℕ → ℕ → Option ℕ → Type 0
 FoundIn t b g = b < cells (configuration t) → g ≡ slot_found (configuration t) (words_of t) file b
 
 -- the answer, the table, the store and the buffer that the rule gives

@@ -1,12 +1,10 @@
--- The sixteen bytes of a status, of what the code has found, stored four at a time.
-use Rattle.std.specs.Prelude.{List, [], ◌∷◌, ℕ, ◌/◌, ◌%◌}
-use Rattle.std.proofs.lemmas.List.Edits.{sets}
+-- The sixteen bytes of a status, of what the code has found.
+use Rattle.std.specs.Prelude.{List, [], ◌∷◌, ◌++◌, ℕ}
+use Rattle.rules.specs.Words.{bytes2, bytes4}
 use Rattle.rules.specs.Level.{Level}
 use Rattle.rules.specs.Layout.{level_of}
 
-unfoldable pub told_at : List ℕ → ℕ → ℕ → ℕ → ℕ → ℕ → List ℕ → List ℕ
-told_at h class cell owner group bits b =
+unfoldable pub told_at : List ℕ → ℕ → ℕ → ℕ → ℕ → ℕ → List ℕ
+told_at h class cell owner group bits =
     let l : Level = level_of h cell in
-    let c : ℕ = l.compartments in
-    sets (sets (sets (sets b 0 (class ∷ cell ∷ owner / 256 % 256 ∷ owner % 256 ∷ [])) 4 (group / 256 % 256 ∷ group % 256 ∷ bits / 256 % 256 ∷ bits % 256 ∷ []))
-    8 (l.security ∷ l.integrity ∷ c / 16777216 % 256 ∷ c / 65536 % 256 ∷ [])) 12 (c / 256 % 256 ∷ c % 256 ∷ 0 ∷ 0 ∷ [])
+    (class ∷ cell ∷ []) ++ (bytes2 owner ++ (bytes2 group ++ (bytes2 bits ++ ((l.security ∷ l.integrity ∷ []) ++ (bytes4 l.compartments ++ (0 ∷ 0 ∷ []))))))

@@ -49,12 +49,9 @@ cell_by h k i = lowest (λ c. ltb i (first_by h k c + cell_word h c k)) (cells h
 unfoldable pub free_at : List ℕ → ℕ → ℕ → ℕ → ℕ → ℕ
 free_at t base size n i = least (free_test t base size) (serial_at t base size) n i
 
--- the lowest empty one of the entries from a place on
+-- entry d of those from a place on is empty
 unfoldable pub empty_test : List ℕ → ℕ → ℕ → Bool
 empty_test t from d = eqb (get_or t (from + 2 * d) 0) 0
-
-unfoldable pub empty_at : List ℕ → ℕ → ℕ
-empty_at t from = lowest (empty_test t from) entries 0
 
 -- ---- the search for clashes in a cell
 

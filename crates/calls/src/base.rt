@@ -1,45 +1,49 @@
 // Words of the table, read and written by kind, slot and place; and the two ways that a call ends.
 ghost use Rattle.std.specs.Prelude.{◌≡◌, ◌-◌, ◌<◌, ◌^◌, set};
+ghost use Rattle.rules.specs.Rule.{first_refusal};
 ghost use Rattle.rules.specs.Layout.{at};
 ghost use Rattle.layout.specs.Kinds.{kind_of};
 ghost use Rattle.layout.specs.Header.{place_of};
 ghost use Rattle.calls.specs.World.{Known, words_of};
-ghost use Rattle.calls.specs.Left.{said};
-ghost use Rattle.calls.specs.Refusing.{or_refuse};
+ghost use Rattle.calls.specs.Left.{told};
+ghost use Rattle.calls.specs.Refusing.{found, listed};
 
 use crate::Answer;
+use crate::error::Error;
 use layout::{Header, Kind};
+use rules::XOK;
 use words::{put, word};
 
-// "A refusal gives two zeros."
-pub(crate) fn refused(error: u32) -> Answer
-    ensures { result ≡ said error 0 0 }
+// How a call ends: with its two words, or refused.
+pub(crate) type Ended = Result<(u32, u32), Error>;
+
+// "Refusals in order": the first whose test holds.
+pub(crate) fn refuse<const N: usize>(refusals: [(bool, Error); N]) -> Result<(), Error>
+    ensures { found result ≡ first_refusal (listed refusals.entry) }
 {
-    Answer {
-        error,
-        first: 0,
-        second: 0,
+    for (test, error) in refusals {
+        if test {
+            return Err(error);
+        }
     }
+    Ok(())
 }
 
-pub(crate) fn answered(first: u32, second: u32) -> Answer
-    ensures { result ≡ said 0 first second }
+// "An answer is the number and two words"; "a refusal gives two zeros."
+pub(crate) fn told(ended: Ended) -> Answer
+    ensures { result ≡ told ended }
 {
-    Answer {
-        error: 0,
-        first,
-        second,
-    }
-}
-
-// "Refusals in order": the number found so far, or, where none was, this one if its test holds.
-pub(crate) fn or_refuse(e: u32, test: bool, number: u32) -> u32
-    ensures { result ≡ or_refuse e test number }
-{
-    if e == 0 {
-        if test { number } else { 0 }
-    } else {
-        e
+    match ended {
+        Ok((first, second)) => Answer {
+            error: XOK,
+            first,
+            second,
+        },
+        Err(error) => Answer {
+            error: error.number(),
+            first: 0,
+            second: 0,
+        },
     }
 }
 

@@ -14,7 +14,7 @@ use crate::pages::clear_pages;
 use crate::room::cell_of;
 use layout::{Header, Kind, index_of, is_seid};
 use rules::{BITS, LINKS, LIVE, OWNER};
-use words::{one_less, put, word};
+use words::{put, word};
 
 // The two words of an entry: what it holds, and its use.
 #[derive(Clone, Copy)]
@@ -45,15 +45,13 @@ pub(crate) fn entry_from(t: &[u32], first: usize, d: usize) -> Entry
     Entry { held, used }
 }
 
-// n zeros from a place on.
+// n zeros from a place on; past the table's end nothing is stored, so it is no slice's fill.
 pub(crate) fn clear(t: &mut [u32], from: usize, n: usize)
     requires { from + n < 2 ^ 50 }
     ensures { t.new ≡ sets t.old from (replicate n 0) }
 {
-    let mut i = 0;
-    while i < n {
+    for i in 0..n {
         put(t, from + i, 0);
-        i += 1;
     }
 }
 
@@ -74,7 +72,7 @@ fn less(t: &mut [u32], kind: Kind, from: usize, n: u32, kept: bool)
     if (n == 1) & !kept {
         free_record(t, from, kind.record_words());
     } else {
-        put(t, from + kind.holders_word(), one_less(n));
+        put(t, from + kind.holders_word(), n.saturating_sub(1));
     }
 }
 
@@ -83,8 +81,7 @@ fn give_up(t: &mut [u32], kind: Kind, entry: usize, object: usize, n: u32, own: 
     requires { (entry < 2 ^ 45) × (object < 2 ^ 44) }
     ensures { t.new ≡ given_up_at t.old (kind_of kind) entry object n own kept }
 {
-    put(t, entry, 0);
-    put(t, entry + 1, 0);
+    enter(t, entry, 0, 0);
     if own {
         less(t, kind, object, n, kept);
     }
@@ -174,8 +171,7 @@ pub(crate) fn take_up(
 {
     let count = object + kind.holders_word();
     let n = word(t, count) + 1;
-    put(t, entry, s);
-    put(t, entry + 1, u);
+    enter(t, entry, s, u);
     if own {
         put(t, count, n);
     }

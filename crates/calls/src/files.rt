@@ -1,8 +1,8 @@
 // Files: create, open, link, unlink; set bits; and giving up an entry, which closes a file or releases a segment.
-ghost use Rattle.std.specs.Prelude.{◌≡◌, true, ◌&&◌, List, ℕ, ◌<◌, eqb};
+ghost use Rattle.std.specs.Prelude.{◌≡◌, true, ◌&&◌, List, ℕ};
 ghost use Rattle.rules.specs.Layout.{file, configuration, flow_matrix};
 ghost use Rattle.rules.specs.Seid.{or_self};
-ghost use Rattle.rules.specs.Rule.{write};
+ghost use Rattle.rules.specs.Rule.{first_refusal, write};
 ghost use Rattle.rules.specs.Call07.{create};
 ghost use Rattle.rules.specs.Call08.{clashes, open_file, open_subtype, open_seid};
 ghost use Rattle.rules.specs.Call10.{link};
@@ -11,85 +11,78 @@ ghost use Rattle.rules.specs.Call12.{is_shared, set_bits_of, set_bits};
 ghost use Rattle.layout.specs.Kinds.{kind_of};
 ghost use Rattle.calls.specs.World.{Known, Sound, words_of, holdable, Clashable};
 ghost use Rattle.calls.specs.Handed.{Handed};
-ghost use Rattle.calls.specs.Left.{Left};
-ghost use Rattle.calls.specs.Refusing.{refusing};
-ghost use Rattle.calls.specs.Quick.{untold, Tells};
+ghost use Rattle.calls.specs.Left.{Left, told};
+ghost use Rattle.calls.specs.Refusing.{found, number_of};
+ghost use Rattle.calls.specs.Quick.{Tells};
 ghost use Rattle.calls.specs.Seen.{slot_found};
 ghost use Rattle.calls.specs.Calls.{give_up_rule, open_tests};
 
-use crate::base::{answered, or_refuse, read, refused, write};
+use crate::Caller;
+use crate::base::{Ended, read, refuse, write};
 use crate::entries::{enter, entry_from, entry_of, free_record, give_up_entry, make, take_up};
+use crate::error::Error;
 use crate::objects::{Seen, find, kind_by, look, or_self, own};
-use crate::room::{Slot, first_slot, free_entry, in_cell};
-use crate::subtypes::{look_subtype, may_create_under, may_open_under, subtype_for};
-use crate::{Answer, Caller};
+use crate::room::{free_entry, run_of};
+use crate::subtypes::{look_subtype, may_create_under, may_open_under};
 use ids::seid;
 use layout::{HALL_BYTES, Header, Kind, class_of};
 use modes::{clash, reads, valid, writes};
 use rights::lacks;
 use rules::{
-    CELL_PROCESSES, ENTRIES, FILE_CLASS, FILE_WORDS, GROUP, LINKS, MAX_BITS, MAX_CELLS, MAX_LINKS,
-    MAX_SLOTS, OPENS, OWNER, SERIAL, SHARABLE, SUBTYPE, SUBTYPE_CLASS, XB_PARAM, XBAD_LINK,
-    XBAD_MODES, XBUSY, XDAP_VIOL, XNO_SPACE, XOD_SPACE, XOK, XSH_SG,
+    ENTRIES, FILE_CLASS, FILE_WORDS, GROUP, LINKS, MAX_BITS, MAX_CELLS, MAX_LINKS, MAX_SLOTS,
+    OPENS, OWNER, SERIAL, SHARABLE, SUBTYPE, SUBTYPE_CLASS,
 };
 use words::{one_less, put, wide};
 
-// 5. Release segment, and 9. Close: the caller's entry a is given up. Past the last entry, and empty, have a number each.
+// 5. Release segment, and 9. Close: the caller's entry a is given up. Past the last entry, and empty, have an error each.
 pub(crate) fn give_up(
     t: &mut [u32],
     n: Header,
     c: Caller,
     kind: Kind,
     a: u32,
-    beyond: u32,
-    empty: u32,
-) -> Answer
-    requires { Sound t.old n c × (holdable (kind_of kind) ≡ true) × (0 < beyond) × (0 < empty) }
-    ensures { (buffer : List ℕ) → Left t.old (λ h q. give_up_rule h q (kind_of kind) c.slot a beyond empty buffer) result t.new }
+    beyond: Error,
+    empty: Error,
+) -> Ended
+    requires { Sound t.old n c × (holdable (kind_of kind) ≡ true) }
+    ensures { (buffer : List ℕ) → Left t.old (λ h q. give_up_rule h q (kind_of kind) c.slot a (number_of beyond) (number_of empty) buffer) (told result) t.new }
 {
     let d = entry_of(t, n, kind, c.slot, a);
-    let e = or_refuse(XOK, ENTRIES <= wide(a), beyond);
-    let e = or_refuse(e, d.held == 0, empty);
-    if e != XOK {
-        return refused(e);
-    }
+    refuse([(ENTRIES <= wide(a), beyond), (d.held == 0, empty)])?;
     give_up_entry(t, n, c, kind, c.slot, a, d.held);
-    answered(0, 0)
+    Ok((0, 0))
 }
 
-// 7. Create, in the slot that was found; `by` names the descriptor of the new file's subtype.
+// 7. Create, in the slot that was found, if any; `by` names the descriptor of the new file's subtype.
 pub(crate) fn create(
     t: &mut [u32],
     n: Header,
     c: Caller,
-    f: Slot,
+    slot: Option<u32>,
     a: u32,
     b: u32,
     by: u32,
-) -> Answer
-    requires { Sound t.old n c × (f ≡ slot_found (configuration t.old) (words_of t.old) file c.cell) }
-    ensures { (buffer : List ℕ) → Left t.old (λ h q. create h q c.slot a b by buffer) result t.new }
+) -> Ended
+    requires { Sound t.old n c × (slot ≡ slot_found (configuration t.old) (words_of t.old) file c.cell) }
+    ensures { (buffer : List ℕ) → Left t.old (λ h q. create h q c.slot a b by buffer) (told result) t.new }
 {
     let me = c.slot;
-    let d = free_entry(t, n, Kind::File, me);
-    let e = or_refuse(XOK, MAX_BITS < a, XB_PARAM);
-    let e = or_refuse(e, !valid(b), XBAD_MODES);
-    let e = may_create_under(e, t, n, c, by);
-    let e = or_refuse(e, ENTRIES <= wide(d), XOD_SPACE);
-    let e = or_refuse(e, f.none, XNO_SPACE);
-    if e != XOK {
-        return refused(e);
-    }
-    let serial = read(t, n, Kind::File, f.index, SERIAL) + 1;
+    refuse([
+        (MAX_BITS < a, Error::XbParam),
+        (!valid(b), Error::XbadModes),
+    ])?;
+    let under = may_create_under(t, n, c, by)?;
+    let d = free_entry(t, n, Kind::File, me).ok_or(Error::XodSpace)?;
+    let i = slot.ok_or(Error::XnoSpace)?;
+    let serial = read(t, n, Kind::File, i, SERIAL) + 1;
     let owner = read(t, n, Kind::Process, me, OWNER);
     let group = read(t, n, Kind::Process, me, GROUP);
-    let s = seid(FILE_CLASS, f.index, serial);
-    let under = subtype_for(t, n, me, by);
-    let at = n.record_at(Kind::File, f.index);
+    let s = seid(FILE_CLASS, i, serial);
+    let at = n.record_at(Kind::File, i);
     make(t, at, serial, owner, group, a, 0, 0, 1);
     put(t, at + SUBTYPE, under);
     enter(t, n.entry_at(Kind::File, me, d), s, b);
-    answered(s, d)
+    Ok((s, d))
 }
 
 // "The own cell's live descriptors are searched process by process and entry by entry up to the first clash." At most so many of them hold s: where
@@ -102,14 +95,11 @@ fn any_clash(t: &[u32], n: Header, c: Caller, s: u32, b: u32, most: u32) -> bool
     if left == 0 {
         return false;
     }
-    let from = first_slot(t, n, c.cell, CELL_PROCESSES);
-    let count = in_cell(t, n, c.cell, CELL_PROCESSES);
+    let run = run_of(t, n, Kind::Process, c.cell);
     let mut found = false;
-    let mut p: u32 = 0;
-    'search: while p < count {
-        let first = n.entry_at(Kind::File, from + p, 0);
-        let mut d = 0;
-        while d < ENTRIES {
+    'search: for p in 0..run.count {
+        let first = n.entry_at(Kind::File, run.from + p, 0);
+        for d in 0..ENTRIES {
             let x = entry_from(t, first, d);
             if x.held == s {
                 if clash(x.used, b) {
@@ -121,71 +111,40 @@ fn any_clash(t: &[u32], n: Header, c: Caller, s: u32, b: u32, most: u32) -> bool
                     break 'search;
                 }
             }
-            d += 1;
         }
-        p += 1;
     }
     found
 }
 
-// Whether an open that nothing has refused so far clashes. "Readers in higher cells neither block nor are blocked": the search is made in the own cell alone.
-fn busy(t: &[u32], n: Header, c: Caller, e: u32, own: bool, s: u32, b: u32, most: u32) -> bool
-    requires { Sound t.now n c × (e ≡ 0 → own ≡ true → Clashable t.now n c.cell s b most) }
-    ensures { result ≡ eqb e 0 && (own && clashes (configuration t.now) (words_of t.now) c.cell s b) }
-{
-    if e == XOK {
-        if own {
-            return any_clash(t, n, c, s, b, most);
-        }
-    }
-    false
-}
-
-// What is known of an open's clash before it is searched for: the quick engine's masks tell.
-#[derive(Clone, Copy)]
-pub(crate) struct Foretold {
-    pub known: bool,
-    pub clash: bool,
-}
-
-pub(crate) fn untold() -> Foretold
-    ensures { result ≡ untold }
-{
-    Foretold {
-        known: false,
-        clash: false,
-    }
-}
-
-// The same as `busy`, where it may be known already.
+// Whether an open of what is the caller's own or not clashes: where that is not known already, it is searched for. "Readers in higher cells neither block
+// nor are blocked": the search is made in the own cell alone.
 fn is_busy(
     t: &[u32],
     n: Header,
     c: Caller,
-    e: u32,
     own: bool,
     s: u32,
     b: u32,
     most: u32,
-    x: Foretold,
+    foretold: Option<bool>,
 ) -> bool
-    requires { Sound t.now n c × (e ≡ 0 → own ≡ true → Clashable t.now n c.cell s b most) × Tells t.now c.cell s b x }
-    ensures { result ≡ eqb e 0 && (own && clashes (configuration t.now) (words_of t.now) c.cell s b) }
+    requires { Sound t.now n c × (own ≡ true → Clashable t.now n c.cell s b most) × Tells t.now c.cell s b foretold }
+    ensures { result ≡ own && clashes (configuration t.now) (words_of t.now) c.cell s b }
 {
-    if x.known {
-        return (e == XOK) & (own & x.clash);
+    own && match foretold {
+        Some(clash) => clash,
+        None => any_clash(t, n, c, s, b, most),
     }
-    busy(t, n, c, e, own, s, b, most)
 }
 
 // What refuses before the search: the modes, "find" (a read needs flow to the caller, any write the own cell), and the owner bits.
-fn may_open(f: Seen, b: u32) -> u32
-    ensures { result ≡ refusing 0 (open_tests f b) }
+fn may_open(f: Seen, b: u32) -> Result<(), Error>
+    ensures { found result ≡ first_refusal (open_tests f b) }
 {
     let forbidden = !f.flows | (writes(b) & !f.own);
-    let e = or_refuse(XOK, !valid(b), XBAD_MODES);
-    let e = find(e, f, Kind::File, forbidden);
-    or_refuse(e, lacks(f.rights, reads(b), writes(b)), XDAP_VIOL)
+    refuse([(!valid(b), Error::XbadModes)])?;
+    find(f, Kind::File, forbidden)?;
+    refuse([(lacks(f.rights, reads(b), writes(b)), Error::XdapViol)])
 }
 
 // 8. Open, of a file; `by` names the descriptor of its subtype. The file's opens say how many descriptors of its cell hold it.
@@ -198,27 +157,23 @@ fn open_file(
     s: u32,
     b: u32,
     by: u32,
-    x: Foretold,
-) -> Answer
-    requires { Sound t.old n c × Handed (configuration t.old) m.now hall.now × Tells t.old c.cell s b x }
-    ensures { (buffer : List ℕ) → Left t.old (λ h q. open_file h q c.slot s b by buffer) result t.new }
+    foretold: Option<bool>,
+) -> Ended
+    requires { Sound t.old n c × Handed (configuration t.old) m.now hall.now × Tells t.old c.cell s b foretold }
+    ensures { (buffer : List ℕ) → Left t.old (λ h q. open_file h q c.slot s b by buffer) (told result) t.new }
 {
     let f = look(t, n, m, hall, c, Kind::File, s);
-    let d = free_entry(t, n, Kind::File, c.slot);
     let opens = read(t, n, Kind::File, f.slot, OPENS);
     let under = read(t, n, Kind::File, f.slot, SUBTYPE);
-    let e = may_open(f, b);
-    let e = may_open_under(e, t, n, c.slot, under, b, by);
-    let clashing = is_busy(t, n, c, e, f.own, s, b, opens, x);
-    let e = or_refuse(e, clashing, XBUSY);
-    let e = or_refuse(e, ENTRIES <= wide(d), XOD_SPACE);
-    if e != XOK {
-        return refused(e);
-    }
+    may_open(f, b)?;
+    may_open_under(t, n, c.slot, under, b, by)?;
+    let clashing = is_busy(t, n, c, f.own, s, b, opens, foretold);
+    refuse([(clashing, Error::Xbusy)])?;
+    let d = free_entry(t, n, Kind::File, c.slot).ok_or(Error::XodSpace)?;
     let entry = n.entry_at(Kind::File, c.slot, d);
     let object = n.record_at(Kind::File, f.slot);
     take_up(t, Kind::File, entry, s, b, object, f.own);
-    answered(d, 0)
+    Ok((d, 0))
 }
 
 // No more descriptors hold a subtype than there are: it has no count.
@@ -232,21 +187,17 @@ fn open_subtype(
     c: Caller,
     s: u32,
     b: u32,
-) -> Answer
+) -> Ended
     requires { Sound t.old n c × (m.now ≡ flow_matrix (configuration t.old)) }
-    ensures { (buffer : List ℕ) → Left t.old (λ h q. open_subtype h q c.slot s b buffer) result t.new }
+    ensures { (buffer : List ℕ) → Left t.old (λ h q. open_subtype h q c.slot s b buffer) (told result) t.new }
 {
     let f = look_subtype(t, n, m, c, s);
-    let d = free_entry(t, n, Kind::File, c.slot);
-    let e = may_open(f, b);
-    let clashing = busy(t, n, c, e, f.own, s, b, MOST_DESCRIPTORS);
-    let e = or_refuse(e, clashing, XBUSY);
-    let e = or_refuse(e, ENTRIES <= wide(d), XOD_SPACE);
-    if e != XOK {
-        return refused(e);
-    }
+    may_open(f, b)?;
+    let clashing = is_busy(t, n, c, f.own, s, b, MOST_DESCRIPTORS, None);
+    refuse([(clashing, Error::Xbusy)])?;
+    let d = free_entry(t, n, Kind::File, c.slot).ok_or(Error::XodSpace)?;
     enter(t, n.entry_at(Kind::File, c.slot, d), s, b);
-    answered(d, 0)
+    Ok((d, 0))
 }
 
 // 8. Open, by the seid's class.
@@ -259,16 +210,16 @@ pub(crate) fn open(
     a: u32,
     b: u32,
     by: u32,
-    x: Foretold,
-) -> Answer
-    requires { Sound t.old n c × Handed (configuration t.old) m hall.now × Tells t.old c.cell (or_self (words_of t.old) c.slot a) b x }
-    ensures { (buffer : List ℕ) → Left t.old (λ h q. open_seid h q c.slot a b by buffer) result t.new }
+    foretold: Option<bool>,
+) -> Ended
+    requires { Sound t.old n c × Handed (configuration t.old) m hall.now × Tells t.old c.cell (or_self (words_of t.old) c.slot a) b foretold }
+    ensures { (buffer : List ℕ) → Left t.old (λ h q. open_seid h q c.slot a b by buffer) (told result) t.new }
 {
     let s = or_self(t, n, c, a);
     if class_of(s) == SUBTYPE_CLASS {
         return open_subtype(t, n, &m, c, s, b);
     }
-    open_file(t, n, &m, hall, c, s, b, by, x)
+    open_file(t, n, &m, hall, c, s, b, by, foretold)
 }
 
 // 10. Link.
@@ -279,20 +230,17 @@ pub(crate) fn link(
     hall: &[u8; HALL_BYTES],
     c: Caller,
     a: u32,
-) -> Answer
+) -> Ended
     requires { Sound t.old n c × Handed (configuration t.old) m hall.now }
-    ensures { (buffer : List ℕ) → Left t.old (λ h q. link h q c.slot a buffer) result t.new }
+    ensures { (buffer : List ℕ) → Left t.old (λ h q. link h q c.slot a buffer) (told result) t.new }
 {
     let s = or_self(t, n, c, a);
     let f = look(t, n, &m, hall, c, Kind::File, s);
     let links = read(t, n, Kind::File, f.slot, LINKS);
-    let e = own(XOK, f, Kind::File);
-    let e = or_refuse(e, links == MAX_LINKS, XBAD_LINK);
-    if e != XOK {
-        return refused(e);
-    }
+    own(f, Kind::File)?;
+    refuse([(links == MAX_LINKS, Error::XbadLink)])?;
     write(t, n, Kind::File, f.slot, LINKS, links + 1);
-    answered(0, 0)
+    Ok((0, 0))
 }
 
 // One link less. "With links and opens 0 the file is freed."
@@ -317,20 +265,17 @@ pub(crate) fn unlink(
     hall: &[u8; HALL_BYTES],
     c: Caller,
     a: u32,
-) -> Answer
+) -> Ended
     requires { Sound t.old n c × Handed (configuration t.old) m hall.now }
-    ensures { (buffer : List ℕ) → Left t.old (λ h q. unlink h q c.slot a buffer) result t.new }
+    ensures { (buffer : List ℕ) → Left t.old (λ h q. unlink h q c.slot a buffer) (told result) t.new }
 {
     let s = or_self(t, n, c, a);
     let f = look(t, n, &m, hall, c, Kind::File, s);
     let links = read(t, n, Kind::File, f.slot, LINKS);
-    let e = own(XOK, f, Kind::File);
-    let e = or_refuse(e, links == 0, XBAD_LINK);
-    if e != XOK {
-        return refused(e);
-    }
+    own(f, Kind::File)?;
+    refuse([(links == 0, Error::XbadLink)])?;
     drop_link(t, n, f.slot);
-    answered(0, 0)
+    Ok((0, 0))
 }
 
 // A sharable segment. It goes by the flag alone, whoever holds it.
@@ -339,9 +284,8 @@ fn is_shared(t: &[u32], n: Header, kind: Kind, i: u32) -> bool
     ensures { result ≡ is_shared (words_of t.now) (kind_of kind) i }
 {
     match kind {
-        Kind::Process => false,
         Kind::Segment => read(t, n, Kind::Segment, i, SHARABLE) != 0,
-        Kind::File => false,
+        Kind::Process | Kind::File => false,
     }
 }
 
@@ -355,20 +299,17 @@ fn set_bits_of(
     kind: Kind,
     s: u32,
     b: u32,
-) -> Answer
+) -> Ended
     requires { Sound t.old n c × Handed (configuration t.old) m hall.now }
-    ensures { (buffer : List ℕ) → Left t.old (λ h q. set_bits_of h q c.slot s b buffer (kind_of kind)) result t.new }
+    ensures { (buffer : List ℕ) → Left t.old (λ h q. set_bits_of h q c.slot s b buffer (kind_of kind)) (told result) t.new }
 {
     let x = look(t, n, &m, hall, c, kind, s);
     let shared = is_shared(t, n, kind, x.slot);
-    let e = or_refuse(XOK, MAX_BITS < b, XB_PARAM);
-    let e = own(e, x, kind);
-    let e = or_refuse(e, shared, XSH_SG);
-    if e != XOK {
-        return refused(e);
-    }
+    refuse([(MAX_BITS < b, Error::XbParam)])?;
+    own(x, kind)?;
+    refuse([(shared, Error::XshSg)])?;
     write(t, n, kind, x.slot, kind.bits_word(), b);
-    answered(0, 0)
+    Ok((0, 0))
 }
 
 // 12. Set bits, of the kind that the seid's class names.
@@ -380,9 +321,9 @@ pub(crate) fn set_bits(
     c: Caller,
     a: u32,
     b: u32,
-) -> Answer
+) -> Ended
     requires { Sound t.old n c × Handed (configuration t.old) m hall.now }
-    ensures { (buffer : List ℕ) → Left t.old (λ h q. set_bits h q c.slot a b buffer) result t.new }
+    ensures { (buffer : List ℕ) → Left t.old (λ h q. set_bits h q c.slot a b buffer) (told result) t.new }
 {
     let s = or_self(t, n, c, a);
     let kind = kind_by(s);

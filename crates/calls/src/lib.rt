@@ -4,26 +4,30 @@
 ghost use Rattle.std.specs.Prelude.{◌≡◌, ◌+◌, ◌≤◌, length};
 ghost use Rattle.rules.specs.Layout.{configuration};
 ghost use Rattle.rules.specs.View.{view_number, view_from, view_shown};
-ghost use Rattle.rules.specs.Step.{bad_caller, bad_code, step};
+ghost use Rattle.rules.specs.Step.{bad_caller, step};
 ghost use Rattle.calls.specs.World.{Known, words_of};
+ghost use Rattle.calls.specs.Left.{told};
 ghost use Rattle.calls.specs.Did.{Did, state_of, call_of};
 ghost use Rattle.calls.specs.Tray.{Ready, Trayed};
-ghost use Rattle.calls.specs.Quick.{RightIn, QuickTrayed};
+ghost use Rattle.calls.specs.Quick.{OwnIfLent, QuickTrayed};
 ghost use Rattle.calls.specs.View.{view_part};
 
-use crate::base::{read, refused};
+use crate::base::{Ended, read, told};
 use crate::blocks::{hidden, shown};
-use crate::dispatch::carry_out;
+use crate::code::asked;
+use crate::error::Error;
 use crate::objects::cell_in;
 use crate::quick::carry_out_by;
-use crate::trays::{begin, begin_quick, due, matrix_in, matrix_of, run, run_quick, verdict};
+use crate::trays::{begin, begin_quick, due, matrix_in, run, verdict};
 use layout::{HALL_BYTES, Header, Kind, header_of};
-use rules::{LIVE, MAX_CELLS, REGRADE_CODE, XB_PR_SD, XB_TAB, XBD_KCL, XOK};
+use rules::{BLOCK_BYTES, LIVE, MAX_CELLS, XOK};
 
 mod base;
 mod blocks;
+mod code;
 mod dispatch;
 mod entries;
+mod error;
 mod files;
 mod mail;
 mod map;
@@ -86,45 +90,9 @@ pub(crate) fn bad_caller(t: &[u32], n: Header, p: u32) -> bool
     (n.processes <= p) | (live != 1)
 }
 
-// "3 code not 1..18"; "codes now run to 20"; and the desk's
-pub(crate) fn bad_code(code: u32) -> bool
-    ensures { result ≡ bad_code code }
-{
-    (code == 0) | (REGRADE_CODE < code)
-}
-
-// One call on a judged table: the caller, then the code, then the call's own list. It reads the header from the table: handed on by value, it would be written to memory
-// and read back in wider pieces at each call of a tray.
+// One call on a judged table: the caller, then the code, then the call's own list. A working slice is right before and after; one without words is none. It reads the header
+// from the table: handed on by value, it would be written to memory and read back in wider pieces at each call of a tray.
 pub(crate) fn call_judged(
-    t: &mut [u32],
-    store: &mut [u8],
-    m: &[[bool; MAX_CELLS]; MAX_CELLS],
-    hall: &[u8; HALL_BYTES],
-    caller: u32,
-    code: u32,
-    a: u32,
-    b: u32,
-    c: u32,
-    buffer: &mut [u8],
-) -> Answer
-    requires { Ready t.old store.old m.now hall.now }
-    ensures { Did (step (state_of t.old store.old) (call_of caller code a b c buffer.old)) result t.new store.new buffer.new }
-{
-    let n = header_of(t);
-    if bad_caller(t, n, caller) {
-        return refused(XB_PR_SD);
-    }
-    if bad_code(code) {
-        return refused(XBD_KCL);
-    }
-    let cell = cell_in(hall, Kind::Process, caller);
-    let me = Caller { slot: caller, cell };
-    let none = [0u32; 0];
-    carry_out(t, store, m, hall, &none, me, code, a, b, c, buffer)
-}
-
-// The same by the quick engine: the working slice is right before and after.
-pub(crate) fn call_quick(
     t: &mut [u32],
     store: &mut [u8],
     m: &[[bool; MAX_CELLS]; MAX_CELLS],
@@ -136,18 +104,13 @@ pub(crate) fn call_quick(
     b: u32,
     c: u32,
     buffer: &mut [u8],
-) -> Answer
-    requires { Ready t.old store.old m.now hall.now × RightIn t.old w.old }
-    ensures did { Did (step (state_of t.old store.old) (call_of caller code a b c buffer.old)) result t.new store.new buffer.new }
-    ensures right_in { RightIn t.new w.new }
+) -> Ended
+    requires { Ready t.old store.old m.now hall.now × OwnIfLent t.old w.old }
+    ensures did { Did (step (state_of t.old store.old) (call_of caller code a b c buffer.old)) (told result) t.new store.new buffer.new }
+    ensures right_in { OwnIfLent t.new w.new }
 {
     let n = header_of(t);
-    if bad_caller(t, n, caller) {
-        return refused(XB_PR_SD);
-    }
-    if bad_code(code) {
-        return refused(XBD_KCL);
-    }
+    let code = asked(t, n, caller, code)?;
     let cell = cell_in(hall, Kind::Process, caller);
     let me = Caller { slot: caller, cell };
     carry_out_by(t, store, m, hall, w, me, code, a, b, c, buffer)
@@ -168,10 +131,13 @@ pub fn call(
 {
     let mut hall = [0u8; HALL_BYTES];
     if !table::judge(table, store.len(), &mut hall) {
-        return refused(XB_TAB);
+        return told(Err(Error::XbTab));
     }
     let m = matrix_in(&hall);
-    call_judged(table, store, &m, &hall, caller, code, a, b, c, buffer)
+    let mut none = [0u32; 0];
+    told(call_judged(
+        table, store, &m, &hall, &mut none, caller, code, a, b, c, buffer,
+    ))
 }
 
 // A view's number, and where in the store the block stands that it shows: for a host in C, which can't be handed a part.
@@ -181,16 +147,23 @@ pub fn view_part(table: &[u32], store: &[u8], caller: u32, a: u32, b: u32) -> Pa
 {
     let mut hall = [0u8; HALL_BYTES];
     if !table::judge(table, store.len(), &mut hall) {
-        return hidden(XB_TAB);
+        return hidden(Error::XbTab);
     }
     let n = header_of(table);
     if bad_caller(table, n, caller) {
-        return hidden(XB_PR_SD);
+        return hidden(Error::XbPrSd);
     }
     let cell = cell_in(&hall, Kind::Process, caller);
     let me = Caller { slot: caller, cell };
     let m = matrix_in(&hall);
-    shown(XOK, table, n, m, &hall, me, store, a, b)
+    match shown(table, n, m, &hall, me, store, a, b) {
+        Ok(from) => Part {
+            error: XOK,
+            from,
+            count: BLOCK_BYTES,
+        },
+        Err(error) => hidden(error),
+    }
 }
 
 // Its number apart.
@@ -217,19 +190,19 @@ pub fn tray(table: &mut [u32], store: &mut [u8], records: &mut [Record], bytes: 
     ensures { Trayed (state_of table.old store.old) bytes.old records.old result table.new store.new bytes.new records.new }
 {
     let hall = begin(table, store.len(), records.len());
-    let m = matrix_of(hall);
-    let error = verdict(hall, records.len());
+    let m = matrix_in(&hall);
+    let error = verdict(&hall, records.len());
+    let mut none = [0u32; 0];
     let n = due(error, records.len());
-    let mut i = 0;
-    while i < n {
+    for i in 0..n {
         let r = records[i];
-        records[i] = run(table, store, bytes, &m, &hall, r);
-        i += 1;
+        records[i] = run(table, store, bytes, &mut none, &m, &hall, r);
     }
     error
 }
 
 // The same by the quick engine: a working slice is lent too, and is judged with the table. It finds free slots and clashes without a search.
+// Two functions, since the C interface has two (monitor_tray, monitor_quick_tray); what is run is one (`run`).
 pub fn quick_tray(
     table: &mut [u32],
     store: &mut [u8],
@@ -240,14 +213,12 @@ pub fn quick_tray(
     ensures { QuickTrayed (state_of table.old store.old) bytes.old work.old records.old result table.new store.new bytes.new records.new work.new }
 {
     let hall = begin_quick(table, store.len(), records.len(), work);
-    let m = matrix_of(hall);
-    let error = verdict(hall, records.len());
+    let m = matrix_in(&hall);
+    let error = verdict(&hall, records.len());
     let n = due(error, records.len());
-    let mut i = 0;
-    while i < n {
+    for i in 0..n {
         let r = records[i];
-        records[i] = run_quick(table, store, bytes, work, &m, &hall, r);
-        i += 1;
+        records[i] = run(table, store, bytes, work, &m, &hall, r);
     }
     error
 }

@@ -1,38 +1,30 @@
 // The address map: remap, access of a page.
 ghost use Rattle.std.specs.Prelude.{◌≡◌, List, ℕ};
 ghost use Rattle.rules.specs.Layout.{segment, size, at, configuration};
+ghost use Rattle.rules.specs.Rule.{first_refusal};
 ghost use Rattle.rules.specs.Call19.{is_mapped, conflict, remap};
 ghost use Rattle.rules.specs.Call20.{page_access};
 ghost use Rattle.calls.specs.World.{Known, Sound, words_of};
 ghost use Rattle.calls.specs.Handed.{Handed};
-ghost use Rattle.calls.specs.Left.{Left};
-ghost use Rattle.calls.specs.Refusing.{refusing};
+ghost use Rattle.calls.specs.Left.{Left, told};
+ghost use Rattle.calls.specs.Refusing.{found};
 ghost use Rattle.calls.specs.Map.{held, taken_by, run_of, remap_tests};
 
-use crate::base::{answered, or_refuse, read, refused};
+use crate::Caller;
+use crate::base::{Ended, read, refuse};
 use crate::entries::entry_of;
+use crate::error::Error;
 use crate::objects::look;
 use crate::pages::{left, map_of, set_pages};
 use crate::segments::access_of;
-use crate::{Answer, Caller};
 use layout::{HALL_BYTES, Header, Kind};
-use rules::{
-    ENTRIES, MAX_CELLS, PAGE_BYTES, PAGES, PAGES_AT, SIZE, XB_PARAM, XB_SG_DES, XB_SG_SD,
-    XIN_SG_ALD_MAP, XN_SG_DES, XOK, XOUT_SG_ALD_UMP, XVRT_MM_CFL,
-};
-use words::{first, one_less, wide};
+use rules::{ENTRIES, MAX_CELLS, PAGE_BYTES, PAGES, PAGES_AT, SIZE};
 
 // Some page holds designator d.
 fn is_mapped(m: [u32; PAGES], d: u32) -> bool
     ensures { result ≡ is_mapped (held m) d }
 {
-    let mut mapped = false;
-    let mut g = 0;
-    while g < PAGES {
-        mapped = mapped | (wide(m[g]) == wide(d) + 1);
-        g += 1;
-    }
-    mapped
+    m.iter().any(|held| *held as usize == d as usize + 1)
 }
 
 // How many pages the segment in slot i covers: its size over 8,192, rounded up.
@@ -40,39 +32,27 @@ fn run_of(t: &[u32], n: Header, i: u32) -> u32
     requires { Known t.now n }
     ensures { result ≡ run_of (words_of t.now (at segment i size)) }
 {
-    let bytes = wide(read(t, n, Kind::Segment, i, SIZE));
-    ((bytes + (PAGE_BYTES as usize - 1)) / PAGE_BYTES as usize) as u32
+    read(t, n, Kind::Segment, i, SIZE).div_ceil(PAGE_BYTES)
 }
 
 // The n pages from b on pass page 7, or one of them is used.
 fn conflict(m: [u32; PAGES], b: u32, n: u32) -> bool
     ensures { result ≡ conflict (held m) b n }
 {
-    let from = wide(b);
-    let run = wide(n);
-    if PAGES < from + run {
-        return true;
-    }
-    let mut used = false;
-    let mut i = 0;
-    while i < run {
-        used = used | (m[from + i] != 0);
-        i += 1;
-    }
-    used
+    let from = b as usize;
+    let run = n as usize;
+    PAGES < from + run || m[from..from + run].iter().any(|held| *held != 0)
 }
 
 // The map once v has come into the n pages from b on, if one comes.
 fn taken(m: [u32; PAGES], comes: bool, v: u32, b: u32, n: u32) -> [u32; PAGES]
     ensures { result ≡ taken_by m comes v b n }
 {
-    let from = wide(b);
-    let end = from + wide(n);
+    let from = b as usize;
+    let end = from + n as usize;
     let mut to = m;
-    let mut g = 0;
-    while g < PAGES {
-        to[g] = first(comes & ((from <= g) & (g < end)), v, m[g]);
-        g += 1;
+    if comes {
+        to[from.min(PAGES)..end.min(PAGES)].fill(v);
     }
     to
 }
@@ -88,18 +68,20 @@ fn may_remap(
     run: u32,
     m: [u32; PAGES],
     rest: [u32; PAGES],
-) -> u32
-    ensures { result ≡ refusing 0 (remap_tests incoming b outgoing s u present run m rest) }
+) -> Result<(), Error>
+    ensures { found result ≡ first_refusal (remap_tests incoming b outgoing s u present run m rest) }
 {
-    let comes = wide(incoming) < ENTRIES;
-    let goes = wide(outgoing) < ENTRIES;
-    let beyond = (ENTRIES < wide(incoming)) | (ENTRIES < wide(outgoing));
-    let e = or_refuse(XOK, beyond, XN_SG_DES);
-    let e = or_refuse(e, (comes & (s == 0)) | (goes & (u == 0)), XB_SG_DES);
-    let e = or_refuse(e, comes & !present, XB_SG_SD);
-    let e = or_refuse(e, goes & !is_mapped(m, outgoing), XOUT_SG_ALD_UMP);
-    let e = or_refuse(e, comes & is_mapped(rest, incoming), XIN_SG_ALD_MAP);
-    or_refuse(e, comes & conflict(rest, b, run), XVRT_MM_CFL)
+    let comes = (incoming as usize) < ENTRIES;
+    let goes = (outgoing as usize) < ENTRIES;
+    let beyond = (ENTRIES < incoming as usize) | (ENTRIES < outgoing as usize);
+    refuse([
+        (beyond, Error::XnSgDes),
+        ((comes & (s == 0)) | (goes & (u == 0)), Error::XbSgDes),
+        (comes & !present, Error::XbSgSd),
+        (goes & !is_mapped(m, outgoing), Error::XoutSgAldUmp),
+        (comes & is_mapped(rest, incoming), Error::XinSgAldMap),
+        (comes & conflict(rest, b, run), Error::XvrtMmCfl),
+    ])
 }
 
 // 19. Remap. The outgoing segment leaves first: the incoming one is judged by the rest of the map, and comes into it.
@@ -112,9 +94,9 @@ pub(crate) fn remap(
     incoming: u32,
     b: u32,
     outgoing: u32,
-) -> Answer
+) -> Ended
     requires { Sound t.old n c × Handed (configuration t.old) m hall.now }
-    ensures { (buffer : List ℕ) → Left t.old (λ h q. remap h q c.slot incoming b outgoing buffer) result t.new }
+    ensures { (buffer : List ℕ) → Left t.old (λ h q. remap h q c.slot incoming b outgoing buffer) (told result) t.new }
 {
     let s = entry_of(t, n, Kind::Segment, c.slot, incoming).held;
     let u = entry_of(t, n, Kind::Segment, c.slot, outgoing).held;
@@ -122,13 +104,10 @@ pub(crate) fn remap(
     let run = run_of(t, n, g.slot);
     let map = map_of(t, n, c.slot);
     let rest = left(map, outgoing);
-    let e = may_remap(incoming, b, outgoing, s, u, g.present, run, map, rest);
-    if e != XOK {
-        return refused(e);
-    }
-    let comes = wide(incoming) < ENTRIES;
+    may_remap(incoming, b, outgoing, s, u, g.present, run, map, rest)?;
+    let comes = (incoming as usize) < ENTRIES;
     set_pages(t, n, c.slot, taken(rest, comes, incoming + 1, b, run));
-    answered(0, 0)
+    Ok((0, 0))
 }
 
 // 20. Access of a page: as 18 for the designator that it holds.
@@ -139,15 +118,14 @@ pub(crate) fn page_access(
     hall: &[u8; HALL_BYTES],
     c: Caller,
     a: u32,
-) -> Answer
+) -> Ended
     requires { Sound t.now n c × Handed (configuration t.now) m hall.now }
-    ensures { (buffer : List ℕ) → Left t.now (λ h q. page_access h q c.slot a buffer) result t.now }
+    ensures { (buffer : List ℕ) → Left t.now (λ h q. page_access h q c.slot a buffer) (told result) t.now }
 {
-    let w = read(t, n, Kind::Process, c.slot, PAGES_AT + wide(a));
-    let e = or_refuse(XOK, PAGES <= wide(a), XB_PARAM);
-    let e = or_refuse(e, w == 0, XB_SG_DES);
-    if e != XOK {
-        return refused(e);
-    }
-    access_of(t, n, m, hall, c, one_less(w))
+    let w = read(t, n, Kind::Process, c.slot, PAGES_AT + a as usize);
+    refuse([
+        (PAGES <= a as usize, Error::XbParam),
+        (w == 0, Error::XbSgDes),
+    ])?;
+    access_of(t, n, m, hall, c, w.saturating_sub(1))
 }

@@ -1,24 +1,24 @@
 // What a caller sees of the object that a word names, and the refusals of "find" and "own".
 ghost use Rattle.std.specs.Prelude.{◌≡◌, false, [], ◌+◌, ◌<◌, get_or};
-ghost use Rattle.rules.specs.Layout.{max_slots, process, segment, file, configuration};
+ghost use Rattle.rules.specs.Layout.{max_slots, configuration};
 ghost use Rattle.rules.specs.Seid.{or_self};
 ghost use Rattle.rules.specs.Find.{absent};
+ghost use Rattle.ids.specs.Seid.{identifier};
 ghost use Rattle.layout.specs.Kinds.{kind_of};
 ghost use Rattle.layout.specs.Hall.{cells_at};
 ghost use Rattle.calls.specs.World.{Sound, words_of};
 ghost use Rattle.calls.specs.Handed.{Handed};
-ghost use Rattle.calls.specs.Refusing.{refusing};
-ghost use Rattle.calls.specs.Seen.{named_of, kind_by, Sixteen, unseen, seen_of, find_tests, own_tests};
+ghost use Rattle.rules.specs.Rule.{first_refusal};
+ghost use Rattle.calls.specs.Refusing.{found, number_of};
+ghost use Rattle.calls.specs.Seen.{name_of, named_of, kind_by, Sixteen, unseen, seen_of, find_tests, own_tests};
 
 use crate::Caller;
-use crate::base::{or_refuse, read};
-use ids::{FileId, FileIs, ProcessId, ProcessIs, SegmentId, SegmentIs, seid};
+use crate::base::{read, refuse};
+use crate::error::Error;
+use ids::{FileId, Identifier, ProcessId, SegmentId, seid};
 use layout::{HALL_BYTES, Header, Kind, class_of};
-use rules::{
-    GROUP, LIVE, MAX_CELLS, OWNER, PROCESS_CLASS, SEGMENT_CLASS, SERIAL, XB_PR_SD, XB_SG_SD,
-    XNO_ACC, XNO_OBJ, XNO_OWNER,
-};
-use words::first;
+use rules::{GROUP, LIVE, MAX_CELLS, OWNER, PROCESS_CLASS, SEGMENT_CLASS, SERIAL};
+use words::{first, wide};
 
 // "Seid 0 means the calling process."
 pub(crate) fn or_self(t: &[u32], n: Header, c: Caller, a: u32) -> u32
@@ -34,69 +34,28 @@ pub(crate) fn or_self(t: &[u32], n: Header, c: Caller, a: u32) -> u32
 // serial.
 #[derive(Clone, Copy)]
 pub(crate) struct Named {
-    pub formed: bool,
     pub slot: u32,
     pub serial: u32,
 }
 
-fn as_process(n: Header, s: u32) -> Named
-    ensures { result ≡ named_of n process s }
+// As an identifier of one kind, in a table with that many slots of it.
+fn name_as<I: Identifier>(size: u32, s: u32) -> Option<Named>
+    ensures { result ≡ identifier I.kind name_of size s }
 {
-    match ProcessId::check(s, n.processes) {
-        ProcessIs::Is(p) => Named {
-            formed: true,
-            slot: p.index(),
-            serial: p.serial(),
-        },
-        ProcessIs::Not => Named {
-            formed: false,
-            slot: 0,
-            serial: 0,
-        },
-    }
+    let id = I::check(s, size)?;
+    Some(Named {
+        slot: id.index(),
+        serial: id.serial(),
+    })
 }
 
-fn as_segment(n: Header, s: u32) -> Named
-    ensures { result ≡ named_of n segment s }
-{
-    match SegmentId::check(s, n.segments) {
-        SegmentIs::Is(g) => Named {
-            formed: true,
-            slot: g.index(),
-            serial: g.serial(),
-        },
-        SegmentIs::Not => Named {
-            formed: false,
-            slot: 0,
-            serial: 0,
-        },
-    }
-}
-
-fn as_file(n: Header, s: u32) -> Named
-    ensures { result ≡ named_of n file s }
-{
-    match FileId::check(s, n.files) {
-        FileIs::Is(f) => Named {
-            formed: true,
-            slot: f.index(),
-            serial: f.serial(),
-        },
-        FileIs::Not => Named {
-            formed: false,
-            slot: 0,
-            serial: 0,
-        },
-    }
-}
-
-fn name_of(n: Header, kind: Kind, s: u32) -> Named
+fn name_of(n: Header, kind: Kind, s: u32) -> Option<Named>
     ensures { result ≡ named_of n (kind_of kind) s }
 {
     match kind {
-        Kind::Process => as_process(n, s),
-        Kind::Segment => as_segment(n, s),
-        Kind::File => as_file(n, s),
+        Kind::Process => name_as::<ProcessId>(n.processes, s),
+        Kind::Segment => name_as::<SegmentId>(n.segments, s),
+        Kind::File => name_as::<FileId>(n.files, s),
     }
 }
 
@@ -104,14 +63,11 @@ fn name_of(n: Header, kind: Kind, s: u32) -> Named
 pub(crate) fn kind_by(s: u32) -> Kind
     ensures { kind_of result ≡ kind_by s }
 {
-    let class = class_of(s);
-    if class == PROCESS_CLASS {
-        return Kind::Process;
+    match class_of(s) {
+        PROCESS_CLASS => Kind::Process,
+        SEGMENT_CLASS => Kind::Segment,
+        _ => Kind::File,
     }
-    if class == SEGMENT_CLASS {
-        return Kind::Segment;
-    }
-    Kind::File
 }
 
 // One entry of the matrix, where it is lent; no past its sixteen cells.
@@ -119,21 +75,10 @@ pub(crate) fn flow_at(m: &[[bool; MAX_CELLS]; MAX_CELLS], c: u32, d: u32) -> boo
     requires { Sixteen m.now }
     ensures { result ≡ get_or (get_or m.now c []) d false }
 {
-    let from = c as usize;
-    let to = d as usize;
-    if from < MAX_CELLS {
-        if to < MAX_CELLS {
-            return m[from][to];
-        }
-    }
-    false
-}
-
-// A cell is kept in a byte.
-fn number_of(cell: u8) -> u32
-    ensures { result ≡ cell }
-{
-    cell as u32
+    let Some(row) = m.get(wide(c)) else {
+        return false;
+    };
+    row.get(wide(d)).copied().unwrap_or(false)
 }
 
 // The cell of slot i of a kind, which the check found.
@@ -141,12 +86,12 @@ pub(crate) fn cell_in(hall: &[u8; HALL_BYTES], kind: Kind, i: u32) -> u32
     requires { i < max_slots }
     ensures { result ≡ get_or hall.now (cells_at (kind_of kind) + i) 0 }
 {
-    let at = kind.cells_at() + i as usize;
-    number_of(hall[at])
+    u32::from(hall[kind.cells_at() + wide(i)])
 }
 
 // What the caller sees of it: its slot and cell, whether that is the caller's own, whether what it holds may flow to the caller, whether the slot is live with that
-// serial, whether the owners are one, and the caller's rights today.
+// serial, whether the owners are one, and the caller's rights today. What names nothing has a form too, and is seen as absent and allowed nothing: with an Option in place of
+// `formed` each call's list of refusals would be cut in two where it is first looked at, and stand less as in the rules.
 #[derive(Clone, Copy)]
 pub(crate) struct Seen {
     pub formed: bool,
@@ -187,10 +132,9 @@ pub(crate) fn look(
     requires { Sound t.now n c × Handed (configuration t.now) m.now hall.now }
     ensures { result ≡ seen_of (configuration t.now) (words_of t.now) c.slot (kind_of kind) (named_of n (kind_of kind) s) }
 {
-    let x = name_of(n, kind, s);
-    if !x.formed {
+    let Some(x) = name_of(n, kind, s) else {
         return unseen();
-    }
+    };
     let slot = x.slot;
     let me = c.slot;
     let cell = cell_in(hall, kind, slot);
@@ -207,7 +151,7 @@ pub(crate) fn look(
     let flows = flow_at(m, cell, c.cell);
     let rights = rights::rights(my_owner, my_group, owner, group, bits);
     Seen {
-        formed: x.formed,
+        formed: true,
         slot,
         cell,
         own: cell == c.cell,
@@ -219,30 +163,32 @@ pub(crate) fn look(
 }
 
 // '"Absent" is 2, 11 or 12 where a process, segment or file is wanted.'
-pub(crate) fn absent(kind: Kind) -> u32
-    ensures { result ≡ absent (kind_of kind) }
+pub(crate) fn absent(kind: Kind) -> Error
+    ensures { number_of result ≡ absent (kind_of kind) }
 {
     match kind {
-        Kind::Process => XB_PR_SD,
-        Kind::Segment => XB_SG_SD,
-        Kind::File => XNO_OBJ,
+        Kind::Process => Error::XbPrSd,
+        Kind::Segment => Error::XbSgSd,
+        Kind::File => Error::XnoObj,
     }
 }
 
 // '"Find": bad seid form or wrong class, absent; level forbids, 13; not live or other serial, absent.'
-pub(crate) fn find(e: u32, x: Seen, kind: Kind, forbidden: bool) -> u32
-    ensures { result ≡ refusing e (find_tests x (kind_of kind) forbidden) }
+pub(crate) fn find(x: Seen, kind: Kind, forbidden: bool) -> Result<(), Error>
+    ensures { found result ≡ first_refusal (find_tests x (kind_of kind) forbidden) }
 {
     let gone = absent(kind);
-    let e = or_refuse(e, !x.formed, gone);
-    let e = or_refuse(e, forbidden, XNO_ACC);
-    or_refuse(e, !x.present, gone)
+    refuse([
+        (!x.formed, gone),
+        (forbidden, Error::XnoAcc),
+        (!x.present, gone),
+    ])
 }
 
 // '"Own" is find with another cell giving 13, then owner unequal 14.'
-pub(crate) fn own(e: u32, x: Seen, kind: Kind) -> u32
-    ensures { result ≡ refusing e (own_tests x (kind_of kind)) }
+pub(crate) fn own(x: Seen, kind: Kind) -> Result<(), Error>
+    ensures { found result ≡ first_refusal (own_tests x (kind_of kind)) }
 {
-    let e = find(e, x, kind, !x.own);
-    or_refuse(e, !x.mine, XNO_OWNER)
+    find(x, kind, !x.own)?;
+    refuse([(!x.mine, Error::XnoOwner)])
 }

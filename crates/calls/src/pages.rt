@@ -10,7 +10,6 @@ ghost use Rattle.calls.specs.Map.{held, map_of, left_by};
 use crate::base::{read, write};
 use layout::{Header, Kind};
 use rules::{PAGES, PAGES_AT};
-use words::{first, wide};
 
 // What each page of process p holds.
 pub(crate) fn map_of(t: &[u32], n: Header, p: u32) -> [u32; PAGES]
@@ -18,10 +17,8 @@ pub(crate) fn map_of(t: &[u32], n: Header, p: u32) -> [u32; PAGES]
     ensures { result ≡ map_of (words_of t.now) p }
 {
     let mut m = [0u32; PAGES];
-    let mut g = 0;
-    while g < PAGES {
+    for g in 0..PAGES {
         m[g] = read(t, n, Kind::Process, p, PAGES_AT + g);
-        g += 1;
     }
     m
 }
@@ -31,10 +28,12 @@ pub(crate) fn left(m: [u32; PAGES], d: u32) -> [u32; PAGES]
     ensures { result ≡ left_by m d }
 {
     let mut rest = m;
-    let mut g = 0;
-    while g < PAGES {
-        rest[g] = first(wide(m[g]) == wide(d) + 1, 0, m[g]);
-        g += 1;
+    for g in 0..PAGES {
+        rest[g] = if m[g] as usize == d as usize + 1 {
+            0
+        } else {
+            m[g]
+        };
     }
     rest
 }
@@ -44,10 +43,8 @@ pub(crate) fn set_pages(t: &mut [u32], n: Header, p: u32, m: [u32; PAGES])
     requires { Known t.old n }
     ensures { t.new ≡ write (configuration t.old) t.old (pages_set p (held m)) }
 {
-    let mut g = 0;
-    while g < PAGES {
+    for g in 0..PAGES {
         write(t, n, Kind::Process, p, PAGES_AT + g, m[g]);
-        g += 1;
     }
 }
 
@@ -57,11 +54,10 @@ pub(crate) fn clear_pages(t: &mut [u32], n: Header, kind: Kind, p: u32, d: u32)
     ensures { t.new ≡ write (configuration t.old) t.old (pages_cleared (words_of t.old) (kind_of kind) p d) }
 {
     match kind {
-        Kind::Process => {}
         Kind::Segment => {
             let m = map_of(t, n, p);
             set_pages(t, n, p, left(m, d));
         }
-        Kind::File => {}
+        Kind::Process | Kind::File => {}
     }
 }

@@ -1,5 +1,5 @@
 // The regrading desk: a process of the guard cell copies a file into another cell.
-ghost use Rattle.std.specs.Prelude.{◌≡◌, ◌+◌, ◌*◌, ◌≤◌, ◌<◌, ◌^◌, length};
+ghost use Rattle.std.specs.Prelude.{◌≡◌, ◌+◌, ◌*◌, ◌<◌, ◌^◌, length};
 ghost use Rattle.std.proofs.lemmas.List.Edits.{sets};
 ghost use Rattle.rules.specs.Words.{part, word2};
 ghost use Rattle.rules.specs.Layout.{max_slots, max_serial, block_bytes, file, configuration, store_bytes, at, serial};
@@ -8,21 +8,19 @@ ghost use Rattle.layout.specs.Header.{record_of};
 ghost use Rattle.calls.specs.World.{Known, Sound, words_of};
 ghost use Rattle.calls.specs.Handed.{Handed};
 ghost use Rattle.calls.specs.Entries.{made_at};
-ghost use Rattle.calls.specs.Regrade.{Apart, Copyable, FoundIn, RegradeLeft};
+ghost use Rattle.calls.specs.Left.{told};
+ghost use Rattle.calls.specs.Regrade.{Copyable, FoundIn, RegradeLeft};
 
-use crate::base::{answered, or_refuse, read, refused};
-use crate::blocks::{bad_use, to_read};
+use crate::Caller;
+use crate::base::{Ended, read, refuse};
+use crate::blocks::{Purpose, may_use};
 use crate::entries::{entry_of, make};
+use crate::error::Error;
 use crate::objects::look;
-use crate::room::Slot;
-use crate::{Answer, Caller};
 use ids::seid;
 use layout::{HALL_BYTES, Header, Kind};
-use rules::{
-    BLOCK_BYTES, FILE_CLASS, MAX_BITS, MAX_CELLS, SERIAL, SIZE, XB_PARAM, XB_SZ, XNO_S_PRIV,
-    XNO_SPACE, XOK,
-};
-use words::{byte, wide};
+use rules::{BLOCK_BYTES, FILE_CLASS, MAX_BITS, MAX_CELLS, SERIAL, SIZE};
+use words::byte;
 
 // "Owner and group from a 4-byte buffer, high bytes first": where each begins.
 const OWNER_BYTES: usize = 0;
@@ -36,19 +34,7 @@ fn two_bytes(b: &[u8], i: usize) -> u32
     requires { i < 2 ^ 32 }
     ensures { result ≡ word2 b.now i }
 {
-    byte(b, i) as u32 * 256 + byte(b, i + 1) as u32
-}
-
-// n bytes of the store are copied from a place to another; the two stretches lie apart.
-fn copy_bytes(store: &mut [u8], from: usize, to: usize, n: usize)
-    requires { (from + n ≤ length store.old) × (to + n ≤ length store.old) × Apart from to n }
-    ensures { store.new ≡ sets store.old to (part store.old from n) }
-{
-    let mut i = 0;
-    while i < n {
-        store[to + i] = store[from + i];
-        i += 1;
-    }
+    u32::from(u16::from_be_bytes([byte(b, i), byte(b, i + 1)]))
 }
 
 // The first blocks of file f become those of another file, g: as many as its size. What is past them in either stretch stays where it is.
@@ -56,10 +42,11 @@ fn copy_blocks(store: &mut [u8], blocks: u32, f: u32, g: u32, size: u32)
     requires { Copyable store.old blocks f g size }
     ensures { store.new ≡ sets store.old (g * (blocks * block_bytes)) (part store.old (f * (blocks * block_bytes)) (size * block_bytes)) }
 {
-    let stretch = wide(blocks) * BLOCK_BYTES;
-    let from = wide(f) * stretch;
-    let to = wide(g) * stretch;
-    copy_bytes(store, from, to, wide(size) * BLOCK_BYTES);
+    let stretch = blocks as usize * BLOCK_BYTES;
+    let from = f as usize * stretch;
+    let to = g as usize * stretch;
+    let n = size as usize * BLOCK_BYTES;
+    store.copy_within(from..from + n, to);
 }
 
 // The record of the copy in slot i, "links 1, opens 0", and its seid.
@@ -74,7 +61,7 @@ fn make_copy(t: &mut [u32], n: Header, i: u32, owner: u32, group: u32, bits: u32
     seid(FILE_CLASS, i, serial)
 }
 
-// 21. Regrade, into the slot that was found in cell b.
+// 21. Regrade, into the slot that was found in cell b, if any.
 pub(crate) fn regrade(
     t: &mut [u32],
     store: &mut [u8],
@@ -82,31 +69,29 @@ pub(crate) fn regrade(
     m: [[bool; MAX_CELLS]; MAX_CELLS],
     hall: &[u8; HALL_BYTES],
     me: Caller,
-    g: Slot,
+    slot: Option<u32>,
     a: u32,
     b: u32,
     c: u32,
     buffer: &[u8],
-) -> Answer
-    requires { Sound t.old n me × Handed (configuration t.old) m hall.now × (length store.old ≡ store_bytes (configuration t.old)) × FoundIn t.old b g }
-    ensures { RegradeLeft t.old store.old me.slot a b c buffer.now result t.new store.new }
+) -> Ended
+    requires { Sound t.old n me × Handed (configuration t.old) m hall.now × (length store.old ≡ store_bytes (configuration t.old)) × FoundIn t.old b slot }
+    ensures { RegradeLeft t.old store.old me.slot a b c buffer.now (told result) t.new store.new }
 {
     let d = entry_of(t, n, Kind::File, me.slot, a);
     let f = look(t, n, &m, hall, me, Kind::File, d.held);
     let size = read(t, n, Kind::File, f.slot, SIZE);
-    let u = to_read(d.used);
     let at_desk = n.guard == me.cell + 1;
-    let e = or_refuse(XOK, !at_desk, XNO_S_PRIV);
-    let e = or_refuse(e, buffer.len() != BUFFER_BYTES, XB_SZ);
-    let e = or_refuse(e, (n.cells <= b) | (MAX_BITS < c), XB_PARAM);
-    let e = bad_use(e, a, d.held, u, f);
-    let e = or_refuse(e, g.none, XNO_SPACE);
-    if e != XOK {
-        return refused(e);
-    }
+    refuse([
+        (!at_desk, Error::XnoSPriv),
+        (buffer.len() != BUFFER_BYTES, Error::XbSz),
+        ((n.cells <= b) | (MAX_BITS < c), Error::XbParam),
+    ])?;
+    may_use(Purpose::Read, a, d, f)?;
+    let i = slot.ok_or(Error::XnoSpace)?;
     let owner = two_bytes(buffer, OWNER_BYTES);
     let group = two_bytes(buffer, GROUP_BYTES);
-    let s = make_copy(t, n, g.index, owner, group, c, size);
-    copy_blocks(store, n.blocks, f.slot, g.index, size);
-    answered(s, 0)
+    let s = make_copy(t, n, i, owner, group, c, size);
+    copy_blocks(store, n.blocks, f.slot, i, size);
+    Ok((s, 0))
 }

@@ -1,10 +1,9 @@
 // Cells and their runs of slots; room for new objects and entries.
 ghost use Rattle.std.specs.Prelude.{◌≡◌, true, ◌+◌, ◌*◌, ◌≤◌, ◌<◌, ◌^◌, length};
 ghost use Rattle.rules.specs.Layout.{process, cells, max_slots, cell_words, record_words, cell_word, configuration, configuration_words, cell_of};
-ghost use Rattle.rules.specs.Find.{free_entry};
 ghost use Rattle.layout.specs.Kinds.{kind_of};
-ghost use Rattle.calls.specs.World.{Known, words_of, first_by, cell_by, free_at, empty_at, holdable};
-ghost use Rattle.calls.specs.Seen.{slot_found};
+ghost use Rattle.calls.specs.World.{Known, words_of, first_by, cell_by, free_at, holdable};
+ghost use Rattle.calls.specs.Seen.{IsRun, slot_found, entry_found};
 
 use layout::{Header, Kind};
 use rules::{CELL_WORDS, ENTRIES, HEADER_WORDS, LIVE, MAX_SERIAL, SERIAL};
@@ -19,11 +18,9 @@ pub(crate) fn cell_by(t: &[u32], n: u32, k: usize, i: u32) -> u32
 {
     let mut end: u32 = 0;
     let mut cell: u32 = 0;
-    let mut c: u32 = 0;
-    while c < n {
+    for c in 0..n {
         end += t[HEADER_WORDS + CELL_WORDS * wide(c) + k];
-        cell += first(end <= i, 1, 0);
-        c += 1;
+        cell += u32::from(end <= i);
     }
     cell
 }
@@ -44,17 +41,33 @@ pub(crate) fn in_cell(t: &[u32], n: Header, c: u32, k: usize) -> u32
 }
 
 // The first slot of a cell's run; k is the word of a cell's record that counts its slots.
-pub(crate) fn first_slot(t: &[u32], n: Header, c: u32, k: usize) -> u32
+fn first_slot(t: &[u32], n: Header, c: u32, k: usize) -> u32
     requires { Known t.now n × (c ≤ n.cells) × (k < cell_words) × (first_by (configuration t.now) k (cells (configuration t.now)) ≤ max_slots) }
     ensures { (result ≡ first_by (configuration t.now) k c) × (result ≤ max_slots) }
 {
     let mut from: u32 = 0;
-    let mut i: u32 = 0;
-    while i < c {
+    for i in 0..c {
         from += in_cell(t, n, i, k);
-        i += 1;
     }
     from
+}
+
+// The slots of a kind that a cell has: the first of them, and how many they are.
+#[derive(Clone, Copy)]
+pub(crate) struct Run {
+    pub from: u32,
+    pub count: u32,
+}
+
+pub(crate) fn run_of(t: &[u32], n: Header, kind: Kind, c: u32) -> Run
+    requires { Known t.now n × (c < n.cells) }
+    ensures { IsRun (configuration t.now) (kind_of kind) c result }
+{
+    let k = kind.cell_word();
+    Run {
+        from: first_slot(t, n, c, k),
+        count: in_cell(t, n, c, k),
+    }
 }
 
 // Of n slots from one on, that which isn't live and has the smallest serial below 65535, the lowest among equals; the end of them where there is none. The records begin
@@ -66,60 +79,35 @@ fn free_at(t: &[u32], base: usize, size: usize, n: u32, from: u32) -> u32
     let end = from + n;
     let mut best = end;
     let mut least = MAX_SERIAL;
-    let mut i = from;
-    while i < end {
+    for i in from..end {
         let at = base + size * wide(i);
         let serial = word(t, at + SERIAL);
         let better = (word(t, at + LIVE) == 0) & (serial < least);
         best = first(better, i, best);
         least = first(better, serial, least);
-        i += 1;
     }
     best
 }
 
-// The slot that a creating call takes, or none.
-#[derive(Clone, Copy)]
-pub(crate) struct Slot {
-    pub index: u32,
-    pub none: bool,
-}
-
 // "The search for a free slot shall take the one with the smallest serial, and the lowest index among equals": in the run of a cell.
-pub(crate) fn free_slot(t: &[u32], n: Header, kind: Kind, cell: u32) -> Slot
+pub(crate) fn free_slot(t: &[u32], n: Header, kind: Kind, cell: u32) -> Option<u32>
     requires { Known t.now n × (cell < n.cells) }
     ensures { result ≡ slot_found (configuration t.now) (words_of t.now) (kind_of kind) cell }
 {
-    let k = kind.cell_word();
-    let from = first_slot(t, n, cell, k);
-    let count = in_cell(t, n, cell, k);
-    let base = n.base(kind);
-    let index = free_at(t, base, kind.record_words(), count, from);
-    Slot {
-        index,
-        none: from + count <= index,
+    let run = run_of(t, n, kind, cell);
+    let i = free_at(t, n.base(kind), kind.record_words(), run.count, run.from);
+    if i < run.from + run.count {
+        Some(i)
+    } else {
+        None
     }
 }
 
-// The lowest empty one of a process's entries of a kind, which begin at a place; 16 where none is empty.
-fn empty_at(t: &[u32], from: usize) -> u32
-    requires { from < 2 ^ 45 }
-    ensures { result ≡ empty_at t.now from }
-{
-    let mut d: u32 = 0;
-    while wide(d) < ENTRIES {
-        if word(t, from + 2 * wide(d)) == 0 {
-            return d;
-        }
-        d += 1;
-    }
-    d
-}
-
-// "New entries use the lowest empty place."
-pub(crate) fn free_entry(t: &[u32], n: Header, kind: Kind, p: u32) -> u32
+// "New entries use the lowest empty place", if there is one.
+pub(crate) fn free_entry(t: &[u32], n: Header, kind: Kind, p: u32) -> Option<u32>
     requires { Known t.now n × (holdable (kind_of kind) ≡ true) }
-    ensures { result ≡ free_entry (words_of t.now) (kind_of kind) p }
+    ensures { result ≡ entry_found (words_of t.now) (kind_of kind) p }
 {
-    empty_at(t, n.entry_at(kind, p, 0))
+    let from = n.entry_at(kind, p, 0);
+    (0..ENTRIES as u32).find(|&d| word(t, from + 2 * wide(d)) == 0)
 }

@@ -1,23 +1,25 @@
 // Subtypes (02, CR 11): what a caller sees of one, and the descriptor of one that create and open take.
-ghost use Rattle.std.specs.Prelude.{◌≡◌, ◌<◌};
+ghost use Rattle.std.specs.Prelude.{◌≡◌, ◌<◌, IfOk};
 ghost use Rattle.rules.specs.Layout.{subtype_words, configuration, subtype_word, flow_matrix};
+ghost use Rattle.rules.specs.Rule.{first_refusal};
 ghost use Rattle.rules.specs.Call07.{subtype_for};
 ghost use Rattle.calls.specs.World.{Known, Sound, words_of};
-ghost use Rattle.calls.specs.Refusing.{refusing};
+ghost use Rattle.calls.specs.Refusing.{found};
 ghost use Rattle.calls.specs.Seen.{seen_subtype, capability_of};
 ghost use Rattle.calls.specs.Calls.{create_under, open_under};
 
 use crate::Caller;
-use crate::base::{or_refuse, read};
-use crate::entries::entry_of;
+use crate::base::{read, refuse};
+use crate::entries::{Entry, entry_of};
+use crate::error::Error;
 use crate::objects::{Seen, flow_at, unseen};
 use layout::{Header, Kind, class_of, index_of, is_seid, serial_of};
 use modes::{reads, writes};
 use rules::{
     ENTRIES, GROUP, MAX_CELLS, OWNER, SUBTYPE_BITS, SUBTYPE_CELL, SUBTYPE_CLASS, SUBTYPE_GROUP,
-    SUBTYPE_OWNER, SUBTYPE_SERIAL, XBAD_ST_CAP, XBAD_SUBTYPE_MATCH,
+    SUBTYPE_OWNER, SUBTYPE_SERIAL,
 };
-use words::{one_less, wide, word};
+use words::{wide, word};
 
 // Word k of subtype i; past the last subtype there is none, and it is told as 0.
 fn subtype_word(t: &[u32], n: Header, i: u32, k: usize) -> u32
@@ -65,65 +67,54 @@ pub(crate) fn look_subtype(
     }
 }
 
-// What stands at the descriptor that `by` names, "a descriptor + 1, or 0 for none", and whether that is no held subtype.
-#[derive(Clone, Copy)]
-pub(crate) struct Capability {
-    pub held: u32,
-    pub used: u32,
-    pub none: bool,
-}
-
-pub(crate) fn held_by(t: &[u32], n: Header, p: u32, by: u32) -> Capability
+// The subtype that the descriptor `by` names, "a descriptor + 1, or 0 for none", holds, if it holds one, and its modes.
+pub(crate) fn held_by(t: &[u32], n: Header, p: u32, by: u32) -> Option<Entry>
     requires { Known t.now n }
     ensures { result ≡ capability_of (words_of t.now) p by }
 {
-    let d = entry_of(t, n, Kind::File, p, one_less(by));
-    let other = class_of(d.held) != SUBTYPE_CLASS;
-    Capability {
-        held: d.held,
-        used: d.used,
-        none: (by == 0) | ((ENTRIES < wide(by)) | other),
+    if (by == 0) | (ENTRIES < wide(by)) {
+        return None;
+    }
+    let d = entry_of(t, n, Kind::File, p, by - 1);
+    if class_of(d.held) == SUBTYPE_CLASS {
+        Some(d)
+    } else {
+        None
     }
 }
 
-// What refuses a create under a subtype, after the number e found so far; with `by` 0 it is under none. Create may name "a subtype of the caller's cell held
-// for reading and writing".
-pub(crate) fn may_create_under(e: u32, t: &[u32], n: Header, c: Caller, by: u32) -> u32
+// The new file's subtype, or 0; or what refuses a create under it. Create may name "a subtype of the caller's cell held for reading and writing".
+pub(crate) fn may_create_under(t: &[u32], n: Header, c: Caller, by: u32) -> Result<u32, Error>
     requires { Sound t.now n c }
-    ensures { result ≡ refusing e (create_under (configuration t.now) (words_of t.now) c.slot by) }
+    ensures refusals { found result ≡ first_refusal (create_under (configuration t.now) (words_of t.now) c.slot by) }
+    ensures subtype { IfOk result (λ s. s ≡ subtype_for (words_of t.now) c.slot by) }
 {
     if by == 0 {
-        return e;
+        return Ok(0);
     }
-    let x = held_by(t, n, c.slot, by);
+    let x = held_by(t, n, c.slot, by).ok_or(Error::XbadStCap)?;
     let cell = subtype_word(t, n, index_of(x.held), SUBTYPE_CELL);
     let unfit = (cell != c.cell) | !(reads(x.used) & writes(x.used));
-    let e = or_refuse(e, x.none, XBAD_ST_CAP);
-    or_refuse(e, unfit, XBAD_SUBTYPE_MATCH)
+    refuse([(unfit, Error::XbadSubtypeMatch)])?;
+    Ok(x.held)
 }
 
-// The new file's subtype, or 0.
-pub(crate) fn subtype_for(t: &[u32], n: Header, p: u32, by: u32) -> u32
+// What refuses an open, with the modes b, of a file whose subtype is s; a file without one, 0, asks for nothing.
+pub(crate) fn may_open_under(
+    t: &[u32],
+    n: Header,
+    p: u32,
+    s: u32,
+    b: u32,
+    by: u32,
+) -> Result<(), Error>
     requires { Known t.now n }
-    ensures { result ≡ subtype_for (words_of t.now) p by }
-{
-    if by == 0 {
-        return 0;
-    }
-    let x = held_by(t, n, p, by);
-    x.held
-}
-
-// What refuses an open, with the modes b, of a file whose subtype is s, after the number e found so far; a file without one, 0, asks for nothing.
-pub(crate) fn may_open_under(e: u32, t: &[u32], n: Header, p: u32, s: u32, b: u32, by: u32) -> u32
-    requires { Known t.now n }
-    ensures { result ≡ refusing e (open_under (words_of t.now) p s b by) }
+    ensures { found result ≡ first_refusal (open_under (words_of t.now) p s b by) }
 {
     if s == 0 {
-        return e;
+        return Ok(());
     }
-    let x = held_by(t, n, p, by);
+    let x = held_by(t, n, p, by).ok_or(Error::XbadStCap)?;
     let too_few = (reads(b) & !reads(x.used)) | (writes(b) & !writes(x.used));
-    let e = or_refuse(e, x.none, XBAD_ST_CAP);
-    or_refuse(e, (x.held != s) | too_few, XBAD_SUBTYPE_MATCH)
+    refuse([((x.held != s) | too_few, Error::XbadSubtypeMatch)])
 }

@@ -6,15 +6,17 @@ ghost use Rattle.rules.specs.Tray.{most_records};
 ghost use Rattle.layout.specs.Hall.{flow_byte, matrix_in};
 ghost use Rattle.kept.proofs.Recorded.{outside_number};
 ghost use Rattle.calls.specs.World.{Known};
-ghost use Rattle.calls.specs.Left.{said};
+ghost use Rattle.calls.specs.Left.{said, told};
 ghost use Rattle.calls.specs.Did.{state_of};
 ghost use Rattle.calls.specs.Tray.{Ran, Ready, answered_by, begun, rule_record, verdict_of};
-ghost use Rattle.calls.specs.Quick.{RightIn, begun_quick};
+ghost use Rattle.calls.specs.Quick.{OwnIfLent, begun_quick};
 
-use crate::base::refused;
-use crate::{Answer, Record, bad_caller, bad_code, call_judged, call_quick};
+use crate::base::{Ended, told};
+use crate::code::asked;
+use crate::error::Error;
+use crate::{Record, call_judged};
 use layout::{FLOWS_AT, HALL_BYTES, Header, header_of};
-use rules::{MAX_CELLS, XB_PARAM, XB_PR_SD, XB_SZ, XB_TAB, XBD_KCL, XOK};
+use rules::{MAX_CELLS, XB_PARAM, XB_TAB, XOK};
 use words::wide;
 
 const MOST_RECORDS: usize = 1024;
@@ -26,9 +28,9 @@ fn too_long(count: usize) -> bool
     MOST_RECORDS < count
 }
 
-// What judging hands on of a table on which a tray of so many records is run. Where none is, zeros: no cell flows to any, not even to itself. The table stays.
-pub(crate) fn begin(t: &mut [u32], store_bytes: usize, count: usize) -> [u8; HALL_BYTES]
-    ensures { (result ≡ begun t.old store_bytes «count») × (t.new ≡ t.old) }
+// What judging hands on of a table on which a tray of so many records is run. Where none is, zeros: no cell flows to any, not even to itself.
+pub(crate) fn begin(t: &[u32], store_bytes: usize, count: usize) -> [u8; HALL_BYTES]
+    ensures { result ≡ begun t.now store_bytes «count» }
 {
     let mut hall = [0u8; HALL_BYTES];
     if too_long(count) {
@@ -38,14 +40,14 @@ pub(crate) fn begin(t: &mut [u32], store_bytes: usize, count: usize) -> [u8; HAL
     hall
 }
 
-// The same for a quick tray: zeros too where the working slice isn't the table's. The slice stays.
+// The same for a quick tray: zeros too where the working slice isn't the table's.
 pub(crate) fn begin_quick(
-    t: &mut [u32],
+    t: &[u32],
     store_bytes: usize,
     count: usize,
-    w: &mut [u32],
+    w: &[u32],
 ) -> [u8; HALL_BYTES]
-    ensures { (result ≡ begun_quick t.old store_bytes «count» w.old) × (t.new ≡ t.old) × (w.new ≡ w.old) }
+    ensures { result ≡ begun_quick t.now store_bytes «count» w.now }
 {
     let hall = begin(t, store_bytes, count);
     if work::fits(t, store_bytes, w) {
@@ -77,16 +79,9 @@ pub(crate) fn matrix_in(hall: &[u8; HALL_BYTES]) -> [[bool; MAX_CELLS]; MAX_CELL
     m
 }
 
-// The same for `tray`, which lends nothing before its loop.
-pub(crate) fn matrix_of(hall: [u8; HALL_BYTES]) -> [[bool; MAX_CELLS]; MAX_CELLS]
-    ensures { result ≡ matrix_in hall }
-{
-    matrix_in(&hall)
-}
-
-// The tray's own answer, by what its judging handed on: "a longer one is refused with 4, then a bad table with 1".
-pub(crate) fn verdict(hall: [u8; HALL_BYTES], count: usize) -> u32
-    ensures { result ≡ verdict_of hall «count» }
+// The tray's own answer, by what its judging handed on: "a longer one is refused with 4, then a bad table with 1". A number: the C interface hands it on (monitor_tray).
+pub(crate) fn verdict(hall: &[u8; HALL_BYTES], count: usize) -> u32
+    ensures { result ≡ verdict_of hall.now «count» }
 {
     if too_long(count) {
         return XB_PARAM;
@@ -105,70 +100,26 @@ pub(crate) fn due(error: u32, count: usize) -> usize
 }
 
 // The record with its answer; its other fields stay.
-fn answered(r: Record, x: Answer) -> Record
-    ensures { result ≡ answered_by r x }
+fn answered(r: Record, ended: Ended) -> Record
+    ensures { result ≡ answered_by r (told ended) }
 {
     Record {
-        caller: r.caller,
-        code: r.code,
-        a: r.a,
-        b: r.b,
-        c: r.c,
-        offset: r.offset,
-        length: r.length,
-        answer: x,
+        answer: told(ended),
+        ..r
     }
 }
 
 // A record whose part lies outside the byte slice: the caller, then the code, then the part.
-fn outside(t: &[u32], n: Header, r: Record) -> Answer
+fn outside(t: &[u32], n: Header, r: Record) -> Ended
     requires { Known t.now n }
-    ensures { result ≡ said (outside_number (state_of t.now []) (rule_record r)) 0 0 }
+    ensures { told result ≡ said (outside_number (state_of t.now []) (rule_record r)) 0 0 }
 {
-    if bad_caller(t, n, r.caller) {
-        return refused(XB_PR_SD);
-    }
-    if bad_code(r.code) {
-        return refused(XBD_KCL);
-    }
-    refused(XB_SZ)
+    asked(t, n, r.caller, r.code)?;
+    Err(Error::XbSz)
 }
 
-// One record on a judged table: it is taken apart, its call is run on its part of the bytes, and its answer is stored in it.
+// One record on a judged table: it is taken apart, its call is run on its part of the bytes, and its answer is stored in it. A working slice is right before and after.
 pub(crate) fn run(
-    t: &mut [u32],
-    store: &mut [u8],
-    bytes: &mut [u8],
-    m: &[[bool; MAX_CELLS]; MAX_CELLS],
-    hall: &[u8; HALL_BYTES],
-    r: Record,
-) -> Record
-    requires { Ready t.old store.old m.now hall.now }
-    ensures { Ran (state_of t.old store.old) bytes.old r result t.new store.new bytes.new }
-{
-    let from = wide(r.offset);
-    let end = from + wide(r.length);
-    if end <= bytes.len() {
-        let x = call_judged(
-            t,
-            store,
-            m,
-            hall,
-            r.caller,
-            r.code,
-            r.a,
-            r.b,
-            r.c,
-            &mut bytes[from..end],
-        );
-        return answered(r, x);
-    }
-    let n = header_of(t);
-    answered(r, outside(t, n, r))
-}
-
-// The same by the quick engine: the working slice is right before and after.
-pub(crate) fn run_quick(
     t: &mut [u32],
     store: &mut [u8],
     bytes: &mut [u8],
@@ -177,14 +128,14 @@ pub(crate) fn run_quick(
     hall: &[u8; HALL_BYTES],
     r: Record,
 ) -> Record
-    requires { Ready t.old store.old m.now hall.now × RightIn t.old w.old }
+    requires { Ready t.old store.old m.now hall.now × OwnIfLent t.old w.old }
     ensures ran { Ran (state_of t.old store.old) bytes.old r result t.new store.new bytes.new }
-    ensures right_in { RightIn t.new w.new }
+    ensures right_in { OwnIfLent t.new w.new }
 {
     let from = wide(r.offset);
-    let to = from + wide(r.length);
-    if to <= bytes.len() {
-        let x = call_quick(
+    let end = from + wide(r.length);
+    if end <= bytes.len() {
+        let x = call_judged(
             t,
             store,
             m,
@@ -195,7 +146,7 @@ pub(crate) fn run_quick(
             r.a,
             r.b,
             r.c,
-            &mut bytes[from..to],
+            &mut bytes[from..end],
         );
         return answered(r, x);
     }

@@ -1,161 +1,125 @@
--- What each way through the check's code comes to.
-use Rattle.std.proofs.Common.{◌≡◌, ℕ, suc, ◌+◌, ◌-◌, ◌<◌, ◌≤◌, min, Bool, true, false, not, ◌||◌, eqb, List, [], ◌∷◌, length, get_or, take, drop, sym, refl, ap, ◌∙◌, subst, ap₂, true≢false, arith, drop_of_length-le, length-take, drop-cons, get_or-take, eqb-true}
-use native.Mathlib.Decide.{dec_lt}
-use Rattle.laws.proofs.Tests.{cond-true, cond-false}
-use Rattle.output.specs.Wrote.{Wrote}
-use Rattle.session.specs.declared.Session.{Session}
-use Rattle.session.specs.declared.Stepped.{Stepped}
-use Rattle.session.specs.Turn.{finish_text, Turn, turn, Written, Turned}
+-- What the check's code comes to: the part of the output that waits, and how far that and a piece of what is recorded agree.
+use Rattle.std.proofs.Common.{◌≡◌, ℕ, suc, ◌+◌, ◌-◌, ◌%◌, ◌^◌, ◌<◌, ◌≤◌, min, Bool, cond, not, eqb, List, [], ◌∷◌, length, get_or, take, drop, sym, refl, ap, ◌∙◌, ap₂, mod-eq_of_lt, arith, length-drop, length-take, drop_of_length-le, take_all, add-zero}
+use Rattle.std.proofs.lemmas.List.{take_min, drop-take}
+use Rattle.std.proofs.lemmas.List.Sums.{sum_by-cons, common_prefix_len-le}
+use Rattle.std.proofs.Math.Nat.{mod-add-mod}
+use Rattle.std.specs.List.{zip, take_while, common_prefix_len}
+use Rattle.std.specs.Prelude.{◌==◌}
+use native.Mathlib.Decide.{dec_le}
+use Rattle.laws.proofs.Tests.{split}
 use Rattle.checker.specs.declared.Check.{Check}
-use Rattle.checker.specs.declared.Finding as code
-use Rattle.checker.specs.declared.Finding.TheVariants as found
-use Rattle.rules.specs.Finding.{ends_line, said}
-use Rattle.checker.specs.Scan.{lines_after, agreeing, alike, verdict}
-use Rattle.checker.specs.Check.{waits, filled, Fed, fed, Feeds, ended, last_check, last_output, coded, meant}
+use Rattle.checker.specs.declared.Checked.{Checked}
+use Rattle.rules.specs.Finding.{ends_line}
+use Rattle.checker.specs.Scan.{lines_in, ends_within, Agreed, lines_after, agreeing}
+use Rattle.checker.specs.Check.{waiting, agreed, met}
 
--- ---- what is due next
-module _ (x : Check) (t st l o s : List ℕ) (i : ℕ) where
-  pub due-waits : waits x ≡ true → Feeds (fed x t st l o s i) (record { check = x; next = i }) t st l o
-  unfolding fed
-  due-waits e =
-      subst (λ (k : Fed). Feeds k (record { check = x; next = i }) t st l o) (sym (cond-true (waits x) _ _ e))
-      (record { check = refl; next = refl; table = refl; store = refl; buffer = refl; output = refl; short = omega arith })
+-- ---- a part of a slice, from one place to another, both kept within it: of what ends at place e, what stands from place i on
+pub part : (l : List ℕ) (i e k m : ℕ) → m ≡ min e (length l) → k ≡ min i m → take (m - k) (drop k l) ≡ drop i (take e l)
+part l i e k m f g =
+    let n : k + (m - k) ≡ m = omega arith in
+    let whole : take m l ≡ take e l = ap (λ (j : ℕ). take j l) f ∙ take_min e l in
+    let size : length (take m l) ≡ m = omega (arith, length-take m l) in
+    sym (drop-take k (m - k) l) ∙ ap (λ (a : ℕ). drop k (take a l)) n ∙ elim (dec_le i m) [
+      | yes h ↦ ap₂ drop (let z : k ≡ i = omega arith in z) whole
+      | no h ↦
+          drop_of_length-le (take m l) (omega arith)
+          ∙ sym (drop_of_length-le (take e l) (rw (← whole) (omega arith)))
+    ]
 
-  pub due-steps : (r : Stepped) (t' st' l' o' : List ℕ) → waits x ≡ false → Turned (turn x.session t st l s i) o 0 r t' st' l' o'
-      → Feeds (fed x t st l o s i) (record { check = filled x r.session r.end; next = r.next }) t' st' l' o'
-  unfolding fed
-  due-steps r t' st' l' o' e p =
-      let k : Turn = turn x.session t st l s i in
-      let n : r.end ≡ min (length k.text) (length o) = omega (arith, p.written.text.next) in
-      subst (λ (z : Fed). Feeds z (record { check = filled x r.session r.end; next = r.next }) t' st' l' o') (sym (cond-false (waits x) _ _ e))
-      (record {
-        check = ap₂ (filled x) p.session n;
-        next = p.next;
-        table = p.table;
-        store = p.store;
-        buffer = p.buffer;
-        output = p.written.text.left;
-        short = p.written.short;
-      })
+-- ---- and from one place to its end
+pub rest : (l : List ℕ) (i k : ℕ) → k ≡ min i (length l) → take (length l - k) (drop k l) ≡ drop i l
+rest l i k e = part l i (length l) k (length l) (omega arith) e ∙ ap (drop i) (take_all (length l) l (omega arith))
 
--- ---- the input has ended
-module _ (x : Check) (o : List ℕ) where
-  pub last-waits : waits x ≡ true → (x ≡ last_check x o) × (o ≡ last_output x o)
-  unfolding last_check last_output
-  last-waits e = (sym (cond-true (waits x) _ _ e), sym (cond-true (waits x) _ _ e))
+-- ---- whether a part of a line stands at the end of a text: its last byte decides
+last-byte : (w : Bool) (b : ℕ) (s : List ℕ) → not (ends_line (get_or (b ∷ s) (length s) 0)) ≡ ends_within w (b ∷ s)
+unfolding ends_within
+last-byte w b [] = refl
+last-byte w b (c ∷ s) = last-byte (not (ends_line b)) c s
 
-  pub last-text : (y : Session) (n : ℕ) (o' : List ℕ) → waits x ≡ false → y ≡ ended x.session → Written o 0 (finish_text x.session) n o'
-      → (filled x y n ≡ last_check x o) × (o' ≡ last_output x o)
-  unfolding last_check last_output
-  last-text y n o' e f w =
-      let m : n ≡ min (length (finish_text x.session)) (length o) = omega (arith, w.text.next) in
-      (ap₂ (filled x) f m ∙ sym (cond-false (waits x) _ _ e), w.text.left ∙ sym (cond-false (waits x) _ _ e))
+pub ends-last : (w : Bool) (s : List ℕ) → 0 < length s → not (ends_line (get_or s (length s - 1) 0)) ≡ ends_within w s
+ends-last w [] h = absurd (omega arith)
+ends-last w (b ∷ s) h =
+    ap (λ (k : ℕ). not (ends_line (get_or (b ∷ s) k 0))) (let z : length (b ∷ s) - 1 ≡ length s = omega arith in z) ∙ last-byte w b s
 
--- ---- whether the next two bytes are the same
-module _ (z y : List ℕ) (i j : ℕ) where
-  pub alike_both : i < length z → j < length y → alike (drop i z) (drop j y) ≡ eqb (get_or z i 0) (get_or y j 0)
-  unfolding alike
-  alike_both h k = rw (drop-cons z i 0 h, drop-cons y j 0 k)
+pub ends-empty : (w : Bool) (s : List ℕ) → length s < 1 → w ≡ ends_within w s
+unfolding ends_within
+ends-empty w [] h = refl
+ends-empty w (b ∷ s) h = absurd (omega arith)
 
-  pub alike-none : length z ≤ i → alike (drop i z) (drop j y) ≡ false
-  unfolding alike
-  alike-none h = rw (drop_of_length-le z h)
+-- ---- how many bytes two texts begin with alike, as the code counts them
+abbrev alike : List ℕ → List ℕ → ℕ
+alike d r = common_prefix_len (λ b c. b == c) d r
 
-alike_end : (d : List ℕ) → alike d [] ≡ false
-unfolding alike
-alike_end [] = refl
-alike_end (b ∷ d) = refl
+first : (x : ℕ × ℕ) (xs : List (ℕ × ℕ)) (k : ℕ) → length (take (1 + k) (x ∷ xs)) ≡ 1 + length (take k xs)
+first x xs k = ap (λ (j : ℕ). length (take j (x ∷ xs))) (let z : 1 + k ≡ suc k = omega arith in z) ∙ omega arith
 
-pub alike-ended : (z y : List ℕ) (i j : ℕ) → length y ≤ j → alike (drop i z) (drop j y) ≡ false
-alike-ended z y i j h = ap (alike (drop i z)) (drop_of_length-le y h) ∙ alike_end (drop i z)
+abbrev pub counted : List ℕ → List ℕ → ℕ
+counted d r = length (take_while (λ (p : ℕ × ℕ). p.0 == p.1) (zip d r))
 
-pub alike-inside : (z y : List ℕ) (i j : ℕ) → alike (drop i z) (drop j y) ≡ true → (i < length z) × (j < length y)
-alike-inside z y i j e = elim (dec_lt i (length z)) [
-  | yes h ↦ elim (dec_lt j (length y)) [
-    | yes k ↦ (h, k)
-    | no k ↦ absurd (true≢false (sym e ∙ alike-ended z y i j (omega arith)))
-  ]
-  | no h ↦ absurd (true≢false (sym e ∙ alike-none z y i j (omega arith)))
-]
+zip-alike : (d r : List ℕ) → counted d r ≡ alike d r
+zip-alike [] r = refl
+zip-alike (b ∷ d) [] = refl
+zip-alike (b ∷ d) (c ∷ r) =
+    split _ (eqb b c)
+    (λ e. rw e (first (b, c) (zip d r) _ ∙ ap (λ (k : ℕ). 1 + k) (zip-alike d r)))
+    (λ e. rw e refl)
 
--- as the code asks: the text ends at a place
-module _ (o y : List ℕ) (i e j : ℕ) where
-  pub asked-both : i < e → i < length o → j < length y → eqb (get_or o i 0) (get_or y j 0) ≡ alike (drop i (take e o)) (drop j y)
-  asked-both h k m =
-      let n = length-take e o in
-      sym (alike_both (take e o) y i j (omega arith) m ∙ ap (λ (b : ℕ). eqb b (get_or y j 0)) (get_or-take e o i 0 h))
+-- ---- how far two texts agree, where that is so for k bytes
+abbrev so_far : ℕ → Bool → ℕ → ℕ → List ℕ → ℕ → Agreed
+so_far n w i j d k =
+    record { lines = (n + lines_in (take k d)) % 2 ^ 64; within = ends_within w (take k d); at = i + k; next = j + k }
 
-  pub asked-ended : length y ≤ j → false ≡ alike (drop i (take e o)) (drop j y)
-  asked-ended h = sym (alike-ended (take e o) y i j h)
+no-more : (n : ℕ) (w : Bool) (i j : ℕ) (d : List ℕ) → ◌≡◌ {A = Agreed} (record { lines = n % 2 ^ 64; within = w; at = i; next = j }) (so_far n w i j d 0)
+unfolding ends_within
+no-more n w i j d = simp add-zero
 
-  pub asked-past : length o ≤ i → false ≡ alike (drop i (take e o)) (drop j y)
-  asked-past h = let n = length-take e o in sym (alike-none (take e o) y i j (omega arith))
+lines-cons : (b : ℕ) (s : List ℕ) → lines_in (b ∷ s) ≡ cond (ends_line b) 1 0 + lines_in s
+lines-cons b s = sum_by-cons (λ (x : ℕ). cond (ends_line x) 1 0) b s
 
-  pub asked-none : e ≤ i → false ≡ alike (drop i (take e o)) (drop j y)
-  asked-none h = let n = length-take e o in sym (alike-none (take e o) y i j (omega arith))
+one-more : (n : ℕ) (w : Bool) (i j b : ℕ) (d : List ℕ) (k : ℕ)
+    → so_far (n + cond (ends_line b) 1 0) (not (ends_line b)) (i + 1) (j + 1) d k ≡ so_far n w i j (b ∷ d) (1 + k)
+unfolding ends_within
+one-more n w i j b d k =
+    let more : suc k ≡ 1 + k = omega arith in
+    (λ q. record {
+      lines = (let z : n + cond (ends_line b) 1 0 + lines_in (take k d) ≡ n + lines_in (b ∷ take k d) = omega (arith, lines-cons b (take k d)) in z) q % 2 ^ 64;
+      within = ends_within (not (ends_line b)) (take k d);
+      at = (let z : i + 1 + k ≡ i + suc k = omega arith in z) q;
+      next = (let z : j + 1 + k ≡ j + suc k = omega arith in z) q;
+    }) ∙ ap (so_far n w i j (b ∷ d)) more
 
--- ---- how far they agree
-agree-heads : (n : ℕ) (w : Bool) (i j b c : ℕ) (d r : List ℕ) → eqb b c ≡ true
-    → agreeing n w i j (b ∷ d) (c ∷ r) ≡ agreeing (lines_after c n) (not (ends_line c)) (i + 1) (j + 1) d r
+one-line : (b n : ℕ) → lines_after b (n % 2 ^ 64) ≡ (n + cond (ends_line b) 1 0) % 2 ^ 64
+one-line b n = split _ (ends_line b) (λ e. rw e (mod-add-mod n (2 ^ 64) 1)) (λ e. rw (e, add-zero) refl)
+
+agreeing-is : (n : ℕ) (w : Bool) (i j : ℕ) (d r : List ℕ) → agreeing (n % 2 ^ 64) w i j d r ≡ so_far n w i j d (alike d r)
 unfolding agreeing
-agree-heads n w i j b c d r e = rw e (ap (λ (a : ℕ). agreeing (lines_after a n) (not (ends_line a)) (i + 1) (j + 1) d r) (eqb-true b c e))
+agreeing-is n w i j [] r = no-more n w i j []
+agreeing-is n w i j (b ∷ d) [] = no-more n w i j (b ∷ d)
+agreeing-is n w i j (b ∷ d) (c ∷ r) =
+    split _ (eqb b c)
+    (λ e. rw e (ap (λ (m : ℕ). agreeing m (not (ends_line b)) (i + 1) (j + 1) d r) (one-line b n)
+    ∙ agreeing-is (n + cond (ends_line b) 1 0) (not (ends_line b)) (i + 1) (j + 1) d r
+    ∙ one-more n w i j b d (alike d r)))
+    (λ e. rw e (no-more n w i j (b ∷ d)))
 
-agree-apart : (n : ℕ) (w : Bool) (i j : ℕ) (d r : List ℕ) → alike d r ≡ false → agreeing n w i j d r ≡ record { lines = n; within = w; at = i; next = j }
-unfolding agreeing alike
-agree-apart n w i j [] r e = refl
-agree-apart n w i j (b ∷ d) [] e = refl
-agree-apart n w i j (b ∷ d) (c ∷ r) e = rw e
+-- as the code has it
+pub compared-within : (x : Check) (o r : List ℕ) (i n : ℕ) (due recorded : List ℕ) → due ≡ waiting x o → recorded ≡ drop i r → n ≡ counted due recorded
+    → (n ≤ length due) × (n ≤ x.end - x.at) × (n ≤ length r - i)
+compared-within x o r i n due recorded ed er en =
+    let z = common_prefix_len-le (λ (b c : ℕ). b == c) due recorded in
+    let y = en ∙ zip-alike due recorded in
+    let a = ap length ed in
+    let b = ap length er in
+    (omega arith, omega (arith, length-drop x.at (take x.end o), length-take x.end o), omega (arith, length-drop i r))
 
-module _ (n : ℕ) (w : Bool) (z y : List ℕ) (i j : ℕ) where
-  -- one byte more, which is b, and m lines with it
-  pub agree-one : (b m : ℕ) → alike (drop i z) (drop j y) ≡ true → b ≡ get_or y j 0 → m ≡ lines_after b n
-      → agreeing m (not (ends_line b)) (i + 1) (j + 1) (drop (i + 1) z) (drop (j + 1) y) ≡ agreeing n w i j (drop i z) (drop j y)
-  agree-one b m e f g =
-      let h = alike-inside z y i j e in
-      let p : i + 1 ≡ suc i = omega arith in
-      let q : j + 1 ≡ suc j = omega arith in
-      ap (λ (a : ℕ). agreeing a (not (ends_line b)) (i + 1) (j + 1) (drop (i + 1) z) (drop (j + 1) y)) g
-      ∙ ap (λ (a : ℕ). agreeing (lines_after a n) (not (ends_line a)) (i + 1) (j + 1) (drop (i + 1) z) (drop (j + 1) y)) f
-      ∙ ap₂ (λ (u v : ℕ). agreeing (lines_after (get_or y j 0) n) (not (ends_line (get_or y j 0))) (i + 1) (j + 1) (drop u z) (drop v y)) p q
-      ∙ sym (ap₂ (agreeing n w i j) (drop-cons z i 0 h.0) (drop-cons y j 0 h.1)
-      ∙ agree-heads n w i j (get_or z i 0) (get_or y j 0) (drop (suc i) z) (drop (suc j) y) (sym (alike_both z y i j h.0 h.1) ∙ e))
-
-  -- no more
-  pub agree-none : alike (drop i z) (drop j y) ≡ false → record { lines = n; within = w; at = i; next = j } ≡ agreeing n w i j (drop i z) (drop j y)
-  agree-none e = sym (agree-apart n w i j (drop i z) (drop j y) e)
-
--- ---- what is found: n lines agree, and in w a part of the next; p says whether text waits, m whether recorded bytes are left
-pub found-wrong : (n : ℕ) (w p m : Bool) → p ≡ true → m || w ≡ true → found.Wrong n ≡ coded (verdict n w p m)
-unfolding verdict
-found-wrong n w true true e f = refl
-found-wrong n true true false e f = refl
-found-wrong n false true false e f = absurd (true≢false (sym f))
-found-wrong n w false m e f = absurd (true≢false (sym e))
-
-pub found-missing : (n : ℕ) (w p m : Bool) → p ≡ true → m || w ≡ false → found.Missing n ≡ coded (verdict n w p m)
-unfolding verdict
-found-missing n w true true e f = absurd (true≢false f)
-found-missing n true true false e f = absurd (true≢false f)
-found-missing n false true false e f = refl
-found-missing n w false m e f = absurd (true≢false (sym e))
-
-module _ (n k : ℕ) (w p m : Bool) where
-  pub found-longer : p ≡ false → m ≡ true → w ≡ true → found.Wrong n ≡ coded (verdict n w p m)
-  unfolding verdict
-  found-longer e f g = rw (e, f, g)
-
-  pub found-over : k ≡ n - 1 → p ≡ false → m ≡ true → w ≡ false → found.Over k ≡ coded (verdict n w p m)
-  unfolding verdict
-  found-over h e f g = rw (e, f, g, h)
-
-  pub found-cut : p ≡ false → m ≡ false → w ≡ true → found.Agree n ≡ coded (verdict n w p m)
-  unfolding verdict
-  found-cut e f g = rw (e, f, g)
-
-  pub found-agree : k ≡ n - 1 → p ≡ false → m ≡ false → w ≡ false → found.Agree k ≡ coded (verdict n w p m)
-  unfolding verdict
-  found-agree h e f g = rw (e, f, g, h)
-
--- the line that says it, by the finding's name
-pub as-meant : (f g : code.Finding) (o : List ℕ) (at r : ℕ) (o' : List ℕ) → f ≡ g → Wrote o at (said (meant g)) r o' → Wrote o at (said (meant f)) r o'
-as-meant f g o at r o' e w = subst (λ (z : code.Finding). Wrote o at (said (meant z)) r o') (sym e) w
+pub compared : (x : Check) (o r : List ℕ) (i n m : ℕ) (w : Bool) (due recorded : List ℕ) → x.lines < 2 ^ 64 → due ≡ waiting x o → recorded ≡ drop i r
+    → n ≡ counted due recorded → m ≡ lines_in (take n due) → w ≡ ends_within x.within (take n due)
+    → ◌≡◌ {A = Checked} (record { check = record x { at = x.at + n; lines = (x.lines + m) % 2 ^ 64; within = w }; next = i + n }) (met x (agreed x o r i))
+compared x o r i n m w due recorded h ed er en em ew =
+    let known : ◌≡◌ {A = Agreed} (record { lines = (x.lines + m) % 2 ^ 64; within = w; at = x.at + n; next = i + n }) (so_far x.lines x.within x.at i due n) =
+    λ q. record { lines = (x.lines + em q) % 2 ^ 64; within = ew q; at = x.at + n; next = i + n } in
+    ap (met x) (known
+    ∙ ap (so_far x.lines x.within x.at i due) (en ∙ zip-alike due recorded)
+    ∙ sym (agreeing-is x.lines x.within x.at i due recorded)
+    ∙ ap (λ (a : ℕ). agreeing a x.within x.at i due recorded) (mod-eq_of_lt h)
+    ∙ ap₂ (agreeing x.lines x.within x.at i) ed er)

@@ -25,7 +25,7 @@ wants_input x = not (waits x || x.session.over)
 
 -- a text of n bytes stands at the front of the output, of a session that is y then
 abbrev pub filled : Check → Session → ℕ → Check
-filled x y n = record { session = y; at = 0; end = n; lines = x.lines; within = x.within }
+filled x y n = record x { session = y; at = 0; end = n }
 
 -- ---- what is due next
 
@@ -85,11 +85,7 @@ abbrev pub agreed : Check → List ℕ → List ℕ → ℕ → Agreed
 agreed x o r i = agreeing x.lines x.within x.at i (waiting x o) (drop i r)
 
 abbrev pub met : Check → Agreed → Checked
-met x k =
-    record {
-      check = record { session = x.session; at = k.at; end = x.end; lines = k.lines; within = k.within };
-      next = k.next;
-    }
+met x k = record { check = record x { at = k.at; lines = k.lines; within = k.within }; next = k.next }
 
 -- ---- the finding, as the code has it
 abbrev pub coded : Finding → code.Finding

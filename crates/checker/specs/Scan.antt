@@ -1,5 +1,5 @@
 -- The finding, byte by byte: what is due is compared with what is recorded as both come, and no line of either need be held.
-use Rattle.std.specs.Prelude.{ℕ, ◌+◌, ◌-◌, ◌%◌, ◌^◌, Bool, true, false, cond, not, List, [], ◌∷◌, ◌==◌}
+use Rattle.std.specs.Prelude.{ℕ, ◌+◌, ◌-◌, ◌%◌, ◌^◌, Bool, true, false, cond, not, List, [], ◌∷◌, ◌==◌, count_by}
 use Rattle.rules.specs.Finding.{ends_line, Finding, agree, wrong, missing, over}
 
 -- One of the two has ended, or their next bytes differ: n lines agree, and in w a part of the next one; `due` and `more` say whether bytes are left of what is
@@ -33,6 +33,14 @@ agreeing n w i j [] r = record { lines = n; within = w; at = i; next = j }
 agreeing n w i j (b ∷ d) [] = record { lines = n; within = w; at = i; next = j }
 agreeing n w i j (b ∷ d) (c ∷ r) =
     cond (b == c) (agreeing (lines_after b n) (not (ends_line b)) (i + 1) (j + 1) d r) (record { lines = n; within = w; at = i; next = j })
+
+-- of the bytes that do, as many lines as end in them, and whether a part of a line stands at their end, or did before them
+abbrev pub lines_in : List ℕ → ℕ
+lines_in s = count_by ends_line s
+
+unfoldable pub ends_within : Bool → List ℕ → Bool
+ends_within w [] = w
+ends_within w (b ∷ s) = ends_within (not (ends_line b)) s
 
 -- whether a byte of each is left, and they are the same
 unfoldable pub alike : List ℕ → List ℕ → Bool

@@ -5,14 +5,14 @@
 // does not want input, or where none are left and what is recorded has ended, `found` says what was found.
 #![tactic(auto)]
 
-ghost use Rattle.std.specs.Prelude.{◌≡◌, ◌-◌, ◌++◌, take, drop};
+ghost use Rattle.std.specs.Prelude.{◌≡◌, ◌==◌, ◌++◌, length, drop, take_while};
+ghost use Rattle.std.specs.List.{zip};
 ghost use Rattle.rules.specs.Replay.{decimal};
 ghost use Rattle.output.specs.Wrote.{Wrote};
 ghost use Rattle.session.specs.Turn.{blank_table};
 ghost use Rattle.rules.specs.Finding.{said};
-ghost use Rattle.checker.specs.Scan.{lines_after, verdict};
-ghost use Rattle.checker.specs.Scan.{alike as Scan·alike};
-ghost use Rattle.checker.specs.Check.{new_check, waits, wants_input, fed, Feeds, ended, last_check, last_output, agreed, met, coded, meant};
+ghost use Rattle.checker.specs.Scan.{lines_in, ends_within, verdict};
+ghost use Rattle.checker.specs.Check.{new_check, waits, wants_input, filled, fed, Feeds, last_check, last_output, waiting, agreed, met, coded, meant};
 
 use session::Session;
 
@@ -35,7 +35,7 @@ pub struct Checked {
 }
 
 // What was found, with a line's number: all agree and this is the last; this one is wrong; they are missing from this one on; there is more after this one, the last.
-#[derive(Clone, Copy)]
+#[derive(Clone, Copy, PartialEq, Eq)]
 pub enum Finding {
     Agree(u64),
     Wrong(u64),
@@ -44,18 +44,38 @@ pub enum Finding {
 }
 
 impl Check {
+    // Whether text that is due waits for recorded bytes.
     fn waits(self) -> bool
         ensures { result ≡ waits self }
     {
         self.at < self.end
     }
 
+    // That text.
+    fn waiting(self, out: &[u8]) -> &[u8]
+        ensures { result.now ≡ waiting self out.now }
+    {
+        let end = self.end.min(out.len());
+        &out[self.at.min(end)..end]
+    }
+
+    // A text that is due, of so many bytes, stands at the front of the output, and the session is this by then.
+    fn filled(self, session: Session, end: usize) -> Check
+        ensures { result ≡ filled self session end }
+    {
+        Check {
+            session,
+            at: 0,
+            end,
+            ..self
+        }
+    }
+
     // Whether the check goes on with the input: all that is due so far is compared, and more may come.
     pub fn wants_input(self) -> bool
         ensures { result ≡ wants_input self }
     {
-        let session = self.session;
-        !((self.at < self.end) | session.over)
+        !(self.waits() || self.session.over)
     }
 }
 
@@ -63,9 +83,8 @@ impl Check {
 pub fn start(table: &mut [u32]) -> Check
     ensures { (result ≡ new_check) × (table.new ≡ blank_table table.old) }
 {
-    let session = session::start(table);
     Check {
-        session,
+        session: session::start(table),
         at: 0,
         end: 0,
         lines: 0,
@@ -74,6 +93,7 @@ pub fn start(table: &mut [u32]) -> Check
 }
 
 // Goes on in a piece of the input, from a place on, up to the next text that is due, or the piece's end.
+#[tactic(auto, unfolding(crate::specs::Check::fed))]
 pub fn due(
     x: Check,
     table: &mut [u32],
@@ -91,135 +111,86 @@ pub fn due(
             next: from,
         };
     }
-    let session = x.session;
-    let r = session::step(session, table, store, buf, out, 0, s, from);
-    let stepped = r.session;
-    let check = Check {
-        session: stepped,
-        at: 0,
-        end: r.end,
-        lines: x.lines,
-        within: x.within,
-    };
+    let r = session::step(x.session, table, store, buf, out, 0, s, from);
     Checked {
-        check,
+        check: x.filled(r.session, r.end),
         next: r.next,
     }
 }
 
-// The same session, of which nothing more is due.
-fn over(y: Session) -> Session
-    ensures { result ≡ ended y }
-{
-    let reader = y.reader;
-    Session {
-        reader,
-        lines: y.lines,
-        words: y.words,
-        bytes: y.bytes,
-        over: true,
-    }
-}
-
 // The input has ended: the text that is due then, and nothing after it.
+#[tactic(auto, unfolding(crate::specs::Check::last_check, crate::specs::Check::last_output))]
 pub fn last(x: Check, out: &mut [u8]) -> Check
     ensures { (result ≡ last_check x out.old) × (out.new ≡ last_output x out.old) }
 {
     if x.waits() {
         return x;
     }
-    let before = x.session;
-    let end = session::finish(before, out);
-    let session = over(before);
-    Check {
-        session,
-        at: 0,
-        end,
-        lines: x.lines,
-        within: x.within,
-    }
+    let end = session::finish(x.session, out);
+    let over = Session {
+        over: true,
+        ..x.session
+    };
+    x.filled(over, end)
 }
 
-// Whether a byte of the text that ends at a place is left, and one of what is recorded, and they are the same.
-fn alike(out: &[u8], at: usize, end: usize, r: &[u8], next: usize) -> bool
-    ensures { result ≡ Scan·alike (drop at (take end out.now)) (drop next r.now) }
+// How many bytes the two begin with alike.
+fn alike(due: &[u8], recorded: &[u8]) -> usize
+    ensures { result ≡ length (take_while (λ p. p.0 == p.1) (zip due.now recorded.now)) }
 {
-    if at < end {
-        if at < out.len() {
-            if next < r.len() {
-                return out[at] == r[next];
-            }
-        }
-    }
-    false
+    due.iter().zip(recorded).take_while(|(b, c)| b == c).count()
 }
 
-// How many lines agree, with one byte more.
-fn lines_after(b: u8, n: u64) -> u64
-    ensures { result ≡ lines_after b n }
+// How many lines end in a text.
+fn lines_in(text: &[u8]) -> usize
+    ensures { result ≡ lines_in text.now }
 {
-    if b == 10 {
-        return std::num::wrapping_add_u64(n, 1);
+    text.iter().filter(|b| **b == b'\n').count()
+}
+
+// Whether a part of a line stands at the end of a text, or stood before it where it is empty.
+fn ends_within(text: &[u8], before: bool) -> bool
+    ensures { result ≡ ends_within before text.now }
+{
+    match text {
+        [.., last] => *last != b'\n',
+        [] => before,
     }
-    n
 }
 
 // Compares the text that waits with a piece of what is recorded, from a place on, as far as they agree.
 pub fn compare(x: Check, out: &[u8], r: &[u8], from: usize) -> Checked
     ensures { result ≡ met x (agreed x out.now r.now from) }
 {
-    let session = x.session;
-    let end = x.end;
-    let mut at = x.at;
-    let mut next = from;
-    let mut lines = x.lines;
-    let mut within = x.within;
-    while alike(out, at, end, r, next) {
-        let b = words::byte(r, next);
-        lines = lines_after(b, lines);
-        within = !(b == 10);
-        at += 1;
-        next += 1;
+    let due = x.waiting(out);
+    let recorded = &r[from.min(r.len())..];
+    let n = alike(due, recorded);
+    let same = &due[..n];
+    Checked {
+        check: Check {
+            at: x.at + n,
+            lines: x.lines.wrapping_add(lines_in(same) as u64),
+            within: ends_within(same, x.within),
+            ..x
+        },
+        next: from + n,
     }
-    let check = Check {
-        session,
-        at,
-        end,
-        lines,
-        within,
-    };
-    Checked { check, next }
-}
-
-// The number before n, and 0 where there is none.
-fn before(n: u64) -> u64
-    ensures { result ≡ n - 1 }
-{
-    if n == 0 { 0 } else { n - 1 }
 }
 
 // What is found, where the check wants no input; `more` says whether a recorded byte is left that does not agree.
+#[tactic(auto, unfolding(crate::specs::Scan::verdict))]
 pub fn found(x: Check, more: bool) -> Finding
     ensures { result ≡ coded (verdict x.lines x.within (waits x) more) }
 {
     let n = x.lines;
-    let last = before(n);
-    if x.waits() {
-        if more | x.within {
-            return Finding::Wrong(n);
-        }
-        return Finding::Missing(n);
+    let last = n.saturating_sub(1);
+    match (x.waits(), more, x.within) {
+        (true, false, false) => Finding::Missing(n),
+        (true, _, _) | (_, true, true) => Finding::Wrong(n),
+        (false, true, false) => Finding::Over(last),
+        (false, false, true) => Finding::Agree(n),
+        (false, false, false) => Finding::Agree(last),
     }
-    if more {
-        if x.within {
-            return Finding::Wrong(n);
-        }
-        return Finding::Over(last);
-    }
-    if x.within {
-        return Finding::Agree(n);
-    }
-    Finding::Agree(last)
 }
 
 // A number between two texts; answers the place past them.
@@ -231,7 +202,8 @@ fn put_around(out: &mut [u8], at: usize, front: &[u8], n: u64, back: &[u8]) -> u
     output::put_bytes(out, past, back)
 }
 
-// The line that says what was found; answers the place past it.
+// The line that says what was found; answers the place past it. (No `Display`: the clause names each byte in a lent slice, cut where the slice ends, and a `Display`
+// would need a writer over the slice, with a law for each of its calls, to say the same.)
 pub fn put_finding(out: &mut [u8], at: usize, f: Finding) -> usize
     ensures { Wrote out.old at (said (meant f)) result out.new }
 {

@@ -1,24 +1,23 @@
 -- Identifiers of the three kinds, each made by its own check, and the word of a seid where its parts fit.
-use Rattle.std.specs.Prelude.{Bool, ◌&&◌, cond, ℕ, leb, ltb}
-use Rattle.rules.specs.Layout as rules
-use Rattle.rules.specs.Layout.{max_serial}
+use Rattle.std.specs.Prelude.{Bool, ◌&&◌, cond, Option, Some, None, ℕ, leb, ltb}
+use Rattle.rules.specs.Layout.{Kind, process, segment, file, max_serial}
 use Rattle.rules.specs.Seid.{class, seid, is_seid}
-use Rattle.ids.specs.declared.ProcessIs.{ProcessIs}
-use Rattle.ids.specs.declared.SegmentIs.{SegmentIs}
-use Rattle.ids.specs.declared.FileIs.{FileIs}
-use Rattle.ids.specs.declared.ProcessIs.TheVariants as process
-use Rattle.ids.specs.declared.SegmentIs.TheVariants as segment
-use Rattle.ids.specs.declared.FileIs.TheVariants as file
+use Rattle.ids.specs.declared.ProcessId.{ProcessId}
+use Rattle.ids.specs.declared.SegmentId.{SegmentId}
+use Rattle.ids.specs.declared.FileId.{FileId}
 
--- the identifier that a word is, in a table of that size
-abbrev pub process_of : ℕ → ℕ → ProcessIs
-process_of size w = cond (is_seid (class rules.process) size w) (process.Is (record { 0 = w })) process.Not
+-- the identifier of a kind that a word is, in a table of that size: `of` makes it
+abbrev pub identifier : {I : Type 0} → Kind → (ℕ → I) → ℕ → ℕ → Option I
+identifier k of size w = cond (is_seid (class k) size w) (Some (of w)) None
 
-abbrev pub segment_of : ℕ → ℕ → SegmentIs
-segment_of size w = cond (is_seid (class rules.segment) size w) (segment.Is (record { 0 = w })) segment.Not
+abbrev pub process_of : ℕ → ℕ → Option ProcessId
+process_of size w = identifier process (λ v. record { 0 = v }) size w
 
-abbrev pub file_of : ℕ → ℕ → FileIs
-file_of size w = cond (is_seid (class rules.file) size w) (file.Is (record { 0 = w })) file.Not
+abbrev pub segment_of : ℕ → ℕ → Option SegmentId
+segment_of size w = identifier segment (λ v. record { 0 = v }) size w
+
+abbrev pub file_of : ℕ → ℕ → Option FileId
+file_of size w = identifier file (λ v. record { 0 = v }) size w
 
 -- a class and an index of a byte, and a serial of two
 abbrev pub fits : ℕ → ℕ → ℕ → Bool

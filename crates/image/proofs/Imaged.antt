@@ -9,28 +9,22 @@ use lib.Dec.{ltb}
 use lib.ListN.{length, drop, length-append}
 use lib.Seq.{sets, sets-eq}
 use borrow.Author.Tests.{lt-ltb, le-ltb}
+use Rattle.std.specs.Prelude.{Option, Some, None, MatchOption, unwrap_or}
 use Rattle.rules.specs.Claim.{test}
 use Rattle.rules.specs.WellFormed.{well_formed}
 use Rattle.rules.specs.Errors.{XOK, XbTab, XbSz}
 use Rattle.output.specs.Wrote.{Wrote}
 use Rattle.output.proofs.Laws.{sets-append}
-use Rattle.laws.proofs.Tests.{split, cond-true, cond-false, refuted}
-use Rattle.laws.proofs.Claims.{holds}
+use Rattle.laws.proofs.Tests.{cond-true, cond-false}
 use Rattle.rules.specs.Image.{word_bytes, image_of, image_length, image_answer, image_out}
-use Rattle.laws.proofs.Images.{no_length}
 
 -- ---- the length
-module _ (t : List ℕ) (m : ℕ) where
-  pub length-bad : test (well_formed t m) ≡ false → 0 ≡ image_length t m
-  unfolding image_length
-  length-bad e = sym (cond-false _ _ _ e)
-
-  pub length-good : test (well_formed t m) ≡ true → (n : ℕ) → n ≡ length (word_bytes t) → n + m ≡ image_length t m
-  unfolding image_length
-  length-good e n f = rw f (sym (cond-true _ _ _ e))
-
-  length_some : (image_length t m ≡ 0 → ⊥) → test (well_formed t m) ≡ true
-  length_some n = split _ (test (well_formed t m)) (λ e. e) (λ e. absurd (n (sym (length-bad e))))
+pub length_told : (t : List ℕ) (m : ℕ) (o : Option ℕ)
+    → MatchOption o (test (well_formed t m) ≡ false) (λ n. (test (well_formed t m) ≡ true) × (n ≡ length (word_bytes t) + m))
+    → unwrap_or o 0 ≡ image_length t m
+unfolding image_length
+length_told t m None e = sym (cond-false _ _ _ e)
+length_told t m (Some n) e = e.1 ∙ sym (cond-true _ _ _ e.0)
 
 -- ---- the image
 
@@ -47,30 +41,24 @@ both-put t s out at out' w l =
 abbrev pub Answers : List ℕ → List ℕ → List ℕ → ℕ → List ℕ → Type 0
 Answers t s out r out' = (r ≡ image_answer t s out) × (out' ≡ image_out t s out)
 
-module _ (t s out : List ℕ) (n : ℕ) (is : n ≡ image_length t (length s)) where
-  pub no-image : n ≡ 0 → Answers t s out XbTab out
+module _ (t s out : List ℕ) where
+  pub no-image : test (well_formed t (length s)) ≡ false → Answers t s out XbTab out
   unfolding image_answer image_out
-  no-image z =
-      let f : test (well_formed t (length s)) ≡ false =
-      refuted (test (well_formed t (length s))) (λ e. no_length t (length s) (sym is ∙ z) (holds (well_formed t (length s)) e)) in
-      (rw f refl, rw f refl)
+  no-image f = (rw f refl, rw f refl)
 
-  module _ (some : n ≡ 0 → ⊥) where
-    formed : test (well_formed t (length s)) ≡ true
-    formed = length_some t (length s) (λ e. some (is ∙ e))
-
+  module _ (n : ℕ) (told : (test (well_formed t (length s)) ≡ true) × (n ≡ length (word_bytes t) + length s)) where
     exact : n ≡ length (image_of t s)
     unfolding image_of
-    exact = is ∙ sym (length-good t (length s) formed (length (word_bytes t)) refl) ∙ sym (length-append (word_bytes t) s)
+    exact = told.1 ∙ sym (length-append (word_bytes t) s)
 
     pub too_short : length out < n → Answers t s out XbSz out
     unfolding image_answer image_out
     too_short l =
         let f : ltb (length out) (length (image_of t s)) ≡ true = lt-ltb (length out) (length (image_of t s)) (omega (arith, exact)) in
-        (rw (formed, f) refl, rw (formed, f) refl)
+        (rw (told.0, f) refl, rw (told.0, f) refl)
 
     pub is-put : n ≤ length out → (at : ℕ) (out' out'' : List ℕ) → Wrote out 0 (word_bytes t) at out' → out'' ≡ sets out' at s → Answers t s out XOK out''
     unfolding image_answer image_out
     is-put l at out' out'' w e =
         let f : ltb (length out) (length (image_of t s)) ≡ false = le-ltb (length out) (length (image_of t s)) (omega (arith, exact)) in
-        (rw (formed, f) refl, e ∙ both-put t s out at out' w (omega (arith, exact)) ∙ sym (rw (formed, f) refl))
+        (rw (told.0, f) refl, e ∙ both-put t s out at out' w (omega (arith, exact)) ∙ sym (rw (told.0, f) refl))

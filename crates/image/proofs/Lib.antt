@@ -4,4 +4,3 @@ pub mod Largest
 pub mod Scanned
 pub mod Imaged
 pub mod Reloading
-pub mod Copying

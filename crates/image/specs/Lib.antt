@@ -1,3 +1,2 @@
 -- The image's words for its code.
 pub mod Largest
-pub mod Reading

@@ -1,13 +1,13 @@
 // The evening image and the morning reload: table and store as bytes, and back. A reload is no call: it takes history back.
 #![tactic(auto)]
 
-ghost use Rattle.std.specs.Prelude.{◌≡◌, ◌+◌, ◌≤◌, cond, length};
-ghost use Rattle.std.proofs.lemmas.List.Edits.{sets};
-ghost use Rattle.rules.specs.Replay.{encoded, numbers};
+ghost use Rattle.std.specs.Prelude.{◌≡◌, ◌+◌, ◌≤◌, length, true, false, MatchOption};
+ghost use Rattle.rules.specs.Claim.{test};
+ghost use Rattle.rules.specs.WellFormed.{well_formed};
+ghost use Rattle.rules.specs.Replay.{encoded, numbers, took, bad};
+ghost use Rattle.rules.specs.Image.{word_bytes, image_length, image_answer, image_out, read_back, reload_answer, reload_table, reload_store};
 ghost use Rattle.output.specs.Wrote.{Wrote};
-ghost use Rattle.rules.specs.Image.{word_bytes, image_length, image_answer, image_out, reload_answer, reload_table, reload_store};
 ghost use Rattle.image.specs.Largest.{most_words};
-ghost use Rattle.image.specs.Reading.{ReadIn};
 
 use numerals::{Fed, Part};
 use rules::{MAX_CONFIGURATION_WORDS, MAX_SLOTS, SLOT_WORDS, XB_PARAM, XB_SZ, XB_TAB, XOK};
@@ -18,27 +18,18 @@ const MOST_WORDS: usize = MAX_CONFIGURATION_WORDS + SLOT_WORDS * MAX_SLOTS;
 // Room for a table of some few slots: a small reload clears no more.
 const FEW_WORDS: usize = 2048;
 
-// Whether the words of an image were read, and the place past them.
-#[derive(Clone, Copy)]
-struct Read {
-    right: bool,
-    next: usize,
-}
-
 // How many bytes a number takes.
+#[tactic(auto, using(crate::proofs::Lengths::ranges))]
 fn number_length(v: u32) -> usize
-    ensures { result ≡ length (encoded v) }
+    ensures exact { result ≡ length (encoded v) }
+    ensures few { result ≤ 5 }
 {
-    if v < 128 {
-        1
-    } else if v < 16384 {
-        2
-    } else if v < 2097152 {
-        3
-    } else if v < 268435456 {
-        4
-    } else {
-        5
+    match v {
+        ..128 => 1,
+        ..16384 => 2,
+        ..2097152 => 3,
+        ..268435456 => 4,
+        _ => 5,
     }
 }
 
@@ -47,13 +38,7 @@ fn words_length(t: &[u32]) -> usize
     requires { length t.now ≤ most_words }
     ensures { result ≡ length (word_bytes t.now) }
 {
-    let mut n = 0;
-    let mut i = 0;
-    while i < t.len() {
-        n += number_length(t[i]);
-        i += 1;
-    }
-    n
+    t.iter().map(|w| number_length(*w)).sum()
 }
 
 // The words of a table from the front of a buffer on; answers the place past them.
@@ -61,33 +46,39 @@ fn put_words(out: &mut [u8], t: &[u32]) -> usize
     ensures { Wrote out.old 0 (word_bytes t.now) result out.new }
 {
     let mut at = 0;
-    let mut i = 0;
-    while i < t.len() {
-        at = numerals::put_number(out, at, t[i]);
-        i += 1;
+    for w in t {
+        at = numerals::put_number(out, at, *w);
     }
     at
 }
 
-// The length of the image of a table and a store of that many bytes; 0 where the table is bad.
+// The length of the image of a table and a store of that many bytes; none where the table is bad.
+fn exact_length(t: &[u32], store_bytes: usize) -> Option<usize>
+    ensures { MatchOption result (test (well_formed t.now store_bytes) ≡ false) (λ n.
+        (test (well_formed t.now store_bytes) ≡ true) × (n ≡ length (word_bytes t.now) + store_bytes)) }
+{
+    if !table::check(t, store_bytes) {
+        return None;
+    }
+    Some(words_length(t) + store_bytes)
+}
+
+// The same, with 0 for none.
 pub fn image_length(t: &[u32], store_bytes: usize) -> usize
     ensures { result ≡ image_length t.now store_bytes }
 {
-    if !table::check(t, store_bytes) {
-        return 0;
-    }
-    words_length(t) + store_bytes
+    exact_length(t, store_bytes).unwrap_or(0)
 }
 
-// The image of a table and its store at the front of a buffer; or it is refused, and nothing is changed.
+// The image of a table and its store at the front of a buffer; or it is refused, and nothing is changed. (Answers are numbers, here and in reload:
+// monitor_image and monitor_reload of the C interface hand them on.)
 pub fn image(t: &[u32], store: &[u8], out: &mut [u8]) -> u32
     ensures value { result ≡ image_answer t.now store.now out.old }
     ensures out_after { out.new ≡ image_out t.now store.now out.old }
 {
-    let n = image_length(t, store.len());
-    if n == 0 {
+    let Some(n) = exact_length(t, store.len()) else {
         return XB_TAB;
-    }
+    };
     if out.len() < n {
         return XB_SZ;
     }
@@ -96,83 +87,52 @@ pub fn image(t: &[u32], store: &[u8], out: &mut [u8]) -> u32
     XOK
 }
 
-// As many numbers as there are words, from the front of an image.
-fn read_words(words: &mut [u32], image: &[u8]) -> Read
-    ensures { ReadIn (numbers (length words.old) image.now) image.now result words.new }
+// As many numbers as there are words, from the front of an image; answers the bytes past them.
+fn read_words<'a>(words: &mut [u32], image: &'a [u8]) -> Option<&'a [u8]>
+    ensures { MatchOption result (numbers (length words.old) image.now ≡ bad)
+        (λ rest. numbers (length words.old) image.now ≡ took words.new rest.now) }
 {
-    let mut next = 0;
-    let mut i = 0;
-    while i < words.len() {
-        let scan = numerals::feed_all(Part { value: 0, count: 0 }, image, next);
-        let fed = scan.fed;
-        match fed {
-            Fed::Done(v) => {
-                words[i] = v;
-                next = scan.next;
-            }
-            Fed::More(_) => {
-                return Read {
-                    right: false,
-                    next: 0,
-                };
-            }
-            Fed::Bad => {
-                return Read {
-                    right: false,
-                    next: 0,
-                };
-            }
-        }
-        i += 1;
+    let mut rest = image;
+    for w in words.iter_mut() {
+        let scan = numerals::feed_all(Part::START, rest, 0);
+        let Fed::Done(v) = scan.fed else {
+            return None;
+        };
+        *w = v;
+        rest = &rest[scan.next..];
     }
-    Read { right: true, next }
+    Some(rest)
 }
 
-// The words of s over those of d, which has as many.
-fn copy(d: &mut [u32], s: &[u32])
-    requires { length d.old ≡ length s.now }
-    ensures { d.new ≡ s.now }
+// The table of an image, read into the words and judged there; answers the other bytes, where they are those of a store of that many.
+fn read_back<'a>(words: &mut [u32], store_bytes: usize, image: &'a [u8]) -> Option<&'a [u8]>
+    ensures { MatchOption result (read_back (length words.old) store_bytes image.now ≡ bad)
+        (λ store. read_back (length words.old) store_bytes image.now ≡ took words.new store.now) }
 {
-    let mut i = 0;
-    while i < d.len() {
-        d[i] = s[i];
-        i += 1;
+    let rest = read_words(words, image)?;
+    if rest.len() == store_bytes && table::check(words, store_bytes) {
+        Some(rest)
+    } else {
+        None
     }
 }
 
-// Where it is good: the words of s over those of d, which has as many.
-fn take_words(d: &mut [u32], s: &[u32], good: bool)
-    requires { length d.old ≡ length s.now }
-    ensures { d.new ≡ cond good s.now d.old }
-{
-    if good {
-        copy(d, s);
-    }
-}
-
-// Where it is good: the bytes of s from the front of d on.
-fn take_bytes(d: &mut [u8], s: &[u8], good: bool)
-    ensures { d.new ≡ cond good (sets d.old 0 s.now) d.old }
-{
-    if good {
-        words::put_bytes(d, 0, s);
-    }
-}
-
-// The image is read into words beside the table, and judged there; then only are table and store written.
-fn reload_by(t: &mut [u32], store: &mut [u8], image: &[u8], words: &mut [u32]) -> u32
-    requires { length words.old ≡ length t.old }
+// The image is read into N words or fewer beside the table, and judged there; then only are table and store written.
+fn reload_in<const N: usize>(t: &mut [u32], store: &mut [u8], image: &[u8]) -> u32
+    requires room { length t.old ≤ N }
+    requires few { N ≤ most_words }
     ensures value { result ≡ reload_answer t.old store.old image.now }
     ensures t_after { t.new ≡ reload_table t.old store.old image.now }
     ensures store_after { store.new ≡ reload_store t.old store.old image.now }
 {
-    let read = read_words(words, image);
-    let next = read.next;
-    let fits = read.right & (image.len() - next == store.len());
-    let good = table::check(words, store.len()) & fits;
-    take_words(t, words, good);
-    take_bytes(store, &image[next..], good);
-    words::first(good, XOK, XB_PARAM)
+    let mut room = [0; N];
+    let words = &mut room[..t.len()];
+    let Some(rest) = read_back(words, store.len(), image) else {
+        return XB_PARAM;
+    };
+    t.copy_from_slice(words);
+    store.copy_from_slice(rest);
+    XOK
 }
 
 // Table and store as an image has them; or it is refused, and nothing is changed. A table longer than the largest is no table.
@@ -181,14 +141,9 @@ pub fn reload(t: &mut [u32], store: &mut [u8], image: &[u8]) -> u32
     ensures t_after { t.new ≡ reload_table t.old store.old image.now }
     ensures store_after { store.new ≡ reload_store t.old store.old image.now }
 {
-    let n = t.len();
-    if n <= FEW_WORDS {
-        let mut words = [0u32; FEW_WORDS];
-        return reload_by(t, store, image, &mut words[..n]);
+    match t.len() {
+        ..=FEW_WORDS => reload_in::<FEW_WORDS>(t, store, image),
+        ..=MOST_WORDS => reload_in::<MOST_WORDS>(t, store, image),
+        _ => XB_PARAM,
     }
-    if MOST_WORDS < n {
-        return XB_PARAM;
-    }
-    let mut words = [0u32; MOST_WORDS];
-    reload_by(t, store, image, &mut words[..n])
 }

@@ -113,46 +113,32 @@ pub struct Header {
 fn short_header(t: &[u32]) -> Header
     ensures { result ≡ header_of t.now }
 {
-    let cells = word(t, 0);
-    let processes = word(t, PROCESSES);
-    let segments = word(t, SEGMENTS);
-    let files = word(t, FILES);
-    let blocks = word(t, BLOCKS);
-    let guard = word(t, GUARD);
-    let subtypes = word(t, SUBTYPES);
     Header {
-        cells,
-        processes,
-        segments,
-        files,
-        blocks,
-        guard,
-        subtypes,
+        cells: word(t, 0),
+        processes: word(t, PROCESSES),
+        segments: word(t, SEGMENTS),
+        files: word(t, FILES),
+        blocks: word(t, BLOCKS),
+        guard: word(t, GUARD),
+        subtypes: word(t, SUBTYPES),
     }
 }
 
-// With one test for all of its words: it is read at every call.
+// With one test for all of its words, where short_header has one for each: it is read at every call.
 pub fn header_of(t: &[u32]) -> Header
     ensures { result ≡ header_of t.now }
 {
     if t.len() < HEADER_WORDS {
         return short_header(t);
     }
-    let cells = t[0];
-    let processes = t[PROCESSES];
-    let segments = t[SEGMENTS];
-    let files = t[FILES];
-    let blocks = t[BLOCKS];
-    let guard = t[GUARD];
-    let subtypes = t[SUBTYPES];
     Header {
-        cells,
-        processes,
-        segments,
-        files,
-        blocks,
-        guard,
-        subtypes,
+        cells: t[0],
+        processes: t[PROCESSES],
+        segments: t[SEGMENTS],
+        files: t[FILES],
+        blocks: t[BLOCKS],
+        guard: t[GUARD],
+        subtypes: t[SUBTYPES],
     }
 }
 

@@ -53,6 +53,9 @@ level_in t c = code_level (level_at (configuration t) c)
 abbrev pub nil : Level
 nil = code_level (level 0 0 0)
 
+pub default_nil : (l : Level) → (l.security ≡ 0) × ((l.integrity ≡ 0) × (l.compartments ≡ 0)) → l ≡ nil
+default_nil l h i = record { security = h.0 i; integrity = h.1.0 i; compartments = h.1.1 i }
+
 pub levels-all : (t : List ℕ) (n c : ℕ) (all : List Level) → n ≡ min (get_or t 0 0) max_cells → n ≤ c → all ≡ tab_from 0 max_cells (up_to nil (level_in t) c)
     → all ≡ tab_from 0 max_cells (level_in t)
 levels-all t n c all e h p =

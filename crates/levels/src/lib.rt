@@ -8,22 +8,22 @@ ghost use Rattle.rules.specs.Layout.{max_cells, configuration, flow_matrix};
 ghost use Rattle.levels.specs.Rule.{rule_level, code_level, level_at};
 
 use rules::{CELL_WORDS, HEADER_WORDS, MAX_CELLS};
-use words::word;
+use words::{wide, word};
 
 // A security category, an integrity category and a set of 32 compartments, one for each bit.
-#[derive(Clone, Copy)]
+#[derive(Clone, Copy, Default, PartialEq, Eq)]
 pub struct Level {
     pub security: u32,
     pub integrity: u32,
     pub compartments: u32,
 }
 
+// Document 01 names these three methods, so that `equals` stands beside the derived `==`.
 impl Level {
     pub fn equals(self, other: Level) -> bool
         ensures { result ≡ equals (rule_level self) (rule_level other) }
     {
-        (self.security == other.security)
-            & ((self.integrity == other.integrity) & (self.compartments == other.compartments))
+        self == other
     }
 
     // Up in security and compartments, down in integrity.
@@ -46,21 +46,14 @@ pub fn level_at(t: &[u32], c: u32) -> Level
     ensures { rule_level result ≡ level_at (configuration t.now) c }
 {
     if c < word(t, 0) {
-        let at = HEADER_WORDS + CELL_WORDS * (c as usize);
-        let security = word(t, at);
-        let integrity = word(t, at + 1);
-        let compartments = word(t, at + 2);
+        let at = HEADER_WORDS + CELL_WORDS * wide(c);
         Level {
-            security,
-            integrity,
-            compartments,
+            security: word(t, at),
+            integrity: word(t, at + 1),
+            compartments: word(t, at + 2),
         }
     } else {
-        Level {
-            security: 0,
-            integrity: 0,
-            compartments: 0,
-        }
+        Level::default()
     }
 }
 
@@ -68,28 +61,16 @@ pub fn level_at(t: &[u32], c: u32) -> Level
 fn count(t: &[u32]) -> u32
     ensures { result ≡ min (get_or t.now 0 0) max_cells }
 {
-    let n = word(t, 0);
-    if n < MAX_CELLS as u32 {
-        n
-    } else {
-        MAX_CELLS as u32
-    }
+    word(t, 0).min(MAX_CELLS as u32)
 }
 
-// Each cell's level, read once.
+// Each cell's level, read once. The array is filled up to the last cell: tried, array::from_fn is slower, as it asks at every one of the sixteen.
 pub fn levels(t: &[u32]) -> [Level; MAX_CELLS]
     ensures { result ≡ tab_from 0 max_cells (λ c. code_level (level_at (configuration t.now) c)) }
 {
-    let n = count(t);
-    let mut all = [Level {
-        security: 0,
-        integrity: 0,
-        compartments: 0,
-    }; MAX_CELLS];
-    let mut c = 0;
-    while c < n {
+    let mut all = [Level::default(); MAX_CELLS];
+    for c in 0..count(t) {
         all[c as usize] = level_at(t, c);
-        c += 1;
     }
     all
 }
@@ -99,20 +80,14 @@ pub fn levels(t: &[u32]) -> [Level; MAX_CELLS]
 pub fn flow_matrix(t: &[u32]) -> [[bool; MAX_CELLS]; MAX_CELLS]
     ensures { result ≡ flow_matrix (configuration t.now) }
 {
-    let cells = count(t);
+    let n = wide(count(t));
     let all = levels(t);
-    let n = cells as usize;
     let mut m = [[false; MAX_CELLS]; MAX_CELLS];
-    let mut c = 0;
-    while c < n {
+    for c in 0..n {
         let from = all[c];
-        let mut d = 0;
-        while d < n {
-            let level = all[d];
-            m[c][d] = level.flows_from(from);
-            d += 1;
+        for d in 0..n {
+            m[c][d] = all[d].flows_from(from);
         }
-        c += 1;
     }
     m
 }

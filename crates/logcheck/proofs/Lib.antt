@@ -1,4 +1,4 @@
 -- Laws of logcheck's loop, and of what it says.
-pub mod Line
+pub mod Said
 pub mod Ways
 pub mod Right

@@ -1,31 +1,21 @@
 -- Ways through logcheck's loop: none, one after another, and what each turn comes to.
-use mathlib.Core.Bool.{Bool, true, false, ◌||◌, not, true≢false}
-use mathlib.Core.List.{List, [], ◌++◌, append_assoc}
-use mathlib.Core.Logic.{inl, inr}
-use mathlib.Core.Path.{◌≡◌, refl, sym, ap, ◌∙◌, subst}
-use Prim.Native.Nat.{ℕ, ◌<◌, ◌≤◌}
-use Rattle.std.specs.Prelude.{ℤ}
-use native.Mathlib.Omega.{arith}
-use lib.ListN.{length, take, drop}
+use Rattle.std.proofs.Common.{◌≡◌, ℕ, ◌<◌, ◌≤◌, true, false, ◌||◌, not, Option, None, Some, List, [], ◌++◌, length, drop, inl, inr, refl, sym, ap, ◌∙◌, subst, true≢false, append_assoc, length-take, length-take-le, arith}
 use Rattle.laws.proofs.Tests.{failed, refuted, cond-false, or_left, or-by-right}
 use Rattle.text.specs.Room.{line_bytes}
-use Rattle.session.specs.Turn.{blank_table}
 use Rattle.checker.specs.declared.Check.{Check}
 use Rattle.checker.specs.declared.Checked.{Checked}
 use Rattle.checker.specs.declared.Finding.{Finding}
-use Rattle.checker.specs.Check.{new_check, waits, wants_input, fed, Feeds, last_check, last_output, agreed, met}
-use Rattle.checker.proofs.Whole.{Goes, went_on, ended-input, matched, read-input, read-recorded, stopped, ended-recorded}
-use Rattle.logcheck.specs.declared.Stand.{Stand}
-use Rattle.logcheck.specs.declared.Stand.TheVariants.{Going, Found, NoInput, NoRecorded}
-use Rattle.logcheck.specs.declared.Progress.{Progress}
-use Rattle.logcheck.specs.Sought.{Front, is_going, standing, Closed, Unread, told, Finds, Way, Came, Went, Enough, Sought}
+use Rattle.checker.specs.Check.{waits, wants_input, fed, Feeds, last_check, last_output, agreed, met}
+use Rattle.checker.proofs.Whole.{went_on, ended-input, matched, read-input, read-recorded, stopped, ended-recorded}
+use Rattle.logcheck.specs.declared.piece.Piece.{Piece}
+use Rattle.logcheck.specs.declared.Log.{Log}
+use Rattle.logcheck.specs.Sought.{bytes_of, Unread, told, Finds, Way, Came, Went, Fresh, Sought}
 
-pub no_way : (p : Progress) (t st l o s r : List ℕ) → Way p t st l o s r p t st l o s r
-no_way p t st l o s r = record { input = []; recorded = []; leads = λ ys zs f g. g }
+pub no_way : (p : Log) → Way p p
+no_way p = record { input = []; recorded = []; leads = λ ys zs f g. g }
 
 -- one way after another: what is read on the second is read then
-pub onward : {p p' p'' : Progress} {t st l o s r t' st' l' o' s' r' t'' st'' l'' o'' s'' r'' : List ℕ}
-    → Way p t st l o s r p' t' st' l' o' s' r' → Way p' t' st' l' o' s' r' p'' t'' st'' l'' o'' s'' r'' → Way p t st l o s r p'' t'' st'' l'' o'' s'' r''
+pub onward : {p p' p'' : Log} → Way p p' → Way p' p'' → Way p p''
 onward a b = record {
   input = a.input ++ b.input;
   recorded = a.recorded ++ b.recorded;
@@ -33,207 +23,156 @@ onward a b = record {
       (a.leads (b.input ++ ys) (b.recorded ++ zs) f (b.leads ys zs f g));
 }
 
--- ---- where a check stands
-
-abbrev has_found : Stand → Bool
-has_found Going = false
-has_found (Found more) = true
-has_found (NoInput error) = false
-has_found (NoRecorded error) = false
-
-abbrev with_more : Stand → Bool
-with_more Going = false
-with_more (Found more) = more
-with_more (NoInput error) = false
-with_more (NoRecorded error) = false
-
-pub going : (a : Stand) → is_going a ≡ true → a ≡ Going
-going Going e = refl
-going (Found more) e = absurd (true≢false (sym e))
-going (NoInput error) e = absurd (true≢false (sym e))
-going (NoRecorded error) e = absurd (true≢false (sym e))
-
 -- ---- what a turn comes to
 
 -- it goes some way
-goes_on : (p : Progress) (t st l o s r : List ℕ) (p' : Progress) (t' st' l' o' s' r' : List ℕ) → p'.stand ≡ Going → Closed p'
-    → (w : Way p t st l o s r p' t' st' l' o' s' r') → Came w.input p'.input s' → Came w.recorded p'.recorded r'
-    → Went p t st l o s r p' t' st' l' o' s' r'
-goes_on p t st l o s r p' t' st' l' o' s' r' e closed w a b = record {
-  way = λ _. (w, a, b);
-  found = λ more f. absurd (true≢false (ap is_going (sym e ∙ f)));
-  closed = closed;
-}
-
--- a read failed
-fails : (p : Progress) (t st l o s r : List ℕ) (p' : Progress) (t' st' l' o' s' r' : List ℕ) → is_going p'.stand ≡ false → has_found p'.stand ≡ false
-    → Closed p' → Went p t st l o s r p' t' st' l' o' s' r'
-fails p t st l o s r p' t' st' l' o' s' r' e h closed = record {
-  way = λ f. absurd (true≢false (sym (ap is_going f) ∙ e));
-  found = λ more f. absurd (true≢false (sym (ap has_found f) ∙ h));
-  closed = closed;
-}
+goes_on : {p p' : Log} (w : Way p p') → Came w.input p'.input → Came w.recorded p'.recorded → Went p None p'
+goes_on w a b = record { way = λ _. (w, a, b); found = λ f e. absurd cc }
 
 -- something is found
-finds : (p : Progress) (t st l o s r : List ℕ) (p' : Progress) (t' st' l' o' s' r' : List ℕ) (b : Bool) → p'.stand ≡ Found b → Closed p'
-    → ((ys zs : List ℕ) → Unread p'.ended ys → Unread (not b) zs → Finds p t st l o s r ys zs (told p' b)) → Went p t st l o s r p' t' st' l' o' s' r'
-finds p t st l o s r p' t' st' l' o' s' r' b e closed g = record {
-  way = λ f. absurd (true≢false (ap is_going (sym f ∙ e)));
-  found = λ more f ys zs left none.
-      let same : b ≡ more = ap with_more (sym e ∙ f) in
-      subst (λ (z : Bool). Finds p t st l o s r ys zs (told p' z)) same (g ys zs left (subst (λ (z : Bool). Unread (not z) zs) (sym same) none));
-  closed = closed;
+finds : {p p' : Log} {f : Finding} → ((ys zs : List ℕ) → Unread p'.input.ended ys → Unread p'.recorded.ended zs → Finds p ys zs f) → Went p (Some f) p'
+finds {p} {f = f} g = record {
+  way = λ e. absurd cc;
+  found = λ h e ys zs left none. let same : f ≡ h = cc in subst (Finds p ys zs) same (g ys zs left none);
 }
 
 -- a piece is used up
-used-up : (n : ℕ) (s : List ℕ) (k i : ℕ) → Front n s k → k ≤ i → length (take n s) ≤ i
-used-up n s k i h u = omega (arith, h.0.1, ap length h.1)
+used-up : (a : Piece) → a.end ≤ a.next → length (bytes_of a) ≤ a.next
+used-up a u = omega (arith, length-take a.end a.bytes)
+
+-- a piece is as long as it says
+whole : (a : Piece) → length (bytes_of a) ≡ a.end
+whole a = length-take-le a.end a.bytes a.within
 
 -- ---- on with the input: the check wants some, so it has not ended
-module _ (p : Progress) (t st l o s r : List ℕ) (room : line_bytes ≤ length o) (wants : wants_input p.check ≡ true) (closed : Closed p) where
+module _ (p : Log) (wants : wants_input p.check ≡ true) where
   more-may-come : waits p.check || p.check.session.over ≡ false
   more-may-come = failed (waits p.check || p.check.session.over) wants
 
-  not-ended : p.ended ≡ false
-  not-ended = refuted p.ended (λ e. true≢false (sym (or-by-right (waits p.check) p.check.session.over (closed e)) ∙ more-may-come))
+  anything : (ys : List ℕ) → Unread p.input.ended ys
+  anything ys e = absurd (true≢false (sym (or-by-right (waits p.check) p.check.session.over (p.closed e)) ∙ more-may-come))
 
-  anything : (ys : List ℕ) → Unread p.ended ys
-  anything ys e = absurd (true≢false (sym e ∙ not-ended))
-
-  last-over : (last_check p.check o).session.over ≡ true
+  last-over : (last_check p.check p.out).session.over ≡ true
   unfolding last_check
   last-over = ap (λ (z : Check). z.session.over) (cond-false (waits p.check) _ _ (or_left (waits p.check) p.check.session.over more-may-come))
 
+  -- after the last text nothing more of it is wanted
+  pub closed-last : (a : Piece) (y : Check) (o : List ℕ) → (y ≡ last_check p.check p.out) × (o ≡ last_output p.check p.out)
+      → a.ended ≡ true → y.session.over ≡ true
+  closed-last a y o last e = ap (λ (z : Check). z.session.over) last.0 ∙ last-over
+
   -- the piece is gone on with
-  pub went-fed : (n : ℕ) (q : Checked) (t' st' l' o' : List ℕ) (p' : Progress) → Front p.input s n
-      → Feeds (fed p.check t st l o (drop p.from (take n s)) p.from) q t' st' l' o'
-      → p' ≡ standing q.check q.next p.input p.at p.recorded false Going → Went p t st l o s r p' t' st' l' o' s r
-  went-fed n q t' st' l' o' p' h feeds e = rw e (goes_on p t st l o s r _ t' st' l' o' s r refl (λ z. absurd (true≢false (sym z))) (record {
+  pub went-fed : (q : Checked) (t st l o : List ℕ) (w : p.input.end ≤ length p.input.bytes) (n : p.input.ended ≡ true → p.input.end ≡ 0)
+      (h : p.input.ended ≡ true → q.check.session.over ≡ true) → line_bytes ≤ length p.out
+      → Feeds (fed p.check p.table p.store p.buf p.out (drop p.input.next (bytes_of p.input)) p.input.next) q t st l o
+      → Went p None (record p {
+        check = q.check;
+        table = t;
+        store = st;
+        buf = l;
+        out = o;
+        input = record p.input { next = q.next; within = w; none_left = n };
+        closed = h;
+      })
+  went-fed q t st l o w n h room feeds = goes_on (record {
     input = [];
     recorded = [];
     leads = λ ys zs f g. (
       anything ys,
-      went_on p.check t st l o (take p.input s) p.from ys (take p.recorded r) p.at zs q t' st' l' o' f room (rw h.1 at feeds) g.1,
+      went_on p.check p.table p.store p.buf p.out (bytes_of p.input) p.input.next ys (bytes_of p.recorded) p.recorded.next zs q t st l o f room feeds g.1,
     );
-  }) (inl refl) (inl refl))
-
-  -- it could not be read
-  pub went-none : {error : ℤ} (s' : List ℕ) (p' : Progress) → p' ≡ standing p.check p.from p.input p.at p.recorded p.ended (NoInput error)
-      → Went p t st l o s r p' t st l o s' r
-  went-none s' p' e = rw e (fails p t st l o s r _ t st l o s' r refl refl closed)
+  }) (inl refl) (inl refl)
 
   -- it has ended
-  pub went-last : (n : ℕ) (s' : List ℕ) (y : Check) (o' : List ℕ) (p' : Progress) → Front p.input s n → n ≤ p.from
-      → (y ≡ last_check p.check o) × (o' ≡ last_output p.check o) → p' ≡ standing y 0 0 p.at p.recorded true Going
-      → Went p t st l o s r p' t st l o' s' r
-  went-last n s' y o' p' h u last e =
-      rw e (goes_on p t st l o s r _ t st l o' s' r refl (λ _. ap (λ (z : Check). z.session.over) last.0 ∙ last-over) (record {
+  pub went-last : (a : Piece) (y : Check) (o : List ℕ) (h : a.ended ≡ true → y.session.over ≡ true) → line_bytes ≤ length p.out → p.input.end ≤ p.input.next
+      → a.next ≡ 0 → a.ended ≡ true → (y ≡ last_check p.check p.out) × (o ≡ last_output p.check p.out)
+      → Went p None (record p { check = y; out = o; input = a; closed = h })
+  went-last a y o h room u first ended last =
+      goes_on (record {
         input = [];
         recorded = [];
         leads = λ ys zs f g.
-            let none : ys ≡ [] = g.0 refl in
-            let used = used-up p.input s n p.from h u in
-            let at-end = subst (λ (z : List ℕ). Goes y t st l o' [] 0 z (take p.recorded r) p.at zs f) none g.1 in (
+            let none : ys ≡ [] = g.0 ended in
+            let used = used-up p.input u in
+            let at-end = rw (a.none_left ended, first, none) at g.1 in (
               anything ys,
-              subst (λ (z : List ℕ). Goes p.check t st l o (take p.input s) p.from z (take p.recorded r) p.at zs f) (sym none)
-                  (read-input p.check t st l o (take p.input s) p.from [] [] (take p.recorded r) p.at zs f used
-                  (ended-input p.check t st l o [] 0 (take p.recorded r) p.at zs y o' f (omega arith) room last at-end)),
+              rw none (read-input p.check p.table p.store p.buf p.out (bytes_of p.input) p.input.next [] [] (bytes_of p.recorded) p.recorded.next zs f used
+                  (ended-input p.check p.table p.store p.buf p.out [] 0 (bytes_of p.recorded) p.recorded.next zs y o f (omega arith) room last at-end)),
             );
-      }) (inl refl) (inl refl))
+      }) (inl refl) (inl refl)
 
   -- another piece came
-  pub went-input : (n bytes : ℕ) (s' : List ℕ) (p' : Progress) → Front p.input s n → n ≤ p.from
-      → p' ≡ standing p.check 0 bytes p.at p.recorded false Going → Went p t st l o s r p' t st l o s' r
-  went-input n bytes s' p' h u e = rw e (goes_on p t st l o s r _ t st l o s' r refl (λ z. absurd (true≢false (sym z))) (record {
-    input = take bytes s';
+  pub went-input : (a : Piece) (h : a.ended ≡ true → p.check.session.over ≡ true) → p.input.end ≤ p.input.next → a.next ≡ 0
+      → Went p None (record p { input = a; closed = h })
+  went-input a h u first = goes_on (record {
+    input = bytes_of a;
     recorded = [];
-    leads = λ ys zs f g.
-        let used = used-up p.input s n p.from h u in (
-          anything (take bytes s' ++ ys),
-          read-input p.check t st l o (take p.input s) p.from (take bytes s') ys (take p.recorded r) p.at zs f used g.1,
-        );
-  }) (inr refl) (inl refl))
+    leads = λ ys zs f g. (
+      anything (bytes_of a ++ ys),
+      read-input p.check p.table p.store p.buf p.out (bytes_of p.input) p.input.next (bytes_of a) ys (bytes_of p.recorded) p.recorded.next zs f
+          (used-up p.input u) (rw first at g.1),
+    );
+  }) (inr refl) (inl refl)
 
 -- ---- on with what is recorded
-module _ (p : Progress) (t st l o s r : List ℕ) (closed : Closed p) where
-  -- a compare leaves the session as it is
-  still-closed : (q : Checked) → q ≡ met p.check (agreed p.check o (take p.recorded r) p.at) → p.ended ≡ true → q.check.session.over ≡ true
-  still-closed q m e = ap (λ (z : Checked). z.check.session.over) m ∙ closed e
+module _ (p : Log) where
+  -- all of the piece agrees, or all that waits
+  pub went-met : (q : Checked) (w : p.recorded.end ≤ length p.recorded.bytes) (n : p.recorded.ended ≡ true → p.recorded.end ≡ 0)
+      (h : p.input.ended ≡ true → q.check.session.over ≡ true)
+      → q ≡ met p.check (agreed p.check p.out (bytes_of p.recorded) p.recorded.next)
+      → Went p None (record p { check = q.check; recorded = record p.recorded { next = q.next; within = w; none_left = n }; closed = h })
+  went-met q w n h m = goes_on (record {
+    input = [];
+    recorded = [];
+    leads = λ ys zs f g. (
+      g.0,
+      matched p.check p.table p.store p.buf p.out (bytes_of p.input) p.input.next ys (bytes_of p.recorded) p.recorded.next zs q f m g.1,
+    );
+  }) (inl refl) (inl refl)
 
   -- recorded bytes are left that do not agree
-  pub went-wrong : (n : ℕ) (q : Checked) (p' : Progress) → Front p.recorded r n → q ≡ met p.check (agreed p.check o (take n r) p.at) → q.next < n
-      → wants_input q.check ≡ false → p' ≡ standing q.check p.from p.input q.next p.recorded p.ended (Found true)
-      → Went p t st l o s r p' t st l o s r
-  went-wrong n q p' h m u w e =
-      let met-there : q ≡ met p.check (agreed p.check o (take p.recorded r) p.at) = rw h.1 at m in
-      let inside : q.next < length (take p.recorded r) = omega (arith, h.0.1, ap length h.1) in
-      rw e (finds p t st l o s r _ t st l o s r true refl (still-closed q met-there) (λ ys zs left none. (
+  pub went-wrong : (q : Checked) (w : p.recorded.end ≤ length p.recorded.bytes) (n : p.recorded.ended ≡ true → p.recorded.end ≡ 0)
+      (h : p.input.ended ≡ true → q.check.session.over ≡ true) (f : Finding)
+      → q ≡ met p.check (agreed p.check p.out (bytes_of p.recorded) p.recorded.next) → wants_input q.check ≡ false → q.next < p.recorded.end
+      → let p' : Log = record p { check = q.check; recorded = record p.recorded { next = q.next; within = w; none_left = n }; closed = h } in
+      f ≡ told p' → Went p (Some f) p'
+  went-wrong q w n h f m wants u e =
+      let more : not p.recorded.ended ≡ true = ap not (refuted p.recorded.ended (λ z. omega (arith, p.recorded.none_left z))) in
+      finds (λ ys zs left none. (
         left,
-        stopped p.check t st l o (take p.input s) p.from ys (take p.recorded r) p.at zs q _ met-there w inside refl,
-      )))
-
-  -- all of the piece agrees, or all that waits
-  pub went-met : (n : ℕ) (q : Checked) (p' : Progress) → Front p.recorded r n → q ≡ met p.check (agreed p.check o (take n r) p.at)
-      → p' ≡ standing q.check p.from p.input q.next p.recorded p.ended Going → Went p t st l o s r p' t st l o s r
-  went-met n q p' h m e =
-      let met-there : q ≡ met p.check (agreed p.check o (take p.recorded r) p.at) = rw h.1 at m in
-      rw e (goes_on p t st l o s r _ t st l o s r refl (still-closed q met-there) (record {
-        input = [];
-        recorded = [];
-        leads = λ ys zs f g. (
-          g.0,
-          matched p.check t st l o (take p.input s) p.from ys (take p.recorded r) p.at zs q f met-there g.1,
-        );
-      }) (inl refl) (inl refl))
-
-  -- it could not be read
-  pub went-blind : {error : ℤ} (r' : List ℕ) (p' : Progress) → p' ≡ standing p.check p.from p.input p.at p.recorded p.ended (NoRecorded error)
-      → Went p t st l o s r p' t st l o s r'
-  went-blind r' p' e = rw e (fails p t st l o s r _ t st l o s r' refl refl closed)
+        stopped p.check p.table p.store p.buf p.out (bytes_of p.input) p.input.next ys (bytes_of p.recorded) p.recorded.next zs q f m wants
+            (omega (arith, whole p.recorded)) (rw more at e),
+      ))
 
   -- it has ended
-  pub went-out : (n : ℕ) (r' : List ℕ) (p' : Progress) → Front p.recorded r n → n ≤ p.at → wants_input p.check ≡ false
-      → p' ≡ standing p.check p.from p.input p.at p.recorded p.ended (Found false) → Went p t st l o s r p' t st l o s r'
-  went-out n r' p' h u w e = rw e (finds p t st l o s r _ t st l o s r' false refl closed (λ ys zs left none.
-      let used = used-up p.recorded r n p.at h u in (
-        left,
-        subst (λ (z : List ℕ). Goes p.check t st l o (take p.input s) p.from ys (take p.recorded r) p.at z (told p false)) (sym (none refl))
-            (ended-recorded p.check t st l o (take p.input s) p.from ys (take p.recorded r) p.at _ w used refl),
-      )))
+  pub went-out : (a : Piece) (h : p.input.ended ≡ true → p.check.session.over ≡ true) (f : Finding) → p.recorded.end ≤ p.recorded.next → a.ended ≡ true
+      → wants_input p.check ≡ false → let p' : Log = record p { recorded = a; closed = h } in f ≡ told p' → Went p (Some f) p'
+  went-out a h f u ended wants e = finds (λ ys zs left none. (
+    left,
+    rw (none ended) (ended-recorded p.check p.table p.store p.buf p.out (bytes_of p.input) p.input.next ys (bytes_of p.recorded) p.recorded.next f wants
+        (used-up p.recorded u) (rw ended at e)),
+  ))
 
   -- another piece came
-  pub went-recorded : (n bytes : ℕ) (r' : List ℕ) (p' : Progress) → Front p.recorded r n → n ≤ p.at
-      → p' ≡ standing p.check p.from p.input 0 bytes p.ended Going → Went p t st l o s r p' t st l o s r'
-  went-recorded n bytes r' p' h u e = rw e (goes_on p t st l o s r _ t st l o s r' refl closed (record {
+  pub went-recorded : (a : Piece) (h : p.input.ended ≡ true → p.check.session.over ≡ true) → p.recorded.end ≤ p.recorded.next → a.next ≡ 0
+      → Went p None (record p { recorded = a; closed = h })
+  went-recorded a h u first = goes_on (record {
     input = [];
-    recorded = take bytes r';
-    leads = λ ys zs f g.
-        let used = used-up p.recorded r n p.at h u in (
-          g.0,
-          read-recorded p.check t st l o (take p.input s) p.from ys (take p.recorded r) p.at (take bytes r') zs f used g.1,
-        );
-  }) (inl refl) (inr refl))
+    recorded = bytes_of a;
+    leads = λ ys zs f g. (
+      g.0,
+      read-recorded p.check p.table p.store p.buf p.out (bytes_of p.input) p.input.next ys (bytes_of p.recorded) p.recorded.next (bytes_of a) zs f
+          (used-up p.recorded u) (rw first at g.1),
+    );
+  }) (inl refl) (inr refl)
 
--- ---- a whole check: the table t is made t₀ at its start
-module _ {t st l o : List ℕ} (enough : Enough t st l o) {x : Check} {t₀ : List ℕ} (e : (x ≡ new_check) × (t₀ ≡ blank_table t)) {s r : List ℕ}
-    {p : Progress} {t' st' l' o' s' r' : List ℕ} (w : Way (standing x 0 0 0 0 false Going) t₀ st l o s r p t' st' l' o' s' r') where
-  from_start : (ys zs : List ℕ) (f : Finding) → Goes x t₀ st l o [] 0 ys [] 0 zs f → Goes new_check (blank_table t) st l o [] 0 ys [] 0 zs f
-  from_start ys zs f g = rw (e.0, e.1) at g
-
-  -- the last turn
-  pub sought : {p' : Progress} {t'' st'' l'' o'' s'' r'' : List ℕ} → Went p t' st' l' o' s' r' p' t'' st'' l'' o'' s'' r'' → Sought t st l o p'
-  sought a = record {
-    enough = enough;
-    input = w.input;
-    recorded = w.recorded;
-    found = λ more h ys zs left none. from_start _ _ _ (w.leads ys zs _ (a.found more h ys zs left none)).1;
-  }
-
-  -- the turns are used up
-  pub none_found : p.stand ≡ Going → Sought t st l o p
-  none_found g = record {
-    enough = enough;
-    input = w.input;
-    recorded = w.recorded;
-    found = λ more h. absurd (true≢false (ap is_going (sym g ∙ h)));
-  }
+-- ---- a whole check: the last turn of it
+pub sought : {p p' : Log} {r : Option Finding} {p'' : Log} → Fresh p → Way p p' → Went p' r p'' → Sought p r p''
+sought {p} s w a = record {
+  fresh = s;
+  input = w.input;
+  recorded = w.recorded;
+  found = λ f e ys zs left none.
+      let there = (w.leads ys zs f (a.found f e ys zs left none)).1 in
+      rw (s.check, s.blank, s.input.0, s.input.1, s.recorded.0, s.recorded.1) at there;
+}

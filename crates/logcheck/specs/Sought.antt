@@ -2,80 +2,70 @@
 -- `Goes x t st l o s i ys r j zs f` (crates/checker/proofs/Whole): a driver of a check x, to which the table t, the store st, the buffer l and the output o are
 -- lent, stands at place i of a piece s of the input, of which it has not read ys, and at place j of a piece r of what is recorded, of which it has not read zs;
 -- it finds f.
-use Rattle.std.specs.Prelude.{Bool, true, false, not, List, [], ◌++◌, ◌⊎◌, ◌≡◌, ℕ, ◌≤◌, length, take}
+use Rattle.std.specs.Prelude.{Bool, true, false, not, List, [], ◌++◌, ◌⊎◌, ◌≡◌, ℕ, ◌≤◌, Option, None, Some, length, take}
 use Rattle.text.specs.Room.{line_bytes}
 use Rattle.session.specs.Turn.{blank_table}
 use Rattle.session.proofs.Whole.{Lent}
-use Rattle.checker.specs.declared.Check.{Check}
 use Rattle.checker.specs.declared.Finding.{Finding}
 use Rattle.checker.specs.Scan.{verdict}
 use Rattle.checker.specs.Check.{new_check, waits, coded}
 use Rattle.checker.proofs.Whole.{Goes}
-use Rattle.logcheck.specs.declared.Stand.{Stand}
-use Rattle.logcheck.specs.declared.Stand.TheVariants.{Going, Found, NoInput, NoRecorded}
-use Rattle.logcheck.specs.declared.Progress.{Progress}
+use Rattle.logcheck.specs.declared.piece.Piece.{Piece}
+use Rattle.logcheck.specs.declared.Log.{Log}
 
--- n bytes stand at the front of xs (both are said, so that to lend them needs no more)
-abbrev pub IsPrefixLen : ℕ → List ℕ → Type 0
-IsPrefixLen n xs = (n ≤ length xs) × (n ≡ length (take n xs))
-
--- r counts bytes at the front of xs, and they are its first n
-abbrev pub Front : ℕ → List ℕ → ℕ → Type 0
-Front n xs r = IsPrefixLen r xs × (take r xs ≡ take n xs)
-
-abbrev pub is_going : Stand → Bool
-is_going Going = true
-is_going (Found more) = false
-is_going (NoInput error) = false
-is_going (NoRecorded error) = false
-
--- a progress, by its parts
-abbrev pub standing : Check → ℕ → ℕ → ℕ → ℕ → Bool → Stand → Progress
-standing x i n j m e a = record { check = x; from = i; input = n; at = j; recorded = m; ended = e; stand = a }
-
--- once the input has ended nothing more of it is wanted
-abbrev pub Closed : Progress → Type 0
-Closed p = p.ended ≡ true → p.check.session.over ≡ true
+-- the bytes of a piece
+abbrev pub bytes_of : Piece → List ℕ
+bytes_of a = take a.end a.bytes
 
 -- what may be unread: anything, but nothing of what has ended
 abbrev pub Unread : Bool → List ℕ → Type 0
 Unread ended ys = ended ≡ true → ys ≡ []
 
--- a driver that stands where p says, in buffers s and r, and has ys and zs left to read, finds f
-abbrev pub Finds : Progress → List ℕ → List ℕ → List ℕ → List ℕ → List ℕ → List ℕ → List ℕ → List ℕ → Finding → Type 0
-Finds p t st l o s r ys zs f = Unread p.ended ys × Goes p.check t st l o (take p.input s) p.from ys (take p.recorded r) p.at zs f
+-- a driver that stands where p says, and has ys and zs left to read, finds f
+abbrev pub Finds : Log → List ℕ → List ℕ → Finding → Type 0
+Finds p ys zs f =
+    Unread p.input.ended ys
+    × Goes p.check p.table p.store p.buf p.out (bytes_of p.input) p.input.next ys (bytes_of p.recorded) p.recorded.next zs f
 
--- what `checker::found` gives there, with recorded bytes left or not
-abbrev pub told : Progress → Bool → Finding
-told p more = coded (verdict p.check.lines p.check.within (waits p.check) more)
+-- what `checker::found` gives there: recorded bytes are left where what is recorded has not ended
+abbrev pub told : Log → Finding
+told p = coded (verdict p.check.lines p.check.within (waits p.check) (not p.recorded.ended))
 
 -- a way from one place to another: what is found from there is found from here too, once so much of the input and of what is recorded is read
-pub record Way (p : Progress) (t st l o s r : List ℕ) (p' : Progress) (t' st' l' o' s' r' : List ℕ) : Type 0 where
+pub record Way (p p' : Log) : Type 0 where
   pub input : List ℕ
   pub recorded : List ℕ
-  pub leads : (ys zs : List ℕ) (f : Finding) → Finds p' t' st' l' o' s' r' ys zs f → Finds p t st l o s r (input ++ ys) (recorded ++ zs) f
+  pub leads : (ys zs : List ℕ) (f : Finding) → Finds p' ys zs f → Finds p (input ++ ys) (recorded ++ zs) f
 
--- what was read on the way: nothing, or the n bytes that stand at the front of the buffer s then
-abbrev pub Came : List ℕ → ℕ → List ℕ → Type 0
-Came xs n s = (xs ≡ []) ⊎ (xs ≡ take n s)
+-- what was read on the way: nothing, or the bytes of the piece that is at hand then
+abbrev pub Came : List ℕ → Piece → Type 0
+Came xs a = (xs ≡ []) ⊎ (xs ≡ bytes_of a)
 
--- one turn: it goes some way, or something is found, whatever is left to read of what has not ended; or a read failed
-pub record Went (p : Progress) (t st l o s r : List ℕ) (p' : Progress) (t' st' l' o' s' r' : List ℕ) : Type 0 where
-  pub way : p'.stand ≡ Going → (w : Way p t st l o s r p' t' st' l' o' s' r') × Came w.input p'.input s' × Came w.recorded p'.recorded r'
-  pub found : (more : Bool) → p'.stand ≡ Found more → (ys zs : List ℕ) → Unread p'.ended ys → Unread (not more) zs → Finds p t st l o s r ys zs (told p' more)
-  pub closed : Closed p'
+-- one turn: it goes some way, or something is found, whatever is left to read of what has not ended
+pub record Went (p : Log) (r : Option Finding) (p' : Log) : Type 0 where
+  pub way : r ≡ None → (w : Way p p') × Came w.input p'.input × Came w.recorded p'.recorded
+  pub found : (f : Finding) → r ≡ Some f → (ys zs : List ℕ) → Unread p'.input.ended ys → Unread p'.recorded.ended zs → Finds p ys zs f
 
 -- room for the largest table, store and buffer that replay takes, and for a line
 pub record Enough (t st l o : List ℕ) : Type 0 where
   pub lent : Lent t st l
   pub line : line_bytes ≤ length o
 
+-- a new check, to which room enough is lent: its table was t. Nothing is read
+pub record Fresh (p : Log) : Type 0 where
+  pub table : List ℕ
+  pub enough : Enough table p.store p.buf p.out
+  pub check : p.check ≡ new_check
+  pub blank : p.table ≡ blank_table table
+  pub input : (p.input.next ≡ 0) × (p.input.end ≡ 0) × (p.input.ended ≡ false)
+  pub recorded : (p.recorded.next ≡ 0) × (p.recorded.end ≡ 0) × (p.recorded.ended ≡ false)
+
 -- A whole check. Room enough is lent to a new check; some of the input is read, and some of what is recorded. What is found then, a driver of the check finds,
--- whatever is left to read: nothing of what is recorded where it has ended, which `Found false` says, and nothing of the input where it has, which `ended` says.
+-- whatever is left to read: nothing of what is recorded where it has ended, and nothing of the input where it has, which `ended` says of each.
 -- (The input need not have ended: a line can be wrong or missing before, and after a bad line of the input nothing more is due.)
-pub record Sought (t st l o : List ℕ) (p : Progress) : Type 0 where
-  pub enough : Enough t st l o
+pub record Sought (p : Log) (r : Option Finding) (p' : Log) : Type 0 where
+  pub fresh : Fresh p
   pub input : List ℕ
   pub recorded : List ℕ
-  pub found : (more : Bool) → p.stand ≡ Found more → (ys zs : List ℕ) → Unread p.ended ys → Unread (not more) zs
-      → Goes new_check (blank_table t) st l o [] 0 (input ++ ys) [] 0 (recorded ++ zs) (told p more)
+  pub found : (f : Finding) → r ≡ Some f → (ys zs : List ℕ) → Unread p'.input.ended ys → Unread p'.recorded.ended zs
+      → Goes new_check (blank_table fresh.table) p.store p.buf p.out [] 0 (input ++ ys) [] 0 (recorded ++ zs) f

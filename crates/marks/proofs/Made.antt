@@ -1,30 +1,31 @@
 -- A process's masks made descriptor by descriptor, stored, and compared.
 use mathlib.Core.Path.{◌≡◌, refl, sym, ap, ◌∙◌}
 use mathlib.Core.Bool.{Bool, true, false, cond, ◌&&◌}
-use mathlib.Core.List.{List}
-use Prim.Native.Nat.{ℕ, suc, ◌+◌, ◌*◌, ◌^◌, ◌≤◌, ◌<◌}
+use mathlib.Core.List.{List, [], ◌∷◌}
+use Prim.Native.Nat.{ℕ, ◌+◌, ◌-◌, ◌*◌, ◌^◌, ◌≤◌, ◌<◌}
 use native.Mathlib.Omega.{arith}
 use native.Mathlib.Decide.{ℕ_discrete}
-use lib.Dec.{leb, eqb}
+use lib.Dec.{eqb}
 use lib.ListN.{get_or, length, set, length-set, drop, length-take, length-drop}
+use lib.Pointwise.{pointwise}
 use lib.Pow.{pow-lt}
-use lib.Seq.{sets, length-sets, ext_get_or, get_or-set_same, get_or-set_other}
-use borrow.Author.Tests.{eqb-true, eq-eqb, ne_eqb, le-leb, lt-leb}
-use Rattle.rules.specs.Words.{all_below, part, tab_from}
+use native.Mathlib.Numerals.{add-one}
+use lib.ListN.{take}
+use lib.Seq.{sets, take-suc, take_all, length-take-le, ext_get_or, get_or-set_same, get_or-set_other}
+use borrow.Author.Tests.{eq-eqb, ne_eqb, le-leb}
+use Rattle.rules.specs.Words.{part, tab_from}
 use Rattle.rules.specs.Layout.{entries, max_slots}
 use Rattle.rules.specs.Layout as rules
 use Rattle.rules.specs.Seid.{class, class_of, index_of}
 use Rattle.rules.specs.Work.{mask}
 use Rattle.rules.specs.Quick.{same_words}
-use Rattle.laws.proofs.Tests.{same_test, cond-false}
-use Rattle.laws.proofs.Below.{all_of, all-at}
-use Rattle.laws.proofs.Tab.{length-tab, get_or-tab, tab-more, is-tab}
+use Rattle.laws.proofs.Tests.{cond-false}
+use Rattle.laws.proofs.Tab.{length-tab, get_or-tab, is-tab}
 use Rattle.laws.proofs.Parts.{part-long, part_at}
 use Rattle.laws.proofs.Stored.{sets_more}
 use Rattle.marks.specs.Masks.{names_at, masks_at, masked, are_masks}
 use Rattle.marks.proofs.Bits.{mask-small, mask_next}
-use Rattle.laws.proofs.Same.{same_self, same-equal, same_not}
-use Rattle.marks.proofs.Steps.{and_second}
+use Rattle.laws.proofs.Same.{same_not}
 
 -- ---- the loop over the descriptors
 
@@ -60,7 +61,11 @@ module _ {t : List ℕ} {at d : ℕ} {l : List ℕ} (p : Made t at d l) where
 
       others : (j : ℕ) → (j ≡ i → ⊥) → names_at t at j d ≡ false
       unfolding names_at
-      others j n = rw (← word, ← index) (and_second (eqb (class_of s) (class rules.file)) (eqb i j) (ne_eqb i j (λ e. n (sym e))))
+      others j n = rw (← word, ← index) (and-that (eqb (class_of s) (class rules.file)) (eqb i j) (ne_eqb i j (λ e. n (sym e))))
+        where
+          and-that : (a b : Bool) → b ≡ false → a && b ≡ false
+          and-that true b e = e
+          and-that false b e = refl
 
       entry : (j : ℕ) → j < max_slots → get_or (set l i (get_or l i 0 + y)) j 0 ≡ mask (names_at t at j) (d + 1) 0
       entry j b = elim (ℕ_discrete j i) [
@@ -107,62 +112,42 @@ part-less : (w : List ℕ) (at n : ℕ) → (n ≡ 0 → ⊥) → length w < at 
 unfolding part
 part-less w at n z h = omega (arith, length-take n (drop at w), length-drop at w, z)
 
-same-below : (t w : List ℕ) (first at from n : ℕ) → from + n ≤ max_slots → at + n ≤ length w
-    → all_below n (λ i. eqb (get_or w (at + i) 0) (get_or (masks_at t first max_slots 0) (from + i) 0)) ≡ same_words (part w at n) (masks_at t first n from)
-same-below t w first at from n f l =
-    let test : ℕ → Bool = λ i. eqb (get_or w (at + i) 0) (get_or (masks_at t first max_slots 0) (from + i) 0) in
-    same_test (all_below n test) (same_words (part w at n) (masks_at t first n from))
-    (λ e. let equal : part w at n ≡ masks_at t first n from
-    = ext_get_or 0 (part w at n) (masks_at t first n from) (part-long w at n l ∙ sym (masks-long t first n from)) (λ i b.
-    let k : i < n = rw (part-long w at n l) at b in
-    part_at w at n i k ∙ eqb-true (get_or w (at + i) 0) (get_or (masks_at t first max_slots 0) (from + i) 0) (all-at n test e i k) ∙ masks-at t first from n i f k) in
-    rw equal (same_self (masks_at t first n from)))
-    (λ e. all_of n test (λ i k. eq-eqb (get_or w (at + i) 0) (get_or (masks_at t first max_slots 0) (from + i) 0)
-    (sym (part_at w at n i k) ∙ ap (λ (m : List ℕ). get_or m i 0) (same-equal (part w at n) (masks_at t first n from) e) ∙ sym (masks-at t first from n i f k))))
+-- they stand among all of them
+some-masks : (t : List ℕ) (at from n : ℕ) → from + n ≤ max_slots → part (masks_at t at max_slots 0) from n ≡ masks_at t at n from
+some-masks t at from n f =
+    let all = masks_at t at max_slots 0 in
+    let long : length (part all from n) ≡ n = part-long all from n (omega (arith, masks-long t at max_slots 0)) in
+    ext_get_or 0 (part all from n) (masks_at t at n from) (long ∙ sym (masks-long t at n from)) (λ i b.
+    let k : i < n = rw long at b in
+    part_at all from n i k ∙ masks-at t at from n i f k)
 
--- ---- stored
+-- two slices are equal where they have the same words
+equal-words : (l m : List ℕ) → pointwise eqb l m ≡ same_words l m
+unfolding same_words
+equal-words [] [] = refl
+equal-words [] (y ∷ m) = refl
+equal-words (x ∷ l) [] = refl
+equal-words (x ∷ l) (y ∷ m) = ap (λ (s : Bool). eqb x y && s) (equal-words l m)
 
--- m is w with the first i of the masks from one on stored at a place
-pub record StoredTo (masks : List ℕ) (from : ℕ) (w : List ℕ) (at i : ℕ) (m : List ℕ) : Type 0 where
-  pub so_far : m ≡ sets w at (tab_from from i (λ j. get_or masks j 0))
-
-module _ {masks : List ℕ} {from : ℕ} {w : List ℕ} {at : ℕ} where
-  pub stored-none : StoredTo masks from w at 0 w
-  unfolding tab_from
-  stored-none = record { so_far = refl }
-
-  pub stored_more : {i : ℕ} {m v : List ℕ} → StoredTo masks from w at i m → v ≡ set m (at + i) (get_or masks (from + i) 0) → StoredTo masks from w at (i + 1) v
-  stored_more {i = i} s e =
-      let f : ℕ → ℕ = λ j. get_or masks j 0 in
-      let y : i + 1 ≡ suc i = omega arith in
-      record { so_far = e ∙ rw (y, tab-more from i f, sets_more w at (tab_from from i f) (f (from + i)), length-tab from i f, ← s.so_far) }
-
-  pub stored-long : {i : ℕ} {m : List ℕ} → StoredTo masks from w at i m → length m ≡ length w
-  stored-long {i = i} s = ap length s.so_far ∙ length-sets w at (tab_from from i (λ j. get_or masks j 0))
-
-masks-tab : (t : List ℕ) (at from n : ℕ) → from + n ≤ max_slots → tab_from from n (λ j. get_or (masks_at t at max_slots 0) j 0) ≡ masks_at t at n from
-masks-tab t at from n f =
-    let g : ℕ → ℕ = λ j. get_or (masks_at t at max_slots 0) j 0 in
-    ext_get_or 0 (tab_from from n g) (masks_at t at n from) (length-tab from n g ∙ sym (masks-long t at n from)) (λ i b.
-    let k : i < n = rw (length-tab from n g) at b in
-    get_or-tab from n g i 0 k ∙ masks-at t at from n i f k)
+-- one word more is stored
+pub stored-more : (w v l : List ℕ) (at i : ℕ) → i < length l → v ≡ sets w at (take i l) → set v (at + i) (get_or l i 0) ≡ sets w at (take (i + 1) l)
+stored-more w v l at i h e =
+    let more : sets w at (take (i + 1) l) ≡ set (sets w at (take i l)) (at + length (take i l)) (get_or l i 0)
+    = ap (λ (k : ℕ). sets w at (take k l)) (add-one i) ∙ ap (sets w at) (take-suc l i 0 h) ∙ sets_more w at (take i l) (get_or l i 0) in
+    rw e (sym (more ∙ ap (λ (k : ℕ). set (sets w at (take i l)) (at + k) (get_or l i 0)) (length-take-le i l (omega arith))))
 
 module _ (t : List ℕ) (first : ℕ) (w : List ℕ) {files from at n f p : ℕ} (a : n ≡ files) (b : f ≡ from) (c : p ≡ at) where
-  pub stored-all : {masks : List ℕ} {held i : ℕ} {m : List ℕ} → f + n ≤ max_slots → held ≡ first → masks ≡ masks_at t held max_slots 0 → i ≡ n → StoredTo masks f w p i m
-      → m ≡ masked t first files from w at
-  unfolding masked
-  stored-all l h q e s =
-      rw (s.so_far, q, h, e, a, b, c, le-leb (from + files) max_slots (omega arith), masks-tab t first from files (omega arith))
+  -- ---- stored
 
-  pub stored-not : max_slots < f + n → w ≡ masked t first files from w at
-  unfolding masked
-  stored-not l = sym (cond-false (leb (from + files) max_slots) (sets w at (masks_at t first files from)) w (lt-leb (from + files) max_slots (omega arith)))
+  pub stored-all : {masks : List ℕ} {held : ℕ} {m : List ℕ} → f + n ≤ max_slots → held ≡ first → masks ≡ masks_at t held max_slots 0
+      → (i : ℕ) → length (take (f + n - f) (drop f masks)) ≤ i → m ≡ sets w p (take i (take (f + n - f) (drop f masks))) → m ≡ masked t first files from w at
+  unfolding masked part
+  stored-all {masks = masks} l h q i all s =
+      let count : f + n - f ≡ n = omega arith in
+      let whole : take i (take (f + n - f) (drop f masks)) ≡ part masks f n = take_all i _ all ∙ ap (λ (k : ℕ). take k (drop f masks)) count in
+      rw (s, whole, q, h, a, b, c, le-leb (from + files) max_slots (omega arith), some-masks t first from files (omega arith))
 
   -- ---- compared
-
-  pub compared-not : max_slots < f + n → false ≡ are_masks t first files from w at
-  unfolding are_masks
-  compared-not l = rw (lt-leb (from + files) max_slots (omega arith))
 
   pub compared-none : f + n ≤ max_slots → n ≡ 0 → true ≡ are_masks t first files from w at
   unfolding are_masks masks_at tab_from part same_words
@@ -177,8 +162,11 @@ module _ (t : List ℕ) (first : ℕ) (w : List ℕ) {files from at n f p : ℕ}
       let x : length (part w at files) < files = part-less w at files (λ q. z (a ∙ q)) (omega arith) in
       rw (le-leb (from + files) max_slots (omega arith)) (sym (same_not (part w at files) (masks_at t first files from) (λ q. omega (arith, ap length q))))
 
-  pub compared-all : {masks : List ℕ} {held : ℕ} {r : Bool} → f + n ≤ max_slots → p + n ≤ length w → held ≡ first → masks ≡ masks_at t held max_slots 0
-      → r ≡ all_below n (λ i. eqb (get_or w (p + i) 0) (get_or masks (f + i) 0)) → r ≡ are_masks t first files from w at
-  unfolding are_masks
-  compared-all l h o e q =
-      rw (q, e, o, a, b, c, le-leb (from + files) max_slots (omega arith)) (same-below t w first at from files (omega arith) (omega arith))
+  pub compared-all : {masks : List ℕ} {held : ℕ} {r : Bool} → f + n ≤ max_slots → held ≡ first → masks ≡ masks_at t held max_slots 0
+      → r ≡ pointwise eqb (take (p + n - p) (drop p w)) (take (f + n - f) (drop f masks)) → r ≡ are_masks t first files from w at
+  unfolding are_masks part
+  compared-all l o e q =
+      let here : p + n - p ≡ n = omega arith in
+      let there : f + n - f ≡ n = omega arith in
+      rw (q, here, there, e, o, a, b, c, le-leb (from + files) max_slots (omega arith), some-masks t first from files (omega arith))
+      (equal-words (part w at files) (masks_at t first files from))

@@ -1,72 +1,18 @@
--- What the functions of single masks do is what the definitions say: a bit given or taken, and the search bit by bit.
+-- The search for a clash is what the definitions say: bit by bit, and mask by mask.
 use mathlib.Core.Path.{◌≡◌, refl, sym, ◌∙◌}
 use mathlib.Core.Bool.{Bool, true, false, ◌&&◌}
 use mathlib.Core.List.{List}
 use Prim.Native.Nat.{ℕ, zero, suc, ◌+◌, ◌-◌, ◌*◌, ◌/◌, ◌%◌, ◌^◌, ◌≤◌, ◌<◌}
 use native.Mathlib.Omega.{arith}
 use native.Mathlib.Nat.{mul-le-mul}
-use lib.Dec.{ltb, leb, eqb}
-use lib.ListN.{get_or, set}
+use lib.Dec.{eqb}
+use lib.ListN.{get_or}
 use borrow.Author.Count.{below_more}
-use borrow.Author.Tests.{lt-ltb, le-leb, le-ltb, lt-leb, ne_eqb}
 use Rattle.rules.specs.Layout.{entries, process, record_words}
 use Rattle.laws.proofs.Below.{some_of, some-none}
-use Rattle.laws.proofs.Tests.{cond-true, cond-false, and_both}
-use Rattle.modes.specs.Clash.{clash_of}
-use Rattle.marks.specs.Masks.{clashes_here, met, row_met, marked, unmarked}
-
--- ---- a bit is given, or taken
-
-and_first : (a b : Bool) → a ≡ false → a && b ≡ false
-and_first a b e = rw e
-
-pub and_second : (a b : Bool) → b ≡ false → a && b ≡ false
-and_second true b e = e
-and_second false b e = refl
-
-module _ (w : List ℕ) (at d : ℕ) {place bit mask : ℕ} (p : place ≡ at) (q : bit ≡ d) (x : mask ≡ get_or w place 0) where
-  pub mark-given : {m : List ℕ} {power : ℕ} → bit < entries → mask < 2 ^ entries → power ≡ 2 ^ bit → m ≡ set w place (mask + power) → m ≡ marked w at d
-  unfolding marked
-  mark-given l f e h =
-      rw (h, e, x, ← p, ← q)
-      (sym (cond-true _ _ _ (and_both (ltb bit entries) (ltb (get_or w place 0) (2 ^ entries)) (lt-ltb bit entries l) (lt-ltb (get_or w place 0) (2 ^ entries) (rw x at f)))))
-
-  pub mark-full : 2 ^ entries ≤ mask → w ≡ marked w at d
-  unfolding marked
-  mark-full f =
-      rw (← p, ← q)
-      (sym (cond-false _ _ _ (and_second (ltb bit entries) (ltb (get_or w place 0) (2 ^ entries)) (le-ltb (get_or w place 0) (2 ^ entries) (rw x at f)))))
-
-  pub mark-past : entries ≤ bit → w ≡ marked w at d
-  unfolding marked
-  mark-past l = rw (← q) (sym (cond-false _ _ _ (and_first (ltb bit entries) (ltb (get_or w at 0) (2 ^ entries)) (le-ltb bit entries l))))
-
-  pub mark-taken : {m : List ℕ} {power : ℕ} → bit < entries → power ≤ mask → power ≡ 2 ^ bit → m ≡ set w place (mask - power) → m ≡ unmarked w at d
-  unfolding unmarked
-  mark-taken l f e h =
-      rw (h, e, x, ← p, ← q)
-      (sym (cond-true _ _ _ (and_both (ltb bit entries) (leb (2 ^ bit) (get_or w place 0)) (lt-ltb bit entries l) (le-leb (2 ^ bit) (get_or w place 0) (rw (x, e) at f)))))
-
-  pub mark-none : {power : ℕ} → power ≡ 2 ^ bit → mask < power → w ≡ unmarked w at d
-  unfolding unmarked
-  mark-none e f =
-      rw (← p, ← q)
-      (sym (cond-false _ _ _ (and_second (ltb bit entries) (leb (2 ^ bit) (get_or w place 0)) (lt-leb (2 ^ bit) (get_or w place 0) (rw (x, e) at f)))))
-
-  pub unmark-past : entries ≤ bit → w ≡ unmarked w at d
-  unfolding unmarked
-  unmark-past l = rw (← q) (sym (cond-false _ _ _ (and_first (ltb bit entries) (leb (2 ^ bit) (get_or w at 0)) (le-ltb bit entries l))))
+use Rattle.marks.specs.Masks.{clashes_here, met, row_met}
 
 -- ---- the search bit by bit
-
-module _ (t : List ℕ) (at s b x d : ℕ) where
-  pub bit-there : {h m : ℕ} {r : Bool} → x % 2 ≡ 1 → h ≡ get_or t (at + 2 * d) 0 → m ≡ get_or t (at + (2 * d + 1)) 0 → r ≡ clash_of m b
-      → (eqb h s && r) ≡ (eqb (x % 2) 1 && clashes_here t at s b d)
-  unfolding clashes_here
-  bit-there o p q e = rw (e, q, p, o)
-
-  pub bit_not : (x % 2 ≡ 1 → ⊥) → false ≡ (eqb (x % 2) 1 && clashes_here t at s b d)
-  bit_not o = rw (ne_eqb (x % 2) 1 o)
 
 pub met-zero : (t : List ℕ) (at s b k x d : ℕ) → x ≡ 0 → met t at s b k x d ≡ false
 unfolding met

@@ -13,18 +13,15 @@ use modes::clash;
 use rules::{ENTRIES, FILE_CLASS, MAX_SLOTS, PROCESS_WORDS};
 use words::{first, put, wide, word};
 
-// The bits, from descriptor 0 on; and a number past every mask.
-const POWERS: [u32; ENTRIES] = [
-    1, 2, 4, 8, 16, 32, 64, 128, 256, 512, 1024, 2048, 4096, 8192, 16384, 32768,
-];
+// A number past every mask.
+const MASKS: u32 = 1 << ENTRIES;
 
-const MASKS: u32 = 65536;
-
+// The bit of descriptor d.
 fn power(d: usize) -> u32
     requires { d < entries }
     ensures { (result ≡ 2 ^ d) × (result < 2 ^ entries) }
 {
-    POWERS[d]
+    1 << d
 }
 
 // A descriptor comes to name the file whose mask is at a place.
@@ -34,10 +31,8 @@ pub fn mark(w: &mut [u32], at: u32, d: u32)
     let place = wide(at);
     let mask = word(w, place);
     let bit = wide(d);
-    if bit < ENTRIES {
-        if mask < MASKS {
-            put(w, place, mask + power(bit));
-        }
+    if bit < ENTRIES && mask < MASKS {
+        put(w, place, mask + power(bit));
     }
 }
 
@@ -61,11 +56,7 @@ fn bit_clash(t: &[u32], at: usize, x: u32, d: usize, s: u32, b: u32) -> bool
     requires { (at < 2 ^ 46) × (d < entries) }
     ensures { result ≡ (eqb (x % 2) 1 && clashes_here t.now at s b d) }
 {
-    if x % 2 == 1 {
-        (word(t, at + 2 * d) == s) & clash(word(t, at + (2 * d + 1)), b)
-    } else {
-        false
-    }
+    x % 2 == 1 && (word(t, at + 2 * d) == s) & clash(word(t, at + (2 * d + 1)), b)
 }
 
 // Whether some descriptor that the mask names does; the process's descriptors begin at a place. Most masks are 0, and few have a high bit.
@@ -74,16 +65,14 @@ fn mask_clash(t: &[u32], at: usize, mask: u32, s: u32, b: u32) -> bool
     ensures { result ≡ met t.now at s b entries mask 0 }
 {
     let mut x = mask;
-    let mut d = 0;
-    while d < ENTRIES {
+    for d in 0..ENTRIES {
         if x == 0 {
             return false;
         }
         if bit_clash(t, at, x, d, s, b) {
             return true;
         }
-        x = x / 2;
-        d += 1;
+        x /= 2;
     }
     false
 }
@@ -105,14 +94,11 @@ pub fn row_clash(
     let held = n.entry_at(Kind::File, from, 0);
     let row = wide(at);
     let width = wide(step);
-    let processes = wide(count);
-    let mut i = 0;
-    while i < processes {
+    for i in 0..wide(count) {
         let mask = word(w, row + width * i);
         if mask_clash(t, held + PROCESS_WORDS * i, mask, s, b) {
             return true;
         }
-        i += 1;
     }
     false
 }
@@ -126,12 +112,13 @@ fn masks_of(t: &[u32], at: usize) -> [u32; MAX_SLOTS]
     for d in 0..ENTRIES {
         let s = word(t, at + 2 * d);
         let i = wide(index_of(s));
-        masks[i] = masks[i] + first(class_of(s) == FILE_CLASS, power(d), 0);
+        masks[i] += first(class_of(s) == FILE_CLASS, power(d), 0);
     }
     masks
 }
 
-// The masks of process p, of the files from one on, are made anew, by the table, and stored as far as there is room.
+// The masks of process p, of the files from one on, are made anew, by the table, and stored as far as there is room. The run (from, count) and the place (w, at) stay parameters
+// of their own, here, in `are_masks` and in `row_clash`: calls and work name these functions, whose signatures may not change.
 pub fn put_masks(t: &[u32], n: Header, p: u32, from: u32, count: u32, w: &mut [u32], at: u32)
     ensures { w.new ≡ masked t.now (record_of n process p + held_at rules.file 0) count from w.old at }
 {
@@ -140,25 +127,14 @@ pub fn put_masks(t: &[u32], n: Header, p: u32, from: u32, count: u32, w: &mut [u
     let place = wide(at);
     if first_file + files <= MAX_SLOTS {
         let masks = masks_of(t, n.entry_at(Kind::File, p, 0));
-        for i in 0..files {
-            put(w, place + i, masks[first_file + i]);
+        for (i, mask) in masks[first_file..first_file + files].iter().enumerate() {
+            put(w, place + i, *mask);
         }
     }
 }
 
-// Whether n words from a place on are the masks from another on. It looks at all of them: so they can be compared several at a time.
-fn same_masks(w: &[u32], at: usize, masks: &[u32; MAX_SLOTS], from: usize, n: usize) -> bool
-    requires { (at + n ≤ length w.now) × (from + n ≤ max_slots) }
-    ensures { result ≡ all_below n (λ i. eqb (get_or w.now (at + i) 0) (get_or masks.now (from + i) 0)) }
-{
-    let mut same = true;
-    for i in 0..n {
-        same = same & (w[at + i] == masks[from + i]);
-    }
-    same
-}
-
-// Whether the words at a place are those masks, as the table has them.
+// Whether the words at a place are those masks, as the table has them. It stays beside `put_masks`: `masks_of` is what the two share, and where there is no room the one stores
+// what it can and the other says no, so that a form over both would be no plainer.
 pub fn are_masks(t: &[u32], n: Header, p: u32, from: u32, count: u32, w: &[u32], at: u32) -> bool
     ensures { result ≡ are_masks t.now (record_of n process p + held_at rules.file 0) count from w.now at }
 {
@@ -176,5 +152,5 @@ pub fn are_masks(t: &[u32], n: Header, p: u32, from: u32, count: u32, w: &[u32],
         return false;
     }
     let masks = masks_of(t, n.entry_at(Kind::File, p, 0));
-    same_masks(w, place, &masks, first_file, files)
+    w[place..place + files] == masks[first_file..first_file + files]
 }

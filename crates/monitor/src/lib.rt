@@ -15,6 +15,7 @@ ghost use Rattle.calls.specs.View.{view_part};
 
 use calls::{Answer, Part, Record};
 
+// The C interface: what is found is told in numbers.
 const WELL_FORMED: u32 = 0;
 
 const NOT_WELL_FORMED: u32 = 1;

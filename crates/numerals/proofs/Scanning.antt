@@ -41,6 +41,12 @@ not_back p (b ∷ s) i = let z = past p b s i (λ q. not_back q s (i + 1)) (fed_
 pub scan-past : (p : Part) (b : ℕ) (s : List ℕ) (i : ℕ) → i < (scan_of p (b ∷ s) i).next
 scan-past p b s i = past p b s i (λ q. not_back q s (i + 1)) (fed_by p b) refl
 
+-- a byte that is not followed by another of the number
+stops : (p : Part) (b : ℕ) (s : List ℕ) (i : ℕ) (f : Fed) → ((q : Part) → f ≡ More q → ⊥) → fed_by p b ≡ f → scan f p (i + 1) ≡ scan_of p (b ∷ s) i
+stops p b s i (More q) n e = absurd (n q refl)
+stops p b s i (Done v) n e = sym (scan-done p b s i v e)
+stops p b s i Bad n e = sym (scan-bad p b s i e)
+
 -- ---- the same at place i of s, as the code has it
 module _ (p : Part) (s : List ℕ) (i : ℕ) (h : i < length s) where
   front : drop i s ≡ get_or s i 0 ∷ drop (i + 1) s
@@ -51,11 +57,8 @@ module _ (p : Part) (s : List ℕ) (i : ℕ) (h : i < length s) where
     pub code-more : (q : Part) → f ≡ More q → scan_of q (drop (i + 1) s) (i + 1) ≡ scan_of p (drop i s) i
     code-more q e = sym (ap (λ (x : List ℕ). scan_of p x i) front ∙ scan-more p (get_or s i 0) (drop (i + 1) s) i q (sym fed ∙ e))
 
-    pub code-done : (v : ℕ) → f ≡ Done v → scan f p (i + 1) ≡ scan_of p (drop i s) i
-    code-done v e = ap (λ (x : Fed). scan x p (i + 1)) e ∙ sym (ap (λ (x : List ℕ). scan_of p x i) front ∙ scan-done p (get_or s i 0) (drop (i + 1) s) i v (sym fed ∙ e))
-
-    pub code-bad : f ≡ Bad → scan f p (i + 1) ≡ scan_of p (drop i s) i
-    code-bad e = ap (λ (x : Fed). scan x p (i + 1)) e ∙ sym (ap (λ (x : List ℕ). scan_of p x i) front ∙ scan-bad p (get_or s i 0) (drop (i + 1) s) i (sym fed ∙ e))
+    pub code-stops : ((q : Part) → f ≡ More q → ⊥) → scan f p (i + 1) ≡ scan_of p (drop i s) i
+    code-stops n = stops p (get_or s i 0) (drop (i + 1) s) i f n (sym fed) ∙ sym (ap (λ (x : List ℕ). scan_of p x i) front)
 
 pub code-end : (p : Part) (s : List ℕ) (i : ℕ) → length s ≤ i → scan (More p) p i ≡ scan_of p (drop i s) i
 code-end p s i h = sym (ap (λ (x : List ℕ). scan_of p x i) (drop_of_length-le s h) ∙ scan-end p i)

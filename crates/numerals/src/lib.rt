@@ -13,7 +13,12 @@ pub struct Part {
     pub count: u32,
 }
 
-// What one more byte makes of it.
+impl Part {
+    // A number of which nothing is read.
+    pub const START: Part = Part { value: 0, count: 0 };
+}
+
+// What one more byte makes of it: three ways, which an Option inside a Result would have less plainly.
 #[derive(Clone, Copy)]
 pub enum Fed {
     More(Part),
@@ -31,47 +36,35 @@ pub struct Scan {
 
 const MAX_GROUPS: u32 = 5;
 
-// Every number is below 2^32.
-const LIMIT: u64 = 4294967296;
-
-// What a group counts for, by its place.
-const WEIGHTS: [u64; 5] = [1, 128, 16384, 2097152, 268435456];
-
-// The value with one group more.
+// The value with one group more: each group has seven bits.
 fn grow(p: Part, b: u8) -> u64
     requires { p.count < max_groups }
     ensures { (result ≡ grown p b) × (result < 2 ^ 36) }
 {
-    let count = p.count;
-    p.value as u64 + (b % 128) as u64 * WEIGHTS[count as usize]
+    u64::from(p.value) + (u64::from(b % 128) << (7 * p.count))
 }
 
 // One byte more of a number.
+#[tactic(auto, unfolding(crate::specs::Fed::fed_by))]
 pub fn feed(p: Part, b: u8) -> Fed
     ensures { result ≡ fed_by p b }
 {
-    let count = p.count;
-    if MAX_GROUPS <= count {
+    if MAX_GROUPS <= p.count {
         return Fed::Bad;
     }
-    let value = grow(p, b);
-    if LIMIT <= value {
+    // Every number is below 2^32.
+    let Ok(value) = u32::try_from(grow(p, b)) else {
         return Fed::Bad;
+    };
+    let count = p.count + 1;
+    if 128 <= b && count < MAX_GROUPS {
+        Fed::More(Part { value, count })
+    } else if b < 128 && (p.count == 0 || b != 0) {
+        // Shortest form: the last group is 0 only where it is the only one.
+        Fed::Done(value)
+    } else {
+        Fed::Bad
     }
-    if 128 <= b {
-        if MAX_GROUPS <= count + 1 {
-            return Fed::Bad;
-        }
-        return Fed::More(Part {
-            value: value as u32,
-            count: count + 1,
-        });
-    }
-    // Shortest form: the last group is 0 only where it is the only one.
-    if (count == 0) | !(b == 0) {
-        return Fed::Done(value as u32);
-    }
-    Fed::Bad
 }
 
 // The bytes of a number from a place on, up to its last one, a bad one, or the end of the bytes.
@@ -79,24 +72,21 @@ pub fn feed_all(p: Part, s: &[u8], from: usize) -> Scan
     ensures { result ≡ scan_of p (drop from s.now) from }
 {
     let mut part = p;
-    let mut i = from;
-    while i < s.len() {
-        let fed = feed(part, s[i]);
-        i += 1;
-        match fed {
-            Fed::More(q) => {
-                part = q;
-            }
-            Fed::Done(_) => {
-                return Scan { fed, part, next: i };
-            }
-            Fed::Bad => {
-                return Scan { fed, part, next: i };
-            }
+    for i in from..s.len() {
+        match feed(part, s[i]) {
+            Fed::More(q) => part = q,
+            fed => return Scan {
+                fed,
+                part,
+                next: i + 1,
+            },
         }
     }
-    let fed = Fed::More(part);
-    Scan { fed, part, next: i }
+    Scan {
+        fed: Fed::More(part),
+        part,
+        next: from.max(s.len()),
+    }
 }
 
 // Writes a number at a place; answers the place past it.

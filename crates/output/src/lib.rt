@@ -1,8 +1,11 @@
 // Bytes written one after the other into a lent buffer. What does not fit is dropped, so no caller owes room for it.
 #![tactic(auto)]
 
-ghost use Rattle.std.specs.Prelude.{◌≡◌, [], ◌∷◌, ◌+◌, max, min};
+ghost use Rattle.std.specs.Prelude.{[], ◌∷◌};
 ghost use Rattle.output.specs.Wrote.{Wrote};
+
+// Buffer and place stay two parameters: the signatures of put_byte and put_bytes may not change, nor those of put_number, put_line and the others
+// above that go on from a place.
 
 // b at a place; answers the place past it.
 pub fn put_byte(out: &mut [u8], at: usize, b: u8) -> usize
@@ -16,21 +19,10 @@ pub fn put_byte(out: &mut [u8], at: usize, b: u8) -> usize
     }
 }
 
-// The place past n bytes from a place on, and no further than a slice of that size goes.
-fn past(size: usize, at: usize, n: usize) -> usize
-    ensures { result ≡ max at (min (at + n) size) }
-{
-    if at < size {
-        if n < size - at { at + n } else { size }
-    } else {
-        at
-    }
-}
-
-// The bytes of s from a place on; answers the place past them.
+// The bytes of s from a place on; answers the place past them, which is no further than the end of the buffer.
 pub fn put_bytes(out: &mut [u8], at: usize, s: &[u8]) -> usize
     ensures { Wrote out.old at s.now result out.new }
 {
     words::put_bytes(out, at, s);
-    past(out.len(), at, s.len())
+    at.max(at.saturating_add(s.len()).min(out.len()))
 }

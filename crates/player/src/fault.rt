@@ -1,40 +1,9 @@
 // Says on standard error what failed.
-use std::fmt::Write;
-use std::{fmt, io};
+use std::io;
+use std::io::{Cursor, Write};
 
 // Room for the text of any error of the system's.
 const TEXT_BYTES: usize = 320;
-
-// Text as it is put together, as far as it finds room.
-#[derive(Drop)]
-struct Text {
-    bytes: [u8; TEXT_BYTES],
-    end: usize,
-}
-
-impl fmt::Write for Text {
-    fn write_str(&mut self, s: &str) -> fmt::Result {
-        for b in s.as_bytes() {
-            let end = self.end;
-            if end < TEXT_BYTES {
-                self.bytes[end] = *b;
-                self.end = end + 1;
-            }
-        }
-        Ok(())
-    }
-}
-
-impl Text {
-    fn as_str(&self) -> &str {
-        let bytes = &self.bytes[..];
-        if self.end < bytes.len() {
-            std::str::from_utf8(&bytes[..self.end]).unwrap_or("")
-        } else {
-            ""
-        }
-    }
-}
 
 // An error's text as the system words it: with no number after it.
 fn words(text: &str) -> &str {
@@ -46,14 +15,12 @@ fn words(text: &str) -> &str {
 
 // Writes a line to standard error: what failed, as the caller names it, a colon and the error's text. Where standard error takes nothing, nobody is left to tell.
 pub fn fail(rt: &HostRuntime, what: &[u8], error: &io::Error) {
-    let mut text = Text {
-        bytes: [0; TEXT_BYTES],
-        end: 0,
-    };
+    let mut text = Cursor::new([0; TEXT_BYTES]);
     let _ = write!(text, "{error}");
-    let to = rt.stderr();
-    let _ = Print::write_all(&to, what);
-    let _ = Print::write_all(&to, b": ");
-    let _ = Print::write_all(&to, words(text.as_str()).as_bytes());
-    let _ = Print::write_all(&to, b"\n");
+    let n = text.position() as usize;
+    let bytes = text.into_inner();
+    let whole = std::str::from_utf8(bytes.get(..n).unwrap_or_default()).unwrap_or_default();
+    for part in [what, b": ", words(whole).as_bytes(), b"\n"] {
+        let _ = Print::write_all(&rt.stderr(), part);
+    }
 }

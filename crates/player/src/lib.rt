@@ -2,15 +2,16 @@
 // ends, a bad line is written, or a read or a write fails.
 #![tactic(auto)]
 
-ghost use Rattle.std.specs.Prelude.{◌≡◌, ◌≤◌, length};
-ghost use Rattle.text.specs.Room.{line_bytes};
-ghost use Rattle.player.specs.Went.{Came, Pieced, Went, Replayed};
+ghost use Rattle.std.specs.Prelude.{◌≡◌, ℕ, ◌≤◌, OnOk, false, length};
+ghost use Rattle.std.specs.Io.{ReadsAtMost};
+ghost use Rattle.player.specs.Went.{Fresh, counted, report_of, Pieced, Went, Replayed};
 
 mod fault;
 
 pub use fault::fail;
 use rules::{BLOCK_BYTES, MAX_CONFIGURATION_WORDS, SLOT_WORDS};
 use session::{MAX_BUFFER, MAX_REPLAY_BLOCKS, MAX_REPLAY_SLOTS, Session};
+use std::io;
 use std::io::Read;
 
 // Room for the largest table that replay takes, for its store, and for the bytes of a call.
@@ -21,29 +22,11 @@ pub const STORE_BYTES: usize = MAX_REPLAY_BLOCKS * BLOCK_BYTES;
 // The most that is read at once, or handed on: with less a program would spend its time on the system's calls.
 pub const PIECE_BYTES: usize = 65536;
 
-// How many bytes came from standard input: none where it has ended or the read failed.
-#[derive(Clone, Copy)]
-struct Input {
-    bytes: usize,
-    failed: bool,
-}
-
-// How many bytes were handed on to standard output, and whether it took them.
-#[derive(Clone, Copy)]
-struct Output {
-    bytes: usize,
-    failed: bool,
-}
-
-// What is carried from piece to piece: how many bytes were read and handed on by now, modulo 2^64, and whether there is more to do. Where there is not, the input has
-// ended, or the session is over, or a read or a write failed.
-#[derive(Clone, Copy)]
-struct Progress {
-    session: Session,
-    read: u64,
-    handed: u64,
-    more: bool,
-    ended: bool,
+// What ends a replay early: a read or a write that failed.
+#[derive(Drop)]
+enum Failed {
+    Read(io::Error),
+    Write(io::Error),
 }
 
 // How many bytes a replay read and handed on, modulo 2^64, and whether it came to its end: that of the input, or a bad line, after which nothing is read.
@@ -55,166 +38,139 @@ pub struct Report {
     pub over: bool,
 }
 
-// All input comes by this function.
-fn take_in(rt: &HostRuntime, input: &mut [u8]) -> Input
-    ensures { Came result.bytes input.new }
+// A replay under way: its session, with the memory that is lent to it; a piece of the input, and the output; how many bytes were read and handed on by now, modulo
+// 2^64; and whether the input has ended.
+#[derive(Drop)]
+struct Player {
+    session: Session,
+    table: [u32; TABLE_WORDS],
+    store: [u8; STORE_BYTES],
+    buf: [u8; MAX_BUFFER],
+    input: [u8; PIECE_BYTES],
+    out: [u8; PIECE_BYTES],
+    read: u64,
+    handed: u64,
+    ended: bool,
+}
+
+impl Failed {
+    // Says on standard error what failed.
+    fn tell(&self, rt: &HostRuntime) {
+        match self {
+            Failed::Read(error) => fail(rt, b"read", error),
+            Failed::Write(error) => fail(rt, b"write", error),
+        }
+    }
+}
+
+// All input comes by this function: answers how many bytes came, which is none where it has ended. (Logcheck has its own, `Piece::take_in`: a public function's
+// contract leaves nothing open, and no read can state what comes.)
+fn take_in(rt: &HostRuntime, input: &mut [u8]) -> Result<usize, Failed>
+    ensures { ReadsAtMost result input.new }
 {
-    match rt.stdin().read(input) {
-        Ok(bytes) => Input {
-            bytes,
-            failed: false,
-        },
-        Err(error) => {
-            fail(rt, b"read", &error);
-            Input {
-                bytes: 0,
-                failed: true,
+    rt.stdin().read(input).map_err(Failed::Read)
+}
+
+impl Player {
+    fn new() -> Player
+        ensures { Fresh result }
+    {
+        let mut table = [0; TABLE_WORDS];
+        let session = session::start(&mut table);
+        Player {
+            session,
+            table,
+            store: [0; STORE_BYTES],
+            buf: [0; MAX_BUFFER],
+            input: [0; PIECE_BYTES],
+            out: [0; PIECE_BYTES],
+            read: 0,
+            handed: 0,
+            ended: false,
+        }
+    }
+
+    // All output goes by this function: it hands on the first n bytes of it, and counts them.
+    fn hand_on(&mut self, rt: &HostRuntime, n: usize) -> Result<(), Failed>
+        requires { n ≤ length self.old.out }
+        ensures { self.new ≡ counted self.old n }
+    {
+        self.handed = self.handed.wrapping_add(n as u64);
+        rt.write_all(&self.out[..n]).map_err(Failed::Write)
+    }
+
+    // Plays the first n bytes of the input's piece, and hands on their text each time that the output is full, and at the end.
+    fn piece(&mut self, rt: &HostRuntime, n: usize) -> Result<(), Failed>
+        requires { n ≤ length self.old.input }
+        ensures { (place : ℕ) × Pieced self.old n place self.new × OnOk result (n ≤ place) }
+    {
+        let mut from = 0;
+        while from < n {
+            let r = session::play(
+                self.session,
+                &mut self.table,
+                &mut self.store,
+                &mut self.buf,
+                &mut self.out,
+                &self.input[..n],
+                from,
+            );
+            self.session = r.session;
+            from = r.next;
+            self.hand_on(rt, r.end)?;
+        }
+        Ok(())
+    }
+
+    // Reads once, and plays what came; where the input has ended, hands on the text that is due then.
+    fn turn(&mut self, rt: &HostRuntime) -> Result<(), Failed>
+        requires { self.old.ended ≡ false }
+        ensures { Went self.old result self.new }
+    {
+        let n = take_in(rt, &mut self.input)?;
+        if n == 0 {
+            self.ended = true;
+            let end = session::finish(self.session, &mut self.out);
+            return self.hand_on(rt, end);
+        }
+        self.read = self.read.wrapping_add(n as u64);
+        self.piece(rt, n)
+    }
+
+    // Turn after turn, until the input has ended or the session is over.
+    fn run(&mut self, rt: &HostRuntime) -> Result<(), Failed>
+        requires { self.old.ended ≡ false }
+        ensures { Went self.old result self.new }
+    {
+        // A proved loop has to end, and nothing says that an input does: no run uses this number up.
+        for _ in 0..u64::MAX {
+            self.turn(rt)?;
+            if self.ended || self.session.over {
+                break;
             }
         }
+        Ok(())
     }
-}
 
-// All output goes by this function: it hands on the whole slice that it is lent.
-fn hand_on(rt: &HostRuntime, text: &[u8]) -> Output
-    ensures { result.bytes ≡ length text.now }
-{
-    let taken = rt.write_all(text);
-    let failed = taken.is_err();
-    if let Err(error) = taken {
-        fail(rt, b"write", &error);
-    }
-    let bytes = text.len();
-    Output { bytes, failed }
-}
-
-// Hands on the first n bytes of the output.
-fn emit(rt: &HostRuntime, out: &[u8], n: usize) -> Output
-    requires { n ≤ length out.now }
-    ensures { result.bytes ≡ n }
-{
-    hand_on(rt, &out[..n])
-}
-
-// Plays a piece, and hands on its text each time that the output is full, and at the end.
-fn piece(
-    rt: &HostRuntime,
-    x: Session,
-    read: u64,
-    handed: u64,
-    table: &mut [u32],
-    store: &mut [u8],
-    buf: &mut [u8],
-    out: &mut [u8],
-    s: &[u8],
-) -> Progress
-    requires { line_bytes ≤ length out.old }
-    ensures { Pieced x read handed table.old store.old buf.old s.now result table.new store.new buf.new }
-{
-    let mut session = x;
-    let mut sum = handed;
-    let mut from = 0;
-    while from < s.len() {
-        let r = session::play(session, table, store, buf, out, s, from);
-        session = r.session;
-        from = r.next;
-        let sent = emit(rt, out, r.end);
-        sum = std::num::wrapping_add_u64(sum, sent.bytes as u64);
-        if sent.failed {
-            return Progress {
-                session,
-                read,
-                handed: sum,
-                more: false,
-                ended: false,
-            };
+    fn report(&self) -> Report
+        ensures { result ≡ report_of self.now }
+    {
+        Report {
+            read: self.read,
+            handed: self.handed,
+            ended: self.ended,
+            over: self.session.over,
         }
     }
-    Progress {
-        session,
-        read,
-        handed: sum,
-        more: !session.over,
-        ended: false,
-    }
-}
-
-// Reads once, and plays what came; where the input has ended, hands on the text that is due then.
-fn turn(
-    rt: &HostRuntime,
-    x: Session,
-    read: u64,
-    handed: u64,
-    table: &mut [u32],
-    store: &mut [u8],
-    buf: &mut [u8],
-    out: &mut [u8],
-    input: &mut [u8],
-) -> Progress
-    requires { line_bytes ≤ length out.old }
-    ensures { Went x read handed table.old store.old buf.old result table.new store.new buf.new }
-{
-    let came = take_in(rt, input);
-    let n = came.bytes;
-    if came.failed {
-        return Progress {
-            session: x,
-            read,
-            handed,
-            more: false,
-            ended: false,
-        };
-    }
-    if n == 0 {
-        let end = session::finish(x, out);
-        let sent = emit(rt, out, end);
-        let sum = std::num::wrapping_add_u64(handed, sent.bytes as u64);
-        return Progress {
-            session: x,
-            read,
-            handed: sum,
-            more: false,
-            ended: true,
-        };
-    }
-    let sum = std::num::wrapping_add_u64(read, n as u64);
-    piece(rt, x, sum, handed, table, store, buf, out, &input[..n])
 }
 
 // Replays standard input to its end.
 pub fn replay(rt: &HostRuntime) -> Report
     ensures { Replayed result }
 {
-    let mut table = [0u32; TABLE_WORDS];
-    let mut store = [0u8; STORE_BYTES];
-    let mut buf = [0u8; MAX_BUFFER];
-    let mut out = [0u8; PIECE_BYTES];
-    let mut input = [0u8; PIECE_BYTES];
-    let mut session = session::start(&mut table);
-    let mut read = 0;
-    let mut handed = 0;
-    // A proved loop has to end, and nothing says that an input does: no run uses this number up.
-    let mut turns = u64::MAX;
-    while turns > 0 {
-        let p = turn(
-            rt, session, read, handed, &mut table, &mut store, &mut buf, &mut out, &mut input,
-        );
-        session = p.session;
-        read = p.read;
-        handed = p.handed;
-        if !p.more {
-            return Report {
-                read,
-                handed,
-                ended: p.ended,
-                over: session.over,
-            };
-        }
-        turns -= 1;
+    let mut player = Player::new();
+    if let Err(failed) = player.run(rt) {
+        failed.tell(rt);
     }
-    Report {
-        read,
-        handed,
-        ended: false,
-        over: false,
-    }
+    player.report()
 }

@@ -9,14 +9,18 @@ const READ: u32 = 256;
 
 const WRITE: u32 = 128;
 
+const READ_WRITE: u32 = READ + WRITE;
+
 // The three bits that speak of a process of owner u and group g: read 4, write 2, execute 1. The first set that fits is the only one that speaks.
 pub fn rights(u: u32, g: u32, owner: u32, group: u32, bits: u32) -> u32
     ensures { result ≡ rights u g owner group bits }
 {
     if u == owner {
         bits / 64 % 8
+    } else if g == group {
+        bits / 8 % 8
     } else {
-        if g == group { bits / 8 % 8 } else { bits % 8 }
+        bits % 8
     }
 }
 
@@ -54,16 +58,12 @@ pub fn asks_write(a: u32) -> bool
 pub fn valid_access(a: u32) -> bool
     ensures { result ≡ valid_access a }
 {
-    (a == 0) | ((a == WRITE) | ((a == READ) | (a == READ + WRITE)))
+    matches!(a, 0 | WRITE | READ | READ_WRITE)
 }
 
 // The access of these two rights.
 pub fn access(read: bool, write: bool) -> u32
     ensures { result ≡ access read write }
 {
-    if read {
-        if write { READ + WRITE } else { READ }
-    } else {
-        if write { WRITE } else { 0 }
-    }
+    READ * u32::from(read) + WRITE * u32::from(write)
 }

@@ -6,6 +6,7 @@ use Prim.Native.Nat.{ℕ, suc, ◌+◌, ◌-◌, ◌<◌, ◌≤◌}
 use native.Mathlib.Omega.{arith}
 use lib.Dec.{ltb, leb, eqb, leb-suc-suc}
 use lib.ListN.{length, get_or, take, drop, set, length-set, length-append, get_or-append}
+use Rattle.std.proofs.lemmas.List.{take_more_set}
 use lib.Seq.{take_all, length-take-le, get_or-take, get_or-set_same, append_snoc}
 use borrow.Author.Tests.{ltb-true, ltb-false, eqb-true, eqb-false, le-leb, lt-leb, ne_eqb}
 use Rattle.rules.specs.Claim.{test}
@@ -24,11 +25,11 @@ use Rattle.script.specs.declared.Stage.TheVariants.{Header, Body, Numbers, Bytes
 use Rattle.script.specs.declared.Reader.{Reader}
 use Rattle.script.specs.declared.What.TheVariants as what
 use Rattle.script.specs.declared.Took.{Took}
-use Rattle.script.specs.Take.{took as took_of, awaiting, at_call, onward, calling_at, between_at, kept_table_at, kept_nums_at, counts_fit, header_ended, numbers_ended, ended_at, numbered, Read, read, fed_took, fed_table, number_read, byte_took, take_at, take as take_one}
+use Rattle.script.specs.Take.{with_part, took as took_of, awaiting, at_call, onward, calling_at, between_at, kept_table_at, kept_nums_at, counts_fit, header_ended, numbers_ended, ended_at, numbered, Read, read, fed_took, fed_table, number_read, byte_took, take_at, take as take_one}
 use Rattle.script.proofs.Going.{going, fed_going, going_start, going-byte, body_then, header_then, accepted, call_then, bytes_then}
 use Rattle.script.proofs.Meaning.{configured, called, outer, so_far, of_numbers, meaning_at, meaning, fault_at, Roomy, Fits, GoodAt, Good, Onward, Configured, Called, Faulty, Told}
 use Rattle.script.proofs.Counts.{fits-of, fits-counted}
-use Rattle.script.proofs.Kept.{take_more, take-more-past, roomy-header, roomy-body, cells-kept, subtypes-kept, header-kept, whole}
+use Rattle.script.proofs.Kept.{take-more-past, roomy-header, roomy-body, cells-kept, subtypes-kept, header-kept, whole}
 
 -- at a reader's stage
 pub at_stage : (g : Stage) (r : Reader) (t l s : List ℕ) → r.stage ≡ g → meaning r t l s ≡ meaning_at g r t l s
@@ -56,7 +57,7 @@ module _ (g : Stage) (r : Reader) (t l : List ℕ) (b : ℕ) (e : r.stage ≡ g)
 
   -- the number goes on
   number-on : (q : Part) → fed_by r.part b ≡ fed.More q
-      → Onward r t l (b ∷ []) (record { stage = r.stage; part = q; field = r.field; last = r.last; nums = r.nums }) t l
+      → Onward r t l (b ∷ []) (with_part r q) t l
   unfolding fed_going
   number-on q f =
       record {
@@ -67,17 +68,17 @@ module _ (g : Stage) (r : Reader) (t l : List ℕ) (b : ℕ) (e : r.stage ≡ g)
         begun = λ z. not-between r.stage;
         same = λ ys.
             fed-here ys (fed.More q) f
-            ∙ sym (at_stage g (record { stage = r.stage; part = q; field = r.field; last = r.last; nums = r.nums }) t l ys e
-            ∙ n (record { stage = r.stage; part = q; field = r.field; last = r.last; nums = r.nums }) t l ys);
+            ∙ sym (at_stage g (with_part r q) t l ys e
+            ∙ n (with_part r q) t l ys);
       }
     where
-      same_here : (g : Stage) → GoodAt g r t → GoodAt g (record { stage = r.stage; part = q; field = r.field; last = r.last; nums = r.nums }) t
+      same_here : (g : Stage) → GoodAt g r t → GoodAt g (with_part r q) t
       same_here Header x = x
       same_here Body x = x
       same_here Numbers x = x
       same_here Bytes x = x
 
-      not-between : (g : Stage) → between_at g (record { stage = r.stage; part = q; field = r.field; last = r.last; nums = r.nums }) ≡ false
+      not-between : (g : Stage) → between_at g (with_part r q) ≡ false
       not-between Header = refl
       not-between Body = refl
       not-between Numbers = rw (ne_eqb q.count 0 (λ z. omega (arith, (small-more r.part q b h.small f).1))) (and-false (eqb r.field 0))
@@ -158,7 +159,7 @@ module _ (r : Reader) (t l : List ℕ) (b v : ℕ) (e : r.stage ≡ Header) (h :
   at_last = omega (arith, h.within, w.0)
 
   header_read : take r.field t ++ (v ∷ []) ≡ take header_numbers t'
-  header_read = sym (take_more t r.field v (omega (arith, at_last, w.1.room))) ∙ ap (λ (j : ℕ). take (j + 1) t') at_last
+  header_read = sym (take_more_set t r.field v (omega (arith, at_last, w.1.room))) ∙ ap (λ (j : ℕ). take (j + 1) t') at_last
 
   cells_of : get_or (take header_numbers t') 0 0 ≡ get_or t' 0 0
   cells_of = get_or-take header_numbers t' 0 0 (omega arith)
@@ -265,7 +266,7 @@ module _ (r : Reader) (t l : List ℕ) (b v : ℕ) (e : r.stage ≡ Numbers) (h 
   six' = length-set r.nums r.field v ∙ h.six
 
   all-nums : take r.field r.nums ++ (v ∷ []) ≡ nums'
-  all-nums = sym (take_more r.nums r.field v in-nums) ∙ take_all (r.field + 1) nums' (let a = six' in let p = fifth in omega arith)
+  all-nums = sym (take_more_set r.nums r.field v in-nums) ∙ take_all (r.field + 1) nums' (let a = six' in let p = fifth in omega arith)
 
   length-of : get_or nums' 5 0 ≡ v
   length-of = ap (λ (j : ℕ). get_or nums' j 0) (sym fifth) ∙ get_or-set_same r.nums r.field v 0 in-nums
@@ -343,7 +344,7 @@ module _ (r : Reader) (t l : List ℕ) (b : ℕ) (e : r.stage ≡ Bytes) (h : Go
   byte-taken s =
       at_stage Bytes r t l (b ∷ s) e
       ∙ ap called (bytes-more r.nums (take r.field l) (r.last - r.field) b s
-      ∙ ap (λ (g : List ℕ). bytes_then r.nums g (r.last - r.field) s) (sym (take_more l r.field b in_buffer)))
+      ∙ ap (λ (g : List ℕ). bytes_then r.nums g (r.last - r.field) s) (sym (take_more_set l r.field b in_buffer)))
 
   bytes_next : r.field < r.last → Onward r t l (b ∷ []) (onward r r.nums) t l'
   bytes_next lt =
@@ -431,7 +432,7 @@ module _ (r : Reader) (t l : List ℕ) (b : ℕ) (h : Good r t l) where
           let w = here-at Header e in
           let p = w.0 in
           let q = w.1.room in
-          number-next Header r t l b e h (λ r t l s. refl) v f lt (take_more t r.field v (omega arith)) (λ x. refl)
+          number-next Header r t l b e h (λ r t l s. refl) v f lt (take_more_set t r.field v (omega arith)) (λ x. refl)
           (w.0, roomy-header t r.field v (omega arith) w.1) (λ z. absurd (true≢false (sym z))) (length-set t r.field v) h.six
 
   body-told : r.stage ≡ Body → ToldRead r t l b (number_read r t l b)
@@ -464,7 +465,7 @@ module _ (r : Reader) (t l : List ℕ) (b : ℕ) (h : Good r t l) where
       next v f lt =
           let w = here-at Numbers e in
           let s = h.six in
-          number-next Numbers r t l b e h (λ r t l s. refl) v f lt (take_more r.nums r.field v (omega arith)) (λ x. refl) w (λ z. refl) refl
+          number-next Numbers r t l b e h (λ r t l s. refl) v f lt (take_more_set r.nums r.field v (omega arith)) (λ x. refl) w (λ z. refl) refl
           (length-set r.nums r.field v ∙ h.six)
 
   pub byte-told : ToldRead r t l b (take_one r t l b)

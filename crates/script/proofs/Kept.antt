@@ -3,19 +3,16 @@ use mathlib.Core.List.{List, [], ◌∷◌, ◌++◌}
 use mathlib.Core.Path.{◌≡◌, sym, ap, ◌∙◌}
 use Prim.Native.Nat.{ℕ, ◌+◌, ◌<◌, ◌≤◌}
 use native.Mathlib.Omega.{arith}
-use native.Mathlib.Numerals.{add-one}
 use lib.ListN.{length, get_or, take, drop, set, length-set, length-drop}
-use lib.Seq.{take-suc-set, drop-set-add, take-set-le, get_or-set_other, take-add, drop-cons}
+use Rattle.std.proofs.lemmas.List.{take_more_set}
+use lib.Seq.{drop-set-add, take-set-le, get_or-set_other, take-add, drop-cons}
 use Rattle.rules.specs.Layout.{header_words, cells, subtypes, configuration_words, configuration}
 use Rattle.rules.specs.Replay.{header_numbers, numbers_after}
 use Rattle.script.proofs.Meaning.{Roomy}
 
 -- one element more at the front's end
-pub take_more : (l : List ℕ) (i v : ℕ) → i < length l → take (i + 1) (set l i v) ≡ take i l ++ (v ∷ [])
-take_more l i v h = rw add-one (take-suc-set l i v h)
-
 pub take-more-past : (n : ℕ) (l : List ℕ) (i v : ℕ) → n + i < length l → take (i + 1) (drop n (set l (n + i) v)) ≡ take i (drop n l) ++ (v ∷ [])
-take-more-past n l i v h = rw (drop-set-add n l i v) (take_more (drop n l) i v (let e = length-drop n l in omega arith))
+take-more-past n l i v h = rw (drop-set-add n l i v) (take_more_set (drop n l) i v (let e = length-drop n l in omega arith))
 
 -- a word of the header, and a word of the body
 pub roomy-header : (t : List ℕ) (f v : ℕ) → f ≤ 6 → Roomy t → Roomy (set t f v)

@@ -1,5 +1,4 @@
 -- Laws of the reader of a script.
-pub mod Stages
 pub mod Piece
 pub mod Stretch
 pub mod Going

@@ -1,5 +1,5 @@
 -- Some bytes of a piece at once come to what they do one by one: those of a number as far as it goes, and those of a call's buffer.
-use mathlib.Core.Bool.{Bool, true, false}
+use mathlib.Core.Bool.{true, false}
 use mathlib.Core.List.{List, [], ◌∷◌}
 use mathlib.Core.Path.{◌≡◌, refl, sym, ap, ◌∙◌}
 use Prim.Native.Nat.{ℕ, suc, ◌+◌, ◌-◌, ◌<◌, ◌≤◌}
@@ -37,7 +37,7 @@ number-taken : (g : Stage) (r : Reader) (t l : List ℕ) (b : ℕ) → is_bytes 
 number-taken Header r t l b e = refl
 number-taken Body r t l b e = refl
 number-taken Numbers r t l b e = refl
-number-taken Bytes r t l b e = let z : ◌≡◌ {A = ℕ} 0 1 = cc in absurd (omega arith)
+number-taken Bytes r t l b e = cc
 
 -- what is read once a number is read so far
 abbrev scan_read : Reader → List ℕ → List ℕ → Scan → Advanced
@@ -90,9 +90,9 @@ code-number r t l s i x z y t' n h e w p q =
 -- ---- the bytes of a call's buffer
 byte-taken : (g : Stage) (r : Reader) (t l : List ℕ) (b : ℕ) → is_bytes g ≡ true → take_at g r t l b ≡ read (byte_took r) t (set l r.field b)
 byte-taken Bytes r t l b e = refl
-byte-taken Header r t l b e = let z : ◌≡◌ {A = ℕ} 0 1 = cc in absurd (omega arith)
-byte-taken Body r t l b e = let z : ◌≡◌ {A = ℕ} 0 1 = cc in absurd (omega arith)
-byte-taken Numbers r t l b e = let z : ◌≡◌ {A = ℕ} 0 1 = cc in absurd (omega arith)
+byte-taken Header r t l b e = cc
+byte-taken Body r t l b e = cc
+byte-taken Numbers r t l b e = cc
 
 module _ (r : Reader) (t l : List ℕ) (b : ℕ) (s : List ℕ) (i : ℕ) (n : is_bytes r.stage ≡ true) where
   -- not the last
@@ -114,7 +114,7 @@ module _ (r : Reader) (t l : List ℕ) (b : ℕ) (s : List ℕ) (i : ℕ) (n : i
       ∙ stopped-resumed (advanced Call (at_call r.nums) (i + 1) [] t (set l r.field b)) s refl
 
 abbrev more_at : Reader → List ℕ → ℕ → ℕ → List ℕ → Advanced
-more_at r t f j m = advanced More (record { stage = r.stage; part = start; field = f; last = r.last; nums = r.nums }) j [] t m
+more_at r t f j m = advanced More (record r { part = start; field = f }) j [] t m
 
 abbrev call_at : Reader → List ℕ → ℕ → List ℕ → Advanced
 call_at r t j m = advanced Call (at_call r.nums) j [] t m
@@ -145,17 +145,16 @@ all-bytes r t l b (b' ∷ s) i n h =
     ∙ ap (λ (a : ℕ). call_at r t (i + suc k) (sets m a (b' ∷ s))) (add-one r.field)
 
 -- as the code has it
-module _ (r : Reader) (t l s : List ℕ) (i left : ℕ) (b : is_bytes r.stage ≡ true) (h : i < length s) (o : left ≡ bytes_left r) (at : ℕ) (f : at ≡ r.field)
-    (l' : List ℕ) where
+module _ (r : Reader) (t l s : List ℕ) (i left : ℕ) (b : is_bytes r.stage ≡ true) (h : i < length s) (o : left ≡ bytes_left r) (l' : List ℕ) where
   -- the piece ends before the buffer
-  pub code-more-bytes : length s - i < left → l' ≡ sets l at (firsts (length s - i) (drop i s))
+  pub code-more-bytes : length s - i < left → l' ≡ sets l r.field (firsts (length s - i) (drop i s))
       → Goes r t l s i (record { what = More; reader = further r (length s - i); next = length s }) t l'
   code-more-bytes w p =
       record {
         past = h;
         same =
             go (drop i s) (length-drop i s)
-            ∙ ap (more_at r t (r.field + (length s - i)) (length s)) (sym (p ∙ ap (λ (a : ℕ). sets l a (firsts (length s - i) (drop i s))) f
+            ∙ ap (more_at r t (r.field + (length s - i)) (length s)) (sym (p
             ∙ ap (sets l r.field) (take_all (length s - i) (drop i s) (let z = length-drop i s in omega arith))))
             ∙ sym
             (going-resumed (more_at r t (r.field + (length s - i)) (length s) l') (drop (length s) s) refl
@@ -170,7 +169,7 @@ module _ (r : Reader) (t l s : List ℕ) (i left : ℕ) (b : is_bytes r.stage �
           ∙ ap (λ (k : ℕ). more_at r t (r.field + (length s - i)) k (sets l r.field (a ∷ x))) (let e : i + suc (length x) ≡ length s = omega arith in e)
 
   -- it does not
-  pub code-all-bytes : left ≤ length s - i → l' ≡ sets l at (firsts (i + left - i) (drop i s))
+  pub code-all-bytes : left ≤ length s - i → l' ≡ sets l r.field (firsts (i + left - i) (drop i s))
       → Goes r t l s i (record { what = Call; reader = at_call r.nums; next = i + left }) t l'
   code-all-bytes w p =
       record {
@@ -186,7 +185,6 @@ module _ (r : Reader) (t l s : List ℕ) (i left : ℕ) (b : is_bytes r.stage �
       stored : l' ≡ sets l r.field (firsts left (drop i s))
       stored =
           p
-          ∙ ap (λ (a : ℕ). sets l a (firsts (i + left - i) (drop i s))) f
           ∙ ap (λ (k : ℕ). sets l r.field (firsts k (drop i s))) (let z : i + left - i ≡ left = omega arith in z)
 
       go : (x : List ℕ) → length x ≡ left → advance r t l x i ≡ call_at r t (i + left) (sets l r.field x)
@@ -194,11 +192,11 @@ module _ (r : Reader) (t l s : List ℕ) (i left : ℕ) (b : is_bytes r.stage �
       go (a ∷ x) z = rw (← z) (all-bytes r t l a x i b (omega arith))
 
 -- ---- what is left of the piece, as the code has it
-module _ (r : Reader) (t l s : List ℕ) (i : ℕ) (m : Moved) (t' l' : List ℕ) (g : Goes r t l s i m t' l') (b : Bool) (w : b ≡ is_more m.what) where
-  pub code-goes-on : b ≡ true → advance m.reader t' l' (drop m.next s) m.next ≡ advance r t l (drop i s) i
-  code-goes-on e = sym (g.same ∙ going-resumed (record { moved = m; rest = []; table = t'; buffer = l' }) (drop m.next s) (sym w ∙ e))
+module _ (r : Reader) (t l s : List ℕ) (i : ℕ) (m : Moved) (t' l' : List ℕ) (g : Goes r t l s i m t' l') where
+  pub code-goes-on : is_more m.what ≡ true → advance m.reader t' l' (drop m.next s) m.next ≡ advance r t l (drop i s) i
+  code-goes-on e = sym (g.same ∙ going-resumed (record { moved = m; rest = []; table = t'; buffer = l' }) (drop m.next s) e)
 
-  pub code-stops : b ≡ false → Advances (advance r t l (drop i s) i) m t' l'
+  pub code-stops : is_more m.what ≡ false → Advances (advance r t l (drop i s) i) m t' l'
   code-stops e =
-      rw (g.same ∙ stopped-resumed (record { moved = m; rest = []; table = t'; buffer = l' }) (drop m.next s) (sym w ∙ e))
+      rw (g.same ∙ stopped-resumed (record { moved = m; rest = []; table = t'; buffer = l' }) (drop m.next s) e)
       (record { moved = refl; table = refl; buffer = refl })

@@ -63,18 +63,18 @@ is_between r = between_at r.stage r
 
 -- at the next number or byte of the stage
 abbrev pub onward : Reader → List ℕ → Reader
-onward r nums = record { stage = r.stage; part = start; field = r.field + 1; last = r.last; nums = nums }
+onward r nums = record r { part = start; field = r.field + 1; nums = nums }
 
 -- n bytes further in a call's buffer, of which some are to come: one at the least
 abbrev pub further : Reader → ℕ → Reader
-further r n = record { stage = r.stage; part = start; field = r.field + n; last = r.last; nums = r.nums }
+further r n = record r { part = start; field = r.field + n }
 
 abbrev pub bytes_left : Reader → ℕ
 bytes_left r = r.last - r.field + 1
 
 -- with another part of its number read
 abbrev pub with_part : Reader → Part → Reader
-with_part r p = record { stage = r.stage; part = p; field = r.field; last = r.last; nums = r.nums }
+with_part r p = record r { part = p }
 
 -- ---- a number is whole: v, number `field` of the stage
 

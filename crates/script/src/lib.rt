@@ -3,14 +3,14 @@
 #![tactic(auto)]
 
 ghost use Rattle.std.specs.Prelude.{true, false, List, ◌≡◌, ℕ, ◌+◌, ◌<◌, ◌≤◌, drop, length, set};
-ghost use Rattle.script.specs.Take.{awaiting as awaiting_at, new_reader, is_more, is_bytes, is_calling, is_between, onward, further, kept_nums, kept_table, counts_fit, header_ended, numbers_ended, ended, numbered, with_part, fed_took, fed_table, bytes_left};
+ghost use Rattle.script.specs.Take.{awaiting as awaiting_at, at_call as call_at, new_reader, is_bytes, is_calling, is_between, onward, further, kept_nums, kept_table, counts_fit, header_ended, numbers_ended, ended, numbered, with_part, fed_took, fed_table, bytes_left};
 ghost use Rattle.script.specs.Advance.{advance, Advances, Goes};
 
 use numerals::{Fed, Part};
 use rules::{CELL_WORDS, HEADER_WORDS, MAX_CELLS, MAX_SUBTYPES, SUBTYPE_WORDS, SUBTYPES};
 
 // What is being read.
-#[derive(Clone, Copy)]
+#[derive(Clone, Copy, PartialEq, Eq)]
 pub enum Stage {
     Header,
     Body,
@@ -28,8 +28,9 @@ pub struct Reader {
     pub nums: [u32; 6],
 }
 
-// What is whole now: the configuration, a call, or nothing yet; or there is a fault.
-#[derive(Clone, Copy)]
+// What is whole now: the configuration, a call, or nothing yet; or there is a fault. That is no `Err`: with a fault too `advance` promises the reader and the place,
+// and no step here goes on from the answer of another, so a `?` would stand nowhere.
+#[derive(Clone, Copy, PartialEq, Eq)]
 pub enum What {
     More,
     Configuration,
@@ -52,22 +53,22 @@ pub struct Moved {
     pub next: usize,
 }
 
+// A piece of the input from a place on, where it has a byte at the least.
+#[derive(Clone, Copy)]
+struct Ahead<'a> {
+    piece: &'a [u8],
+    from: usize,
+    ghost some: { from < length piece.now },
+}
+
 const LAST_OF_HEADER: u32 = 6;
 
 const LAST_OF_CALL: u32 = 5;
 
 const MAX_BUFFER: u32 = 512;
 
-fn is_more(what: What) -> bool
-    ensures { result ≡ is_more what }
-{
-    match what {
-        What::More => true,
-        What::Configuration => false,
-        What::Call => false,
-        What::Fault => false,
-    }
-}
+// Of a number no group is read.
+const NO_PART: Part = Part { value: 0, count: 0 };
 
 // A reader at the first number or byte of a stage.
 fn awaiting(stage: Stage, last: u32, nums: [u32; 6]) -> Reader
@@ -75,30 +76,26 @@ fn awaiting(stage: Stage, last: u32, nums: [u32; 6]) -> Reader
 {
     Reader {
         stage,
-        part: Part { value: 0, count: 0 },
+        part: NO_PART,
         field: 0,
         last,
         nums,
     }
 }
 
+// A reader at the start of a call.
+fn at_call(nums: [u32; 6]) -> Reader
+    ensures { result ≡ call_at nums }
+{
+    awaiting(Stage::Numbers, LAST_OF_CALL, nums)
+}
+
 // As many cells and subtypes as a configuration can have.
+#[tactic(auto, unfolding(crate::specs::Take::counts_fit))]
 fn counts_fit(cells: usize, subtypes: usize) -> bool
     ensures { result ≡ counts_fit cells subtypes }
 {
-    (1 <= cells) & ((cells <= MAX_CELLS) & (subtypes <= MAX_SUBTYPES))
-}
-
-// The call's number at a place.
-fn set_num(nums: [u32; 6], at: usize, v: u32) -> [u32; 6]
-    ensures { result ≡ set nums at v }
-{
-    if at < 6 {
-        let mut kept = nums;
-        kept[at] = v;
-        return kept;
-    }
-    nums
+    (1..=MAX_CELLS).contains(&cells) && subtypes <= MAX_SUBTYPES
 }
 
 impl Reader {
@@ -113,27 +110,14 @@ impl Reader {
     pub fn is_calling(self) -> bool
         ensures { result ≡ is_calling self }
     {
-        let stage = self.stage;
-        match stage {
-            Stage::Header => false,
-            Stage::Body => false,
-            Stage::Numbers => true,
-            Stage::Bytes => true,
-        }
+        matches!(self.stage, Stage::Numbers | Stage::Bytes)
     }
 
     // The configuration is whole and no call is read in part: here an input may end.
     pub fn is_between(self) -> bool
         ensures { result ≡ is_between self }
     {
-        let stage = self.stage;
-        let part = self.part;
-        match stage {
-            Stage::Header => false,
-            Stage::Body => false,
-            Stage::Numbers => (self.field == 0) & (part.count == 0),
-            Stage::Bytes => false,
-        }
+        self.stage == Stage::Numbers && self.field == 0 && self.part.count == 0
     }
 
     // The next number or byte of the stage.
@@ -141,13 +125,11 @@ impl Reader {
         requires { self.field < self.last }
         ensures { result ≡ onward self nums }
     {
-        let stage = self.stage;
         Reader {
-            stage,
-            part: Part { value: 0, count: 0 },
+            part: NO_PART,
             field: self.field + 1,
-            last: self.last,
             nums,
+            ..self
         }
     }
 
@@ -156,14 +138,10 @@ impl Reader {
         requires { self.field + n ≤ self.last }
         ensures { result ≡ further self n }
     {
-        let stage = self.stage;
-        let nums = self.nums;
         Reader {
-            stage,
-            part: Part { value: 0, count: 0 },
+            part: NO_PART,
             field: self.field + n as u32,
-            last: self.last,
-            nums,
+            ..self
         }
     }
 
@@ -171,29 +149,24 @@ impl Reader {
     fn keep(self, table: &mut [u32], v: u32) -> [u32; 6]
         ensures { (result ≡ kept_nums self v) × (table.new ≡ kept_table self v table.old) }
     {
-        let stage = self.stage;
-        let at = words::wide(self.field);
-        let nums = self.nums;
-        match stage {
-            Stage::Header => {
-                words::put(table, at, v);
-                nums
-            }
-            Stage::Body => {
-                words::put(table, HEADER_WORDS + at, v);
-                nums
-            }
-            Stage::Numbers => set_num(nums, at, v),
-            Stage::Bytes => nums,
+        let at = self.field as usize;
+        let mut nums = self.nums;
+        match self.stage {
+            Stage::Header => words::put(table, at, v),
+            Stage::Body => words::put(table, HEADER_WORDS + at, v),
+            Stage::Numbers => words::put(&mut nums, at, v),
+            Stage::Bytes => {}
         }
+        nums
     }
 
     // The header is whole: its cells and subtypes follow. With too many of them, or no cell, the configuration is bad, whatever follows: so its body is not read.
+    #[tactic(auto, unfolding(crate::specs::Take::header_ended, crate::specs::Take::counts_fit))]
     fn header_ended(self, nums: [u32; 6], table: &[u32]) -> Took
         ensures { result ≡ header_ended self nums table.now }
     {
-        let cells = words::wide(words::word(table, 0));
-        let subtypes = words::wide(words::word(table, SUBTYPES));
+        let cells = words::word(table, 0) as usize;
+        let subtypes = words::word(table, SUBTYPES) as usize;
         if !counts_fit(cells, subtypes) {
             return Took {
                 what: What::Fault,
@@ -201,14 +174,14 @@ impl Reader {
             };
         }
         let last = CELL_WORDS * cells + SUBTYPE_WORDS * subtypes - 1;
-        let reader = awaiting(Stage::Body, last as u32, nums);
         Took {
             what: What::More,
-            reader,
+            reader: awaiting(Stage::Body, last as u32, nums),
         }
     }
 
     // The numbers of a call are whole: as many bytes follow as the last of them says.
+    #[tactic(auto, unfolding(crate::specs::Take::numbers_ended))]
     fn numbers_ended(self, nums: [u32; 6], length: u32) -> Took
         ensures { result ≡ numbers_ended self nums length }
     {
@@ -219,16 +192,14 @@ impl Reader {
             };
         }
         if length == 0 {
-            let reader = awaiting(Stage::Numbers, LAST_OF_CALL, nums);
             return Took {
                 what: What::Call,
-                reader,
+                reader: at_call(nums),
             };
         }
-        let reader = awaiting(Stage::Bytes, length - 1, nums);
         Took {
             what: What::More,
-            reader,
+            reader: awaiting(Stage::Bytes, length - 1, nums),
         }
     }
 
@@ -236,16 +207,12 @@ impl Reader {
     fn ended(self, nums: [u32; 6], table: &[u32], v: u32) -> Took
         ensures { result ≡ ended self nums table.now v }
     {
-        let stage = self.stage;
-        match stage {
+        match self.stage {
             Stage::Header => self.header_ended(nums, table),
-            Stage::Body => {
-                let reader = awaiting(Stage::Numbers, LAST_OF_CALL, nums);
-                Took {
-                    what: What::Configuration,
-                    reader,
-                }
-            }
+            Stage::Body => Took {
+                what: What::Configuration,
+                reader: at_call(nums),
+            },
             Stage::Numbers => self.numbers_ended(nums, v),
             Stage::Bytes => Took {
                 what: What::Fault,
@@ -255,15 +222,15 @@ impl Reader {
     }
 
     // The number v is whole.
+    #[tactic(auto, unfolding(crate::specs::Take::numbered))]
     fn numbered(self, table: &mut [u32], v: u32) -> Took
         ensures { (result ≡ numbered self table.old v) × (table.new ≡ kept_table self v table.old) }
     {
         let nums = self.keep(table, v);
         if self.field < self.last {
-            let reader = self.onward(nums);
             return Took {
                 what: What::More,
-                reader,
+                reader: self.onward(nums),
             };
         }
         self.ended(nums, table, v)
@@ -273,29 +240,19 @@ impl Reader {
     fn with_part(self, part: Part) -> Reader
         ensures { result ≡ with_part self part }
     {
-        let stage = self.stage;
-        let nums = self.nums;
-        Reader {
-            stage,
-            part,
-            field: self.field,
-            last: self.last,
-            nums,
-        }
+        Reader { part, ..self }
     }
 
     // What the bytes of a number made of it.
+    #[tactic(auto, unfolding(crate::specs::Take::fed_took, crate::specs::Take::fed_table))]
     fn take_fed(self, table: &mut [u32], fed: Fed) -> Took
         ensures { (result ≡ fed_took self table.old fed) × (table.new ≡ fed_table self table.old fed) }
     {
         match fed {
-            Fed::More(q) => {
-                let reader = self.with_part(q);
-                Took {
-                    what: What::More,
-                    reader,
-                }
-            }
+            Fed::More(part) => Took {
+                what: What::More,
+                reader: self.with_part(part),
+            },
             Fed::Done(v) => self.numbered(table, v),
             Fed::Bad => Took {
                 what: What::Fault,
@@ -305,21 +262,16 @@ impl Reader {
     }
 
     // The bytes of a number, as far as it or the piece goes.
-    fn take_number(self, table: &mut [u32], s: &[u8], from: usize) -> Moved
-        requires { (is_bytes self.stage ≡ false) × (from < length s.now) }
-        ensures { (l : List ℕ) → Goes self table.old l s.now from result table.new l }
+    fn take_number(self, table: &mut [u32], ahead: Ahead<'_>) -> Moved
+        requires { is_bytes self.stage ≡ false }
+        ensures { (l : List ℕ) → Goes self table.old l ahead.entry.piece.now ahead.entry.from result table.new l }
     {
-        let part = self.part;
-        let x = numerals::feed_all(part, s, from);
-        let fed = x.fed;
-        let before = self.with_part(x.part);
-        let took = before.take_fed(table, fed);
-        let what = took.what;
-        let reader = took.reader;
+        let scan = numerals::feed_all(self.part, ahead.piece, ahead.from);
+        let took = self.with_part(scan.part).take_fed(table, scan.fed);
         Moved {
-            what,
-            reader,
-            next: x.next,
+            what: took.what,
+            reader: took.reader,
+            next: scan.next,
         }
     }
 
@@ -327,36 +279,30 @@ impl Reader {
     fn bytes_left(self) -> usize
         ensures { result ≡ bytes_left self }
     {
-        if self.field < self.last {
-            words::wide(self.last - self.field) + 1
-        } else {
-            1
-        }
+        self.last.saturating_sub(self.field) as usize + 1
     }
 
     // The bytes of a call's buffer, as far as it or the piece goes.
-    fn take_bytes(self, buf: &mut [u8], s: &[u8], from: usize) -> Moved
-        requires { (is_bytes self.stage ≡ true) × (from < length s.now) }
-        ensures { (t : List ℕ) → Goes self t buf.old s.now from result t buf.new }
+    fn take_bytes(self, buf: &mut [u8], ahead: Ahead<'_>) -> Moved
+        requires { is_bytes self.stage ≡ true }
+        ensures { (t : List ℕ) → Goes self t buf.old ahead.entry.piece.now ahead.entry.from result t buf.new }
     {
-        let at = words::wide(self.field);
+        let Ahead { piece, from } = ahead;
+        let at = self.field as usize;
         let left = self.bytes_left();
-        let ahead = s.len() - from;
-        if ahead < left {
-            words::put_bytes(buf, at, &s[from..]);
-            let reader = self.further(ahead);
+        let come = piece.len() - from;
+        if come < left {
+            words::put_bytes(buf, at, &piece[from..]);
             return Moved {
                 what: What::More,
-                reader,
-                next: s.len(),
+                reader: self.further(come),
+                next: piece.len(),
             };
         }
-        words::put_bytes(buf, at, &s[from..from + left]);
-        let nums = self.nums;
-        let reader = awaiting(Stage::Numbers, LAST_OF_CALL, nums);
+        words::put_bytes(buf, at, &piece[from..from + left]);
         Moved {
             what: What::Call,
-            reader,
+            reader: at_call(self.nums),
             next: from + left,
         }
     }
@@ -365,37 +311,31 @@ impl Reader {
     fn is_bytes(self) -> bool
         ensures { result ≡ is_bytes self.stage }
     {
-        let stage = self.stage;
-        match stage {
-            Stage::Header => false,
-            Stage::Body => false,
-            Stage::Numbers => false,
-            Stage::Bytes => true,
-        }
+        self.stage == Stage::Bytes
     }
 
     // Some bytes of a piece, from a place on.
-    fn take_some(self, table: &mut [u32], buf: &mut [u8], s: &[u8], from: usize) -> Moved
-        requires { from < length s.now }
-        ensures { Goes self table.old buf.old s.now from result table.new buf.new }
+    fn take_some(self, table: &mut [u32], buf: &mut [u8], ahead: Ahead<'_>) -> Moved
+        ensures { Goes self table.old buf.old ahead.entry.piece.now ahead.entry.from result table.new buf.new }
     {
         if self.is_bytes() {
-            return self.take_bytes(buf, s, from);
+            self.take_bytes(buf, ahead)
+        } else {
+            self.take_number(table, ahead)
         }
-        self.take_number(table, s, from)
     }
 }
 
-// The bytes of a piece from a place on, up to the end of the configuration or of a call, a fault, or the piece's end.
+// The bytes of a piece from a place on, up to the end of the configuration or of a call, a fault, or the piece's end. (No `for`: each stretch says where the next begins.)
 pub fn advance(r: Reader, table: &mut [u32], buf: &mut [u8], s: &[u8], from: usize) -> Moved
     ensures { Advances (advance r table.old buf.old (drop from s.now) from) result table.new buf.new }
 {
     let mut reader = r;
     let mut i = from;
     while i < s.len() {
-        let m = reader.take_some(table, buf, s, i);
-        let what = m.what;
-        if !is_more(what) {
+        let ahead = Ahead { piece: s, from: i };
+        let m = reader.take_some(table, buf, ahead);
+        if m.what != What::More {
             return m;
         }
         reader = m.reader;

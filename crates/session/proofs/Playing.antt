@@ -14,7 +14,7 @@ use Rattle.session.proofs.Due.{turn-taken, turn-place, turn-rest}
 -- a text after another
 after-after : (a b : List ℕ) (k : Turn) → after a (after b k) ≡ after (a ++ b) k
 after-after a b k =
-    ap (λ (z : List ℕ). record { session = k.session; next = k.next; rest = k.rest; table = k.table; store = k.store; buffer = k.buffer; text = z })
+    ap (λ (z : List ℕ). record k { text = z })
     (sym (append_assoc a b k.text))
 
 -- ---- one turn, or none

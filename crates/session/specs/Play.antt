@@ -12,16 +12,7 @@ stay x t st l s i = record { session = x; next = i; rest = s; table = t; store =
 
 -- what k does, after a text
 abbrev pub after : List ℕ → Turn → Turn
-after text k =
-    record {
-      session = k.session;
-      next = k.next;
-      rest = k.rest;
-      table = k.table;
-      store = k.store;
-      buffer = k.buffer;
-      text = text ++ k.text;
-    }
+after text k = record k { text = text ++ k.text }
 
 -- s is the piece from place i on, room that of the output (n is at least the number of turns: each takes a byte or more)
 unfoldable pub play_in : ℕ → Session → List ℕ → List ℕ → List ℕ → List ℕ → ℕ → ℕ → Turn

@@ -17,7 +17,6 @@ use Rattle.output.specs.Wrote.{Wrote}
 use Rattle.text.specs.Room.{line_bytes}
 use Rattle.session.specs.declared.Session.{Session}
 use Rattle.session.specs.declared.Stepped.{Stepped}
-use Rattle.session.specs.declared.Setup.{Setup}
 
 -- a session at the start of an input
 abbrev pub new_session : Session
@@ -25,7 +24,7 @@ new_session = record { reader = new_reader; lines = 0; words = 0; bytes = 0; ove
 
 -- a session with the same table and store, further on in the input
 abbrev pub onward : Session → Reader → ℕ → Bool → Session
-onward x r n b = record { reader = r; lines = n; words = x.words; bytes = x.bytes; over = b }
+onward x r n b = record x { reader = r; lines = n; over = b }
 
 -- the lent table at the start: the header's last zero, which the input does not have, is written
 abbrev pub blank_table : List ℕ → List ℕ
@@ -69,6 +68,10 @@ bytes_of t st = min (min (slots t file * blocks t) max_replay_blocks * block_byt
 unfoldable pub accepts : List ℕ → List ℕ → Bool
 accepts t st = set_up_answer (take (words_of t) t) (bytes_of t st) == XOK
 
+-- the session that reads on after it, or is over where set-up refuses it
+abbrev pub opened : Reader → List ℕ → List ℕ → Session
+opened reader t st = record { reader = reader; lines = 0; words = words_of t; bytes = bytes_of t st; over = not (accepts t st) }
+
 -- the table set up; the store is zeros
 abbrev pub table_ready : List ℕ → List ℕ → List ℕ
 table_ready t st = sets t 0 (set_up_table (take (words_of t) t) (bytes_of t st))
@@ -111,13 +114,7 @@ acted More x st p =
     }
 acted Configuration x st p =
     record {
-      session = record {
-        reader = p.moved.reader;
-        lines = 0;
-        words = words_of p.table;
-        bytes = bytes_of p.table st;
-        over = not (accepts p.table st);
-      };
+      session = opened p.moved.reader p.table st;
       next = p.moved.next;
       rest = p.rest;
       table = table_ready p.table st;
@@ -152,10 +149,8 @@ pub record Written (o : List ℕ) (at : ℕ) (s : List ℕ) (r : ℕ) (o' : List
   pub short : length s ≤ line_bytes
 
 -- the configuration at the front of the table t is set up
-pub record Prepared (t st : List ℕ) (r : Setup) (t' st' : List ℕ) : Type 0 where
-  pub words : r.words ≡ words_of t
-  pub bytes : r.bytes ≡ bytes_of t st
-  pub answer : r.answer ≡ set_up_answer (take (words_of t) t) (bytes_of t st)
+pub record Prepared (reader : Reader) (t st : List ℕ) (r : Session) (t' st' : List ℕ) : Type 0 where
+  pub session : r ≡ opened reader t st
   pub table : t' ≡ table_ready t st
   pub store : st' ≡ store_ready st
 
@@ -177,8 +172,7 @@ pub record Turned (k : Turn) (o : List ℕ) (at : ℕ) (r : Stepped) (t' st' l' 
 
 -- that, where the configuration is whole: the session before it, the rest of the piece and the buffer do not matter
 pub record Begun (reader : Reader) (i : ℕ) (t st o : List ℕ) (at : ℕ) (r : Stepped) (t' st' o' : List ℕ) : Type 0 where
-  pub session :
-      r.session ≡ record { reader = reader; lines = 0; words = words_of t; bytes = bytes_of t st; over = not (accepts t st) }
+  pub session : r.session ≡ opened reader t st
   pub next : r.next ≡ i
   pub table : t' ≡ table_ready t st
   pub store : st' ≡ store_ready st

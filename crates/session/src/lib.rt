@@ -1,10 +1,13 @@
 // A replay session: a script goes in, in pieces of any size, and its listing comes out. The caller lends the memory: a table and a store, a buffer for the bytes of a
 // call, and room for a line of text.
+//
+// What is lent stays three parameters. A struct of them was tried: by value it can't be passed on to a call, and behind a `&mut` each function has to promise of each slice
+// that it is the same, and the proof of `run` didn't close.
 #![tactic(auto)]
 
-ghost use Rattle.std.specs.Prelude.{◌≡◌, ◌*◌, min, max, length, drop, if◌then◌else◌};
+ghost use Rattle.std.specs.Prelude.{◌≡◌, ◌*◌, min, length, drop, if◌then◌else◌, slice_index_or};
 ghost use Rattle.rules.specs.Layout.{file, slots, blocks};
-ghost use Rattle.rules.specs.Replay.{heading, bad_configuration};
+ghost use Rattle.rules.specs.Replay.{max_replay_slots, heading, bad_configuration};
 ghost use Rattle.session.specs.Turn.{new_session, onward, words_asked, blank_table, fault_text, finish_text, outcome_of, turn, Written, Prepared, Begun, Ran, Acts, Turned};
 ghost use Rattle.session.specs.Play.{play, Played};
 
@@ -15,7 +18,7 @@ use rules::{
 use script::{Moved, Reader, What};
 
 // What is carried from piece to piece: what is being read; how many calls were made; how many words and bytes of the lent table and store are in use, once they are
-// set up; and whether a bad line was written, after which nothing is read.
+// set up; and whether a bad line was written, after which nothing is read (a `bool`, since all that is ever asked is whether it is over).
 #[derive(Clone, Copy)]
 pub struct Session {
     pub reader: Reader,
@@ -33,9 +36,8 @@ impl Session {
         Session {
             reader,
             lines,
-            words: self.words,
-            bytes: self.bytes,
             over,
+            ..self
         }
     }
 }
@@ -48,14 +50,6 @@ pub struct Stepped {
     pub end: usize,
 }
 
-// How much of the lent table and store a configuration takes, and what set-up answered.
-#[derive(Clone, Copy)]
-struct Setup {
-    words: usize,
-    bytes: usize,
-    answer: u32,
-}
-
 pub const MAX_BUFFER: usize = 512;
 
 pub const MAX_REPLAY_BLOCKS: usize = 64;
@@ -65,26 +59,13 @@ pub const MAX_REPLAY_SLOTS: usize = 64;
 // Any line has room in this.
 const LINE_BYTES: usize = 1200;
 
-fn least(a: usize, b: usize) -> usize
-    ensures { result ≡ min a b }
-{
-    if a < b { a } else { b }
-}
-
-fn greatest(a: usize, b: usize) -> usize
-    ensures { result ≡ max a b }
-{
-    if a < b { b } else { a }
-}
-
 // A session at the start of an input. The header's last zero, which the input does not have, is put into the table.
 pub fn start(table: &mut [u32]) -> Session
     ensures { (result ≡ new_session) × (table.new ≡ blank_table table.old) }
 {
-    words::put(table, 7, 0);
-    let reader = Reader::new();
+    words::put(table, HEADER_WORDS - 1, 0);
     Session {
-        reader,
+        reader: Reader::new(),
         lines: 0,
         words: 0,
         bytes: 0,
@@ -96,70 +77,80 @@ fn put_fault(out: &mut [u8], at: usize, calling: bool) -> usize
     ensures { Written out.old at (fault_text calling) result out.new }
 {
     if calling {
-        return output::put_bytes(out, at, b"bad script\n");
+        output::put_bytes(out, at, b"bad script\n")
+    } else {
+        output::put_bytes(out, at, b"bad configuration\n")
     }
-    output::put_bytes(out, at, b"bad configuration\n")
 }
 
 // The input has ended: writes the text that is due then at the front of the output, and answers its length.
+#[tactic(auto, using(crate::proofs::Ways::nothing), unfolding(crate::specs::Turn::finish_text))]
 pub fn finish(x: Session, out: &mut [u8]) -> usize
     ensures { Written out.old 0 (finish_text x) result out.new }
 {
-    let reader = x.reader;
-    if x.over {
+    if x.over || x.reader.is_between() {
         return 0;
     }
-    if reader.is_between() {
-        return 0;
-    }
-    put_fault(out, 0, reader.is_calling())
+    put_fault(out, 0, x.reader.is_calling())
+}
+
+// How many slots of a kind the header asks for in its word, and no more than replay takes.
+fn slots_asked(table: &[u32], word: usize) -> usize
+    ensures { result ≡ min (slice_index_or table.now word 0) max_replay_slots }
+{
+    (words::word(table, word) as usize).min(MAX_REPLAY_SLOTS)
 }
 
 // How many words a table with this header has, if it has no more slots of a kind than replay takes. With more it is given too few, and set-up refuses it.
+#[tactic(auto, unfolding(rules::specs::Layout::cells, rules::specs::Layout::subtypes, rules::specs::Layout::slots))]
 fn table_words(table: &[u32]) -> usize
     ensures { result ≡ words_asked table.now }
 {
-    let cells = CELL_WORDS * words::wide(words::word(table, 0));
-    let subtypes = SUBTYPE_WORDS * words::wide(words::word(table, SUBTYPES));
-    let processes = PROCESS_WORDS
-        * least(words::wide(words::word(table, PROCESSES)), MAX_REPLAY_SLOTS);
-    let segments = SEGMENT_WORDS
-        * least(words::wide(words::word(table, SEGMENTS)), MAX_REPLAY_SLOTS);
-    let files = FILE_WORDS * least(words::wide(words::word(table, FILES)), MAX_REPLAY_SLOTS);
+    let cells = CELL_WORDS * words::word(table, 0) as usize;
+    let subtypes = SUBTYPE_WORDS * words::word(table, SUBTYPES) as usize;
+    let processes = PROCESS_WORDS * slots_asked(table, PROCESSES);
+    let segments = SEGMENT_WORDS * slots_asked(table, SEGMENTS);
+    let files = FILE_WORDS * slots_asked(table, FILES);
     HEADER_WORDS + cells + subtypes + processes + segments + files
 }
 
 // How many blocks all its files have.
+#[tactic(auto, unfolding(rules::specs::Layout::slots, rules::specs::Layout::blocks))]
 fn file_blocks(table: &[u32]) -> usize
     ensures { result ≡ slots table.now file * blocks table.now }
 {
-    words::wide(words::word(table, FILES)) * words::wide(words::word(table, BLOCKS))
+    words::word(table, FILES) as usize * words::word(table, BLOCKS) as usize
 }
 
-// The configuration is whole, at the front of the table: sets up as much of the table as it asks for, over a store of zeros.
-fn prepare(table: &mut [u32], store: &mut [u8]) -> Setup
-    ensures { Prepared table.old store.old result table.new store.new }
+// The configuration is whole, at the front of the table: sets up as much of the table as it asks for, over a store of zeros. A session over these is over where set-up
+// refuses it.
+fn prepare(reader: Reader, table: &mut [u32], store: &mut [u8]) -> Session
+    ensures { Prepared reader table.old store.old result table.new store.new }
 {
-    let words = least(table_words(table), table.len());
-    let blocks = least(file_blocks(table), MAX_REPLAY_BLOCKS);
-    let bytes = least(blocks * BLOCK_BYTES, store.len());
-    words::put_zeros(store, 0, store.len());
+    let words = table_words(table).min(table.len());
+    let blocks = file_blocks(table).min(MAX_REPLAY_BLOCKS);
+    let bytes = (blocks * BLOCK_BYTES).min(store.len());
+    store.fill(0);
     let answer = table::set_up(&mut table[..words], bytes);
-    Setup {
+    Session {
+        reader,
+        lines: 0,
         words,
         bytes,
-        answer,
+        over: answer != XOK,
     }
 }
 
 // The first line: the heading, or the bad line where the configuration is refused.
+#[tactic(auto, unfolding(rules::specs::Replay::heading, rules::specs::Errors::ascii))]
 fn put_opening(out: &mut [u8], at: usize, accepted: bool) -> usize
     ensures { Written out.old at (if accepted then heading else bad_configuration) result out.new }
 {
     if accepted {
-        return output::put_bytes(out, at, b"n error first second\n");
+        output::put_bytes(out, at, b"n error first second\n")
+    } else {
+        put_fault(out, at, false)
     }
-    put_fault(out, at, false)
 }
 
 // The configuration is whole: calls follow it, or, where it is refused, nothing more is read.
@@ -173,16 +164,8 @@ fn begin(
 ) -> Stepped
     ensures { Begun reader next table.old store.old out.old at result table.new store.new out.new }
 {
-    let y = prepare(table, store);
-    let accepted = y.answer == XOK;
-    let end = put_opening(out, at, accepted);
-    let session = Session {
-        reader,
-        lines: 0,
-        words: y.words,
-        bytes: y.bytes,
-        over: !accepted,
-    };
+    let session = prepare(reader, table, store);
+    let end = put_opening(out, at, !session.over);
     Stepped { session, next, end }
 }
 
@@ -199,9 +182,9 @@ fn run(
 ) -> usize
     ensures { Ran (outcome_of x nums table.old store.old buf.old) n nums table.old store.old buf.old out.old at result table.new store.new buf.new out.new }
 {
-    let words = least(x.words, table.len());
-    let bytes = least(x.bytes, store.len());
-    let k = least(least(words::wide(nums[5]), MAX_BUFFER), buf.len());
+    let words = x.words.min(table.len());
+    let bytes = x.bytes.min(store.len());
+    let k = (nums[5] as usize).min(MAX_BUFFER).min(buf.len());
     let r = calls::call(
         &mut table[..words],
         &mut store[..bytes],
@@ -216,6 +199,7 @@ fn run(
 }
 
 // Does what the piece that was read asks for.
+#[tactic(auto, using(crate::proofs::Ways::nothing), unfolding(crate::specs::Turn::acted))]
 fn act(
     x: Session,
     m: Moved,
@@ -227,36 +211,36 @@ fn act(
 ) -> Stepped
     ensures { Acts x m table.old store.old buf.old out.old at result table.new store.new buf.new out.new }
 {
-    let what = m.what;
-    let reader = m.reader;
-    let next = m.next;
+    let Moved { what, reader, next } = m;
     match what {
-        What::More => {
-            let session = x.onward(reader, x.lines, false);
-            Stepped {
-                session,
-                next,
-                end: at,
-            }
-        }
+        What::More => Stepped {
+            session: x.onward(reader, x.lines, false),
+            next,
+            end: at,
+        },
         What::Configuration => begin(reader, next, table, store, out, at),
         What::Call => {
-            let n = std::num::wrapping_add_u64(x.lines, 1);
-            let nums = reader.nums;
-            let end = run(x, n, nums, table, store, buf, out, at);
-            let session = x.onward(reader, n, false);
-            Stepped { session, next, end }
+            let n = x.lines.wrapping_add(1);
+            let end = run(x, n, reader.nums, table, store, buf, out, at);
+            Stepped {
+                session: x.onward(reader, n, false),
+                next,
+                end,
+            }
         }
         What::Fault => {
-            let before = x.reader;
-            let end = put_fault(out, at, before.is_calling());
-            let session = x.onward(reader, x.lines, true);
-            Stepped { session, next, end }
+            let end = put_fault(out, at, x.reader.is_calling());
+            Stepped {
+                session: x.onward(reader, x.lines, true),
+                next,
+                end,
+            }
         }
     }
 }
 
 // Reads on in a piece, from a place on, up to the end of the configuration or of a call, a fault, or the piece's end, and writes the text that is due.
+#[tactic(auto, using(crate::proofs::Ways::nothing), unfolding(crate::specs::Turn::turn))]
 pub fn step(
     x: Session,
     table: &mut [u32],
@@ -272,16 +256,16 @@ pub fn step(
     if x.over {
         return Stepped {
             session: x,
-            next: greatest(from, s.len()),
+            next: from.max(s.len()),
             end: at,
         };
     }
-    let reader = x.reader;
-    let m = script::advance(reader, table, buf, s, from);
+    let m = script::advance(x.reader, table, buf, s, from);
     act(x, m, table, store, buf, out, at)
 }
 
-// Steps through a piece, from a place on, as long as the output has room for a line. Their texts stand at the front of the output then.
+// Steps through a piece, from a place on, as long as the output has room for a line. Their texts stand at the front of the output then. (No `for`: each step says where
+// the next begins.)
 pub fn play(
     x: Session,
     table: &mut [u32],
@@ -296,10 +280,7 @@ pub fn play(
     let mut session = x;
     let mut next = from;
     let mut end = 0;
-    while next < s.len() {
-        if out.len() - end < LINE_BYTES {
-            break;
-        }
+    while next < s.len() && LINE_BYTES <= out.len() - end {
         let r = step(session, table, store, buf, out, end, s, next);
         session = r.session;
         next = r.next;

@@ -4,14 +4,14 @@ use mathlib.Core.Bool.{and_assoc, and-true}
 use borrow.Author.Tests.{lt-leb}
 use Rattle.rules.specs.Words.{all_below}
 use Rattle.rules.specs.Claim.{Claim, test, is, each}
-use Rattle.rules.specs.Layout.{max_bits, Kind, process, segment, file, slots, cell_of, configuration, Addr, at, rd, live, parent, queue, bits, zero7, entries, held_at, used_at, messages, message_at, message_words, pages, page_at}
+use Rattle.rules.specs.Layout.{max_bits, Kind, process, segment, file, slots, cell_of, Addr, at, rd, live, parent, queue, bits, zero7, entries, held_at, used_at, messages, message_at, message_words, pages, page_at}
 use Rattle.rules.specs.Seid.{class, serial_of}
 use Rattle.rules.specs.WellFormed.{record_ok, held_ok, entry_ok, parent_ok, held_once, message_ok, page_ok, process_ok}
 use Rattle.laws.proofs.Below.{all_of}
 use Rattle.laws.proofs.Claims.{holds, tested}
 use Rattle.laws.proofs.Shape.{record_of_lem}
-use Rattle.layout.specs.declared.Header.{Header}
-use Rattle.table.specs.Shape.{RecordAt, Shaped}
+use Rattle.table.specs.declared.frame.Frame.{Frame}
+use Rattle.table.specs.Frame.{conf, words, RecordAt}
 use Rattle.table.specs.Entries.{record_at, Indexed, fresh}
 use Rattle.table.proofs.Config.{base_read}
 use Rattle.table.proofs.Loops.{all-sum}
@@ -98,32 +98,32 @@ module _ (r : Addr → ℕ) (p g : ℕ) where
 abbrev pub entries_ok : List ℕ → (Addr → ℕ) → Kind → ℕ → Claim
 entries_ok h r k p = each entries (λ d. entry_ok h r k (cell_of h process p) (r (at process p (held_at k d))) (r (at process p (used_at k d))))
 
-module _ (t : List ℕ) (n : Header) (shaped : Shaped t n) (p place : ℕ) (lies : RecordAt n process p place) where
-  pages-read : test (each pages (page_ok (record_at t place) 0)) ≡ test (each pages (page_ok (rd (configuration t) t) p))
+module _ (f : Frame) (p place : ℕ) (lies : RecordAt f process p place) where
+  pages-read : test (each pages (page_ok (record_at f.t.now place) 0)) ≡ test (each pages (page_ok (words f) p))
   unfolding page_ok rd
-  pages-read = rw (lies.at-is, base_read t n shaped.framed.header process)
+  pages-read = rw (lies.at-is, base_read f.t.now f.n f.framed.header process)
 
   -- of a live process, from what each of its tests says
   pub live-process : (b₀ b₁ b₂ b₃ b₄ b₅ b₆ b₇ : Bool)
-      → b₀ ≡ test (parent_ok (configuration t) (cell_of (configuration t) process p) (rd (configuration t) t (at process p parent)))
-      → b₁ ≡ leb (rd (configuration t) t (at process p queue)) messages
-      → b₂ ≡ leb (rd (configuration t) t (at process p (bits process))) max_bits
-      → b₃ ≡ eqb (rd (configuration t) t (at process p zero7)) 0
-      → b₄ ≡ test (entries_ok (configuration t) (rd (configuration t) t) file p)
-      → b₅ ≡ test (entries_ok (configuration t) (rd (configuration t) t) segment p) && test (held_once (rd (configuration t) t) p)
-      → b₆ ≡ test (each messages (message_ok (configuration t) (rd (configuration t) t) p))
-      → b₇ ≡ test (each pages (page_ok (record_at t place) 0))
-      → test (record_ok (record_at t place) process 0 (is (b₀ && (b₁ && (b₂ && (b₃ && (b₄ && (b₅ && (b₆ && b₇)))))))))
-      ≡ test (process_ok (configuration t) (rd (configuration t) t) p)
+      → b₀ ≡ test (parent_ok (conf f) (cell_of (conf f) process p) (words f (at process p parent)))
+      → b₁ ≡ leb (words f (at process p queue)) messages
+      → b₂ ≡ leb (words f (at process p (bits process))) max_bits
+      → b₃ ≡ eqb (words f (at process p zero7)) 0
+      → b₄ ≡ test (entries_ok (conf f) (words f) file p)
+      → b₅ ≡ test (entries_ok (conf f) (words f) segment p) && test (held_once (words f) p)
+      → b₆ ≡ test (each messages (message_ok (conf f) (words f) p))
+      → b₇ ≡ test (each pages (page_ok (record_at f.t.now place) 0))
+      → test (record_ok (record_at f.t.now place) process 0 (is (b₀ && (b₁ && (b₂ && (b₃ && (b₄ && (b₅ && (b₆ && b₇)))))))))
+      ≡ test (process_ok (conf f) (words f) p)
   unfolding process_ok
   live-process b₀ b₁ b₂ b₃ b₄ b₅ b₆ b₇ e₀ e₁ e₂ e₃ e₄ e₅ e₆ e₇ =
-      rw (e₀, e₁, e₂, e₃, e₄, e₅, e₆, e₇ ∙ pages-read, and_assoc) (record-claim t n shaped process p place _ lies)
+      rw (e₀, e₁, e₂, e₃, e₄, e₅, e₆, e₇ ∙ pages-read, and_assoc) (record-claim f process p place _ lies)
 
   -- of any other, whatever is said of a live one
-  pub dead-process : (rd (configuration t) t (at process p live) ≡ 1 → ⊥) → (b : Bool)
-      → test (record_ok (record_at t place) process 0 (is b)) ≡ test (process_ok (configuration t) (rd (configuration t) t) p)
+  pub dead-process : (words f (at process p live) ≡ 1 → ⊥) → (b : Bool)
+      → test (record_ok (record_at f.t.now place) process 0 (is b)) ≡ test (process_ok (conf f) (words f) p)
   unfolding process_ok
-  dead-process free b = record-claim t n shaped process p place (is b) lies ∙ dead-record (rd (configuration t) t) process p (is b) _ free
+  dead-process free b = record-claim f process p place (is b) lies ∙ dead-record (words f) process p (is b) _ free
 
 -- what a live process that is right holds is right
 module _ (h : List ℕ) (r : Addr → ℕ) (p : ℕ) (alive : r (at process p live) ≡ 1) (right : test (process_ok h r p) ≡ true) where

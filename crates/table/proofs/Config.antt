@@ -1,15 +1,17 @@
 -- The configuration's claims, read off the table's own words.
-use Rattle.std.proofs.Common.{◌≡◌, ℕ, ◌+◌, ◌<◌, ◌≤◌, Bool, true, false, ◌&&◌, List, length, get_or, sym, ap, ◌∙◌, arith, ne_eqb}
+use Rattle.std.proofs.Common.{◌≡◌, ℕ, ◌+◌, ◌*◌, ◌<◌, ◌≤◌, Bool, true, false, ◌&&◌, List, length, get_or, sym, ap, ◌∙◌, arith, ne_eqb}
 use mathlib.Core.Bool.{and-true, and-false}
 use Rattle.rules.specs.Claim.{test, ◌&◌, each}
-use Rattle.rules.specs.Layout.{max_slots, header_words, cell_words, subtype_words, Kind, process, segment, file, cells, slots, blocks, guard, subtypes, cell_word, subtype_word, configuration, base, table_words, cell_at}
+use Rattle.rules.specs.Layout.{max_slots, header_words, cell_words, subtype_words, Kind, process, segment, file, record_words, cells, slots, blocks, guard, subtypes, cell_word, subtype_word, configuration, base, table_words, rd, cell_at}
 use Rattle.rules.specs.WellFormed.{header_ok, cell_ok, levels_distinct, sums_match, subtype_ok, configured, lengths_exact}
 use Rattle.rules.specs.SetUp.{can_set_up}
 use Rattle.laws.proofs.Claims.{holds}
 use Rattle.laws.proofs.Places.{conf-word}
 use Rattle.layout.specs.declared.Header.{Header}
 use Rattle.layout.specs.Header.{header_of, slots_of, subtype_of, base_of, record_of}
-use Rattle.table.specs.Shape.{IsHeader, RecordAt, Small, Framed}
+use Rattle.table.specs.declared.frame.Frame.{Frame}
+use Rattle.table.specs.Shape.{IsHeader, Small, Framed}
+use Rattle.table.specs.Frame.{conf, RecordAt}
 
 -- a word of the header
 pub head-word : (t : List ℕ) (i : ℕ) → i < header_words → get_or (configuration t) i 0 ≡ get_or t i 0
@@ -96,11 +98,31 @@ slots_small n s process = s.few-processes
 slots_small n s segment = s.few-segments
 slots_small n s file = s.few-files
 
+-- no more slots than an index has numbers
+pub slots-few : (f : Frame) (k : Kind) → slots (conf f) k ≤ max_slots
+slots-few f k = omega (arith, slots_read f.t.now f.n f.framed.header k, slots_small f.n f.framed.small k)
+
 -- the record of a slot, where layout says
-pub record_is : (n : Header) (k : Kind) (i place : ℕ) → i < slots_of n k → place ≡ record_of n k i → RecordAt n k i place
-record_is n process i place l e = record { at-is = e; whole = omega arith; within = omega arith }
-record_is n segment i place l e = record { at-is = e; whole = omega arith; within = omega arith }
-record_is n file i place l e = record { at-is = e; whole = omega arith; within = omega arith }
+pub record_is : (f : Frame) (k : Kind) (i place : ℕ) → i < slots_of f.n k → place ≡ record_of f.n k i → RecordAt f k i place
+unfolding rd
+record_is f k i place l e =
+    record {
+      at-is = e;
+      whole = whole k;
+      within = omega (arith, ends k l, f.framed.exact);
+      short = omega (arith, f.framed.exact, f.framed.small.few-files);
+      word = λ j. ap (λ (x : ℕ). get_or f.t.now (x + j) 0) (e ∙ ap (λ (b : ℕ). b + record_words k * i) (sym (base_read f.t.now f.n f.framed.header k)));
+    }
+  where
+    whole : (k : Kind) → 8 ≤ record_words k
+    whole process = omega arith
+    whole segment = omega arith
+    whole file = omega arith
+
+    ends : (k : Kind) → i < slots_of f.n k → record_of f.n k i + record_words k ≤ record_of f.n file f.n.files
+    ends process l = omega arith
+    ends segment l = omega arith
+    ends file l = omega arith
 
 -- ---- set-up's claim, test by test
 

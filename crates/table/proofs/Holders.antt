@@ -1,10 +1,10 @@
 -- What a process holds, as the code reads it: a record's words, a slot's cell, the flow matrix, an identifier's index.
-use Rattle.std.proofs.Common.{◌≡◌, ℕ, ◌+◌, ◌*◌, ◌/◌, ◌%◌, ◌<◌, ◌≤◌, Bool, true, false, cond, not, ◌&&◌, ◌||◌, eqb, ltb, leb, List, length, get_or, set, sym, refl, ap, ◌∙◌, true≢false, arith, ltb-false, ltb-true, lt-ltb, eq-eqb, ne_eqb, eqb-true}
+use Rattle.std.proofs.Common.{◌≡◌, ℕ, ◌+◌, ◌-◌, ◌*◌, ◌/◌, ◌%◌, ◌<◌, ◌≤◌, Bool, true, false, cond, not, ◌&&◌, ◌||◌, eqb, ltb, leb, List, length, get_or, set, sym, refl, ap, ◌∙◌, true≢false, arith, ltb-false, ltb-true, lt-ltb, eq-eqb, ne_eqb, eqb-true}
 use mathlib.Core.Path.{fun_ext}
 use mathlib.Core.Bool.{and-true, and-false}
 use borrow.Author.Tests.{eqb-false}
 use Rattle.rules.specs.Claim.{test}
-use Rattle.rules.specs.Layout.{max_cells, max_slots, Kind, process, segment, file, record_words, slots, cell_of, flows, flow_matrix, configuration, Addr, at, rd, live, serial}
+use Rattle.rules.specs.Layout.{max_cells, max_slots, Kind, process, segment, file, slots, cell_of, flows, flow_matrix, configuration, Addr, at, live, serial}
 use Rattle.rules.specs.Seid.{class, class_of, index_of, serial_of, is_seid, subtype_class}
 use Rattle.rules.specs.WellFormed.{held_ok, current_ok, valid_use, write_use, object_entry_ok, subtype_entry_ok, holds_subtype, entry_ok}
 use Rattle.laws.proofs.Below.{one-le}
@@ -14,32 +14,21 @@ use Rattle.laws.proofs.Shape.{subtype-some}
 use Rattle.laws.proofs.Tab.{get_or-tab2}
 use Rattle.laws.proofs.Cells.{cell-bounds}
 use Rattle.layout.specs.declared.Header.{Header}
-use Rattle.layout.specs.Header.{slots_of}
-use Rattle.table.specs.Shape.{RecordAt, Shaped}
+use Rattle.table.specs.declared.frame.Frame.{Frame}
+use Rattle.table.specs.Shape.{Shaped}
+use Rattle.table.specs.Frame.{words, RecordAt}
 use Rattle.table.specs.Entries.{Indexed, held_word, used_word, unused, holds_own, names, Counts}
-use Rattle.table.proofs.Config.{cells-read, slots_read, slots_small, base_read}
+use Rattle.table.proofs.Config.{cells-read}
 use Rattle.table.proofs.Tally.{tally-add}
 
-module _ (t : List ℕ) (n : Header) (shaped : Shaped t n) (k : Kind) where
-  -- a word of a record
-  pub record-word : (i j place : ℕ) → RecordAt n k i place → get_or t (place + j) 0 ≡ rd (configuration t) t (at k i j)
-  unfolding rd
-  record-word i j place r =
-      ap (λ (x : ℕ). get_or t (x + j) 0) (r.at-is ∙ ap (λ (b : ℕ). b + record_words k * i) (sym (base_read t n shaped.framed.header k)))
+-- all words of a record
+pub record-words : (f : Frame) (k : Kind) (i place : ℕ) → RecordAt f k i place → ◌≡◌ {A = ℕ → ℕ} (λ j. get_or f.t.now (place + j) 0) (λ j. words f (at k i j))
+record-words f k i place r = fun_ext r.word
 
-  pub record-words : (i place : ℕ) → RecordAt n k i place → ◌≡◌ {A = ℕ → ℕ} (λ j. get_or t (place + j) 0) (λ j. rd (configuration t) t (at k i j))
-  record-words i place r = fun_ext (λ j. record-word i j place r)
-
-  -- a slot's cell is a cell
-  pub cell-few : (i : ℕ) → i < slots_of n k → cell_of (configuration t) k i < n.cells
-  cell-few i lt =
-      let e = slots_read t n shaped.framed.header k in
-      let m : i < slots (configuration t) k = omega arith in
-      omega (arith, (cell-bounds (configuration t) k i (rw (shaped.sums k) m)).0, cells-read t n shaped.framed.header)
-
-  -- no more slots than an index has numbers
-  pub slots-few : slots (configuration t) k ≤ 256
-  slots-few = omega (arith, slots_read t n shaped.framed.header k, slots_small n shaped.framed.small k)
+-- a slot's cell is a cell
+pub cell-few : (t : List ℕ) (n : Header) (shaped : Shaped t n) (k : Kind) (i : ℕ) → i < slots (configuration t) k → cell_of (configuration t) k i < max_cells
+cell-few t n shaped k i lt =
+    omega (arith, (cell-bounds (configuration t) k i (rw (shaped.sums k) lt)).0, cells-read t n shaped.framed.header, shaped.framed.small.few-cells)
 
 -- an entry of the flow matrix
 pub flow-at : (h : List ℕ) (flow : List (List Bool)) → flow ≡ flow_matrix h → (a b : ℕ) (d : List Bool) → a < max_cells → b < max_cells
@@ -49,11 +38,10 @@ flow-at h flow e a b d l m = rw e (get_or-tab2 max_cells max_cells (flows h) a b
 
 -- ---- an identifier's index, by one subtraction
 
-pub indexed : (c s x y r : ℕ) → c < 256 → s < 4294967296 → x ≡ c → (y + x * 256) % 4294967296 ≡ s / 65536 → y < 4294967296 → r ≡ y → Indexed c s r
+pub indexed : (c s x r : ℕ) → c < 256 → s < 4294967296 → x ≡ c → r ≡ (s / 65536 + (4294967296 - x * 256)) % 4294967296 → Indexed c s r
 unfolding class_of index_of
-indexed c s x y r hc hs ex e hy er =
-    let away : (r + c * 256) % 4294967296 ≡ s / 65536 = rw (er, ← ex) e in
-    let low : r < 4294967296 = rw er hy in
+indexed c s x r hc hs ex e =
+    let away : r ≡ (s / 65536 + (4294967296 - c * 256)) % 4294967296 = rw (← ex) e in
     record { right = λ l. (omega arith, omega arith); wrong = λ l q. omega arith }
 
 -- where it is no slot's, the identifier has no form; where it is, its serial decides

@@ -1,13 +1,20 @@
 -- The used entries, listed: one number more, and what is asked of the listed is asked of all.
-use Rattle.std.proofs.Common.{◌≡◌, ℕ, ◌+◌, ◌*◌, ◌<◌, ◌≤◌, Bool, true, false, cond, not, ◌&&◌, ◌||◌, eqb, List, length, get_or, set, replicate, sym, ap, ◌∙◌, ap₂, true≢false, add-zero, arith, length-set, get_or-set_other, get_or-set_same, below_more, ne_eqb, eqb-true}
+use Rattle.std.proofs.Common.{◌≡◌, ℕ, ◌+◌, ◌*◌, ◌<◌, ◌≤◌, Bool, true, false, cond, not, ◌&&◌, ◌||◌, eqb, List, length, get_or, set, replicate, refl, sym, ap, ◌∙◌, ap₂, true≢false, add-zero, arith, length-set, get_or-set_other, get_or-set_same, take, length-take-le, get_or-take, below_more, ne_eqb, eqb-true}
 use mathlib.Core.Bool.{and-true}
 use borrow.Author.Tests.{eqb-false}
 use lib.ListN.{length-replicate}
+use Rattle.std.specs.Int.{from_bool}
 use Rattle.rules.specs.Words.{all_below, sum_below, count_below}
 use Rattle.laws.proofs.Tests.{and_both, same_test, split}
 use Rattle.laws.proofs.Below.{one-le, all-at, all_of, all_more, count_none, count-more, count_same}
 use Rattle.rules.specs.Layout.{entries}
-use Rattle.table.specs.Entries.{held_word, used_word, unused, Lists, Squeezed, Apart, fresh}
+use Rattle.table.specs.declared.entry.Entry.{Entry}
+use Rattle.table.specs.Entries.{held_word, used_word, entry_at, unused, Lists, Squeezed, Apart, fresh}
+
+-- a test as a number
+pub bool-number : (b : Bool) → ◌≡◌ {A = ℕ} (from_bool b) (cond b 1 0)
+bool-number true = refl
+bool-number false = refl
 
 pub all_same : (n : ℕ) (f g : ℕ → Bool) → ((k : ℕ) → k < n → f k ≡ g k) → all_below n f ≡ all_below n g
 all_same n f g h =
@@ -122,25 +129,24 @@ module _ (idle : ℕ → Bool) where
         sym (all_listed l n m x (fresh w) (λ d k e. all_of d _ (λ c b. rw (none d e))))
         ∙ all_of n (λ j. fresh w (get_or l j 0)) fresh-listed
 
--- ---- both words of the used entries, squeezed to the front
+-- ---- the used entries, squeezed to the front
 
 module _ (t : List ℕ) (from : ℕ) where
-  pub squeezed-idle : (l : List ℕ) (m : ℕ) → ((d : ℕ) → d < m → unused t from d ≡ true) → Squeezed t from l 0 m
+  pub squeezed-idle : (l : List Entry) (m : ℕ) → ((d : ℕ) → d < m → unused t from d ≡ true) → Squeezed t from l 0 m
   squeezed-idle l m h =
       record {
         numbers = replicate entries 0;
         long = length-replicate {A = ℕ} entries 0;
         lists = lists-idle (unused t from) (replicate entries 0) m h;
-        held-is = λ j k. absurd (omega arith);
-        used-is = λ j k. absurd (omega arith);
+        entry-is = λ j k. absurd (omega arith);
       }
 
   -- before the first entry
-  pub squeezed-none : (l : List ℕ) → Squeezed t from l 0 0
+  pub squeezed-none : (l : List Entry) → Squeezed t from l 0 0
   squeezed-none l = squeezed-idle l 0 (λ d k. absurd (omega arith))
 
   -- where all their words are zero no entry is used
-  pub squeezed-zeros : (l : List ℕ) → all_below (2 * entries) (λ j. eqb (get_or t (from + (0 + j)) 0) 0) ≡ true → Squeezed t from l 0 entries
+  pub squeezed-zeros : (l : List Entry) → all_below (2 * entries) (λ j. eqb (get_or t (from + (0 + j)) 0) 0) ≡ true → Squeezed t from l 0 entries
   squeezed-zeros l e =
       let zero-at : (j : ℕ) → j < 2 * entries → eqb (get_or t (from + j) 0) 0 ≡ true = λ j k.
       let place : from + j ≡ from + (0 + j) = omega arith in
@@ -148,39 +154,23 @@ module _ (t : List ℕ) (from : ℕ) where
       squeezed-idle l entries (λ d k.
       and_both (eqb (held_word t from d) 0) (eqb (used_word t from d) 0) (zero-at (2 * d) (omega arith)) (zero-at (1 + 2 * d) (omega arith)))
 
-  -- the words s and u of entry m are put at place n, and count if it is used
-  module _ (l : List ℕ) (n m : ℕ) (x : Squeezed t from l n m) (room : n < entries) (long : length l ≡ 2 * entries) (s u : ℕ)
-      (s-is : s ≡ held_word t from m) (u-is : u ≡ used_word t from m) where
-    abbrev squeezed : List ℕ
-    squeezed = set (set l (2 * n) s) (1 + 2 * n) u
+  -- entry m is put at place n, and counts if it is used
+  module _ (l : List Entry) (n m : ℕ) (x : Squeezed t from l n m) (room : n < entries) (long : length l ≡ entries) where
+    abbrev squeezed : List Entry
+    squeezed = set l n (entry_at t from m)
 
     abbrev more_numbers : List ℕ
     more_numbers = set x.numbers n m
 
-    held-here : (j : ℕ) → j < n + 1 → get_or squeezed (2 * j) 0 ≡ held_word t from (get_or more_numbers j 0)
-    held-here =
-        below_more (λ j. get_or squeezed (2 * j) 0 ≡ held_word t from (get_or more_numbers j 0)) n
+    entry-here : (none : Entry) (j : ℕ) → j < n + 1 → get_or squeezed j none ≡ entry_at t from (get_or more_numbers j 0)
+    entry-here none =
+        below_more (λ j. get_or squeezed j none ≡ entry_at t from (get_or more_numbers j 0)) n
         (λ j k.
-        get_or-set_other (set l (2 * n) s) (1 + 2 * n) (2 * j) u 0 (omega arith)
-        ∙ get_or-set_other l (2 * n) (2 * j) s 0 (omega arith)
-        ∙ x.held-is j k
-        ∙ ap (λ (d : ℕ). held_word t from d) (sym (get_or-set_other x.numbers n j m 0 (omega arith))))
-        (get_or-set_other (set l (2 * n) s) (1 + 2 * n) (2 * n) u 0 (omega arith)
-        ∙ get_or-set_same l (2 * n) s 0 (omega (arith, long))
-        ∙ s-is
-        ∙ ap (λ (d : ℕ). held_word t from d) (sym (get_or-set_same x.numbers n m 0 (omega (arith, x.long)))))
-
-    used-here : (j : ℕ) → j < n + 1 → get_or squeezed (1 + 2 * j) 0 ≡ used_word t from (get_or more_numbers j 0)
-    used-here =
-        below_more (λ j. get_or squeezed (1 + 2 * j) 0 ≡ used_word t from (get_or more_numbers j 0)) n
-        (λ j k.
-        get_or-set_other (set l (2 * n) s) (1 + 2 * n) (1 + 2 * j) u 0 (omega arith)
-        ∙ get_or-set_other l (2 * n) (1 + 2 * j) s 0 (omega arith)
-        ∙ x.used-is j k
-        ∙ ap (λ (d : ℕ). used_word t from d) (sym (get_or-set_other x.numbers n j m 0 (omega arith))))
-        (get_or-set_same (set l (2 * n) s) (1 + 2 * n) u 0 (omega (arith, long, length-set l (2 * n) s))
-        ∙ u-is
-        ∙ ap (λ (d : ℕ). used_word t from d) (sym (get_or-set_same x.numbers n m 0 (omega (arith, x.long)))))
+        get_or-set_other l n j (entry_at t from m) none (omega arith)
+        ∙ x.entry-is j k none
+        ∙ ap (λ (d : ℕ). entry_at t from d) (sym (get_or-set_other x.numbers n j m 0 (omega arith))))
+        (get_or-set_same l n (entry_at t from m) none (omega (arith, long))
+        ∙ ap (λ (d : ℕ). entry_at t from d) (sym (get_or-set_same x.numbers n m 0 (omega (arith, x.long)))))
 
     pub squeezed-next : (more : ℕ) → more ≡ cond (not (unused t from m)) 1 0 → Squeezed t from squeezed (n + more) (m + 1)
     squeezed-next more q =
@@ -189,9 +179,19 @@ module _ (t : List ℕ) (from : ℕ) where
           numbers = more_numbers;
           long = simp length-set x.long;
           lists = lists-next (unused t from) x.numbers n m x.lists (omega (arith, x.long)) more q;
-          held-is = λ j k. held-here j (omega (arith, few));
-          used-is = λ j k. used-here j (omega (arith, few));
+          entry-is = λ j k none. entry-here none j (omega (arith, few));
         }
+
+  -- the front alone
+  pub squeezed-front : (l : List Entry) (n m : ℕ) → Squeezed t from l n m → n ≤ length l → Squeezed t from (take n l) (length (take n l)) m
+  squeezed-front l n m x fits =
+      let long : length (take n l) ≡ n = length-take-le n l fits in
+      record {
+        numbers = x.numbers;
+        long = x.long;
+        lists = rw long x.lists;
+        entry-is = λ j k none. get_or-take n l j none (omega arith) ∙ x.entry-is j (omega arith) none;
+      }
 
 -- ---- keys
 

@@ -1,14 +1,14 @@
 -- A record's claim: of a free record, and of any other; and of the record that lies where a slot's does.
-use Rattle.std.proofs.Common.{◌≡◌, ℕ, ◌+◌, ◌-◌, Bool, ◌&&◌, eqb, leb, List, sym, ap, arith, ne_eqb, eqb-true}
+use Rattle.std.proofs.Common.{◌≡◌, ℕ, ◌+◌, ◌-◌, Bool, ◌&&◌, eqb, leb, sym, ap, arith, ne_eqb, eqb-true}
 use mathlib.Core.Bool.{and-true}
 use borrow.Author.Tests.{eqb-false, lt-leb}
 use Rattle.rules.specs.Words.{all_below}
 use Rattle.rules.specs.Claim.{Claim, is, test}
-use Rattle.rules.specs.Layout.{max_serial, max_owner, Kind, record_words, configuration, Addr, at, rd, live, serial, owner, group}
+use Rattle.rules.specs.Layout.{max_serial, max_owner, Kind, record_words, Addr, at, rd, live, serial, owner, group}
 use Rattle.rules.specs.WellFormed.{record_ok}
 use Rattle.laws.proofs.Tests.{split}
-use Rattle.layout.specs.declared.Header.{Header}
-use Rattle.table.specs.Shape.{RecordAt, Shaped}
+use Rattle.table.specs.declared.frame.Frame.{Frame}
+use Rattle.table.specs.Frame.{words, RecordAt}
 use Rattle.table.specs.Entries.{record_at}
 use Rattle.table.proofs.Config.{base_read}
 
@@ -29,10 +29,10 @@ module _ (r : Addr → ℕ) (k : Kind) (i : ℕ) (alive : Claim) where
       (λ q. rw (q, lt-leb (r (at k i live)) 1 (omega (arith, eqb-false (r (at k i live)) 1 q))))
 
 -- the record of a slot is the one that lies at its place
-pub record-claim : (t : List ℕ) (n : Header) → Shaped t n → (k : Kind) (i place : ℕ) (alive : Claim) → RecordAt n k i place
-    → test (record_ok (record_at t place) k 0 (is (test alive))) ≡ test (record_ok (rd (configuration t) t) k i alive)
+pub record-claim : (f : Frame) (k : Kind) (i place : ℕ) (alive : Claim) → RecordAt f k i place
+    → test (record_ok (record_at f.t.now place) k 0 (is (test alive))) ≡ test (record_ok (words f) k i alive)
 unfolding record_ok rd
-record-claim t n s k i place alive at = rw (at.at-is, base_read t n s.framed.header k)
+record-claim f k i place alive at = rw (at.at-is, base_read f.t.now f.n f.framed.header k)
 
 -- of a record that is not live the claim says nothing of what a live one must be
 pub dead-record : (r : Addr → ℕ) (k : Kind) (i : ℕ) (a b : Claim) → (r (at k i live) ≡ 1 → ⊥) → test (record_ok r k i a) ≡ test (record_ok r k i b)

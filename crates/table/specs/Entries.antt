@@ -1,10 +1,11 @@
 -- A record's words, and the entries of a process, as the code reads, lists and counts them.
-use Rattle.std.specs.Prelude.{◌≡◌, ℕ, ◌+◌, ◌*◌, ◌%◌, ◌<◌, ◌≤◌, Bool, true, false, not, ◌&&◌, ◌||◌, List, length, ◌==◌, ◌≢◌, slice_index}
+use Rattle.std.specs.Prelude.{◌≡◌, ℕ, ◌+◌, ◌*◌, ◌%◌, ◌<◌, ◌≤◌, Bool, true, false, not, ◌&&◌, ◌||◌, List, length, ◌==◌, ◌≢◌, slice_index, slice_index_or}
 use Rattle.rules.specs.Words.{all_below, sum_below, count_below}
-use Rattle.rules.specs.Claim.{Claim, is}
+use Rattle.rules.specs.Claim.{Claim, is, test}
 use Rattle.rules.specs.Layout.{max_slots, entries, Kind, process, segment, file, slots, cell_of, Addr}
 use Rattle.rules.specs.Seid.{class, class_of, index_of, serial_of}
-use Rattle.rules.specs.WellFormed.{own_entry, segment_ok, file_ok}
+use Rattle.rules.specs.WellFormed.{entry_ok, own_entry, segment_ok, file_ok}
+use Rattle.table.specs.declared.entry.Entry.{Entry}
 
 -- the record at a place of the table
 abbrev pub record_at : List ℕ → ℕ → Addr → ℕ
@@ -24,6 +25,10 @@ held_word t from d = slice_index t (from + 2 * d)
 abbrev pub used_word : List ℕ → ℕ → ℕ → ℕ
 used_word t from d = slice_index t (from + (1 + 2 * d))
 
+-- both
+abbrev pub entry_at : List ℕ → ℕ → ℕ → Entry
+entry_at t from d = record { held = held_word t from d; used = used_word t from d }
+
 abbrev pub unused : List ℕ → ℕ → ℕ → Bool
 unused t from d = held_word t from d == 0 && used_word t from d == 0
 
@@ -36,13 +41,16 @@ pub record Lists (idle : ℕ → Bool) (l : List ℕ) (n m : ℕ) : Type 0 where
   pub before : (j : ℕ) → j < n → (f : ℕ → Bool) → all_below j (λ i. f (slice_index l i)) ≡ all_below (slice_index l j) (λ d. idle d || f d)
   pub count : (f : ℕ → Bool) → count_below n (λ j. f (slice_index l j)) ≡ count_below m (λ d. not (idle d) && f d)
 
--- the list has the two words of each of the first n numbers below m whose entries are used, in order
-pub record Squeezed (t : List ℕ) (from : ℕ) (l : List ℕ) (n m : ℕ) : Type 0 where
+-- the list begins with the first n entries whose numbers are below m and which are used, in order
+pub record Squeezed (t : List ℕ) (from : ℕ) (l : List Entry) (n m : ℕ) : Type 0 where
   pub numbers : List ℕ
   pub long : length numbers ≡ entries
   pub lists : Lists (unused t from) numbers n m
-  pub held-is : (j : ℕ) → j < n → slice_index l (2 * j) ≡ held_word t from (slice_index numbers j)
-  pub used-is : (j : ℕ) → j < n → slice_index l (1 + 2 * j) ≡ used_word t from (slice_index numbers j)
+  pub entry-is : (j : ℕ) → j < n → (none : Entry) → slice_index_or l j none ≡ entry_at t from (slice_index numbers j)
+
+-- entry d of those that begin at a place is right for a holder of the cell mine
+abbrev pub right_at : List ℕ → (Addr → ℕ) → Kind → ℕ → List ℕ → ℕ → ℕ → Bool
+right_at h r k mine t from d = test (entry_ok h r k mine (held_word t from d) (used_word t from d))
 
 -- s names an object of kind k (and no subtype, which a descriptor may hold too), and one of the cell mine
 abbrev pub holds_own : List ℕ → Kind → ℕ → ℕ → Bool
@@ -57,6 +65,12 @@ names h k mine s i = holds_own h k mine s && index_of s == i
 -- entry e holds nothing, or nothing that an entry before it holds
 abbrev pub fresh : (ℕ → ℕ) → ℕ → Bool
 fresh w e = all_below e (λ d. not (not (w e == 0)) || not (w d == w e))
+
+-- no segment is held twice; of other kinds nothing is asked
+abbrev pub held_once_at : Kind → List ℕ → ℕ → Bool
+held_once_at process t from = true
+held_once_at segment t from = all_below entries (fresh (held_word t from))
+held_once_at file t from = true
 
 -- no two of the first n hold the same
 abbrev pub Apart : (ℕ → ℕ) → ℕ → Type 0

@@ -1,6 +1,6 @@
 -- What the code counts on once the header, the lengths, the cells and the subtypes have been judged.
-use Rattle.std.specs.Prelude.{◌≡◌, ℕ, ◌+◌, ◌<◌, ◌≤◌, List, length, slice_index}
-use Rattle.rules.specs.Layout.{max_cells, max_slots, max_blocks, max_subtypes, Kind, file, record_words, cells, slots, subtypes, subtype_cell, configuration, first_slot, cell_of}
+use Rattle.std.specs.Prelude.{◌≡◌, ℕ, ◌<◌, ◌≤◌, List, length, slice_index}
+use Rattle.rules.specs.Layout.{max_cells, max_slots, max_blocks, max_subtypes, Kind, file, cells, slots, subtypes, subtype_cell, configuration, first_slot, cell_of}
 use Rattle.layout.specs.declared.Header.{Header}
 use Rattle.layout.specs.Header.{record_of}
 
@@ -13,12 +13,6 @@ pub record IsHeader (t : List ℕ) (n : Header) : Type 0 where
   pub blocks_is : n.blocks ≡ slice_index t 4
   pub guard-is : n.guard ≡ slice_index t 5
   pub subtypes-is : n.subtypes ≡ slice_index t 6
-
--- where a record begins by them, and that it ends within the table
-pub record RecordAt (n : Header) (k : Kind) (i at : ℕ) : Type 0 where
-  pub at-is : at ≡ record_of n k i
-  pub whole : 8 ≤ record_words k
-  pub within : at + record_words k ≤ record_of n file n.files
 
 -- they are in range
 pub record Small (n : Header) : Type 0 where

@@ -2,18 +2,13 @@
 ghost use Rattle.std.specs.Prelude.{◌≡◌};
 ghost use Rattle.std.proofs.lemmas.List.Edits.{sets};
 ghost use Rattle.layout.specs.Kinds.{kind_of};
-ghost use Rattle.layout.specs.Hall.{cells_at, bit, stored};
+ghost use Rattle.layout.specs.Hall.{cells_at, stored};
 ghost use Rattle.table.specs.Told.{matrix_bytes};
 
+use crate::found::Found;
 use layout::{FLOWS, FLOWS_AT, Kind};
 use rules::{MAX_CELLS, MAX_SLOTS};
 use words::put_bytes;
-
-fn flag(b: bool) -> u8
-    ensures { result ≡ bit b }
-{
-    if b { 1 } else { 0 }
-}
 
 // The matrix row by row, a byte an entry. The inner loop takes a row whole: by one loop over all entries each would be looked up by itself.
 fn flow_bytes(flow: &[[bool; MAX_CELLS]; MAX_CELLS]) -> [u8; FLOWS]
@@ -22,7 +17,7 @@ fn flow_bytes(flow: &[[bool; MAX_CELLS]; MAX_CELLS]) -> [u8; FLOWS]
     let mut bytes = [0u8; FLOWS];
     for c in 0..MAX_CELLS {
         for d in 0..MAX_CELLS {
-            bytes[MAX_CELLS * c + d] = flag(flow[c][d]);
+            bytes[MAX_CELLS * c + d] = u8::from(flow[c][d]);
         }
     }
     bytes
@@ -35,19 +30,13 @@ fn put_cells(hall: &mut [u8], kind: Kind, cells: &[u8; MAX_SLOTS])
     put_bytes(hall, kind.cells_at(), cells);
 }
 
-// Stores the lists, each in its place, as far as the hall has room.
-pub(crate) fn tell(
-    hall: &mut [u8],
-    cells: &[u8; MAX_SLOTS],
-    segment_cells: &[u8; MAX_SLOTS],
-    file_cells: &[u8; MAX_SLOTS],
-    flow: &[[bool; MAX_CELLS]; MAX_CELLS],
-)
-    ensures { hall.new ≡ stored hall.old cells.now segment_cells.now file_cells.now (matrix_bytes flow.now) }
+// Stores what is found, each list in its place, as far as the hall has room.
+pub(crate) fn tell(hall: &mut [u8], found: &Found)
+    ensures { hall.new ≡ stored hall.old found.now.process_cells.now found.now.segment_cells.now found.now.file_cells.now (matrix_bytes found.now.flow.now) }
 {
-    put_cells(hall, Kind::Process, cells);
-    put_cells(hall, Kind::Segment, segment_cells);
-    put_cells(hall, Kind::File, file_cells);
-    let flows = flow_bytes(flow);
+    put_cells(hall, Kind::Process, found.process_cells);
+    put_cells(hall, Kind::Segment, found.segment_cells);
+    put_cells(hall, Kind::File, found.file_cells);
+    let flows = flow_bytes(found.flow);
     put_bytes(hall, FLOWS_AT, &flows);
 }

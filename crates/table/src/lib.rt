@@ -1,6 +1,9 @@
 // The table: whether it is well formed, and how it is set up.
 #![tactic(auto)]
 
+mod entry;
+mod found;
+mod frame;
 mod hall;
 mod held;
 mod objects;
@@ -9,6 +12,7 @@ mod pages;
 mod places;
 mod process;
 mod records;
+mod row;
 mod runs;
 mod setup;
 mod shape;
@@ -16,64 +20,58 @@ mod subtypes;
 
 ghost use Rattle.std.specs.Prelude.{◌≡◌, if◌then◌else◌};
 ghost use Rattle.rules.specs.Claim.{test};
-ghost use Rattle.rules.specs.Layout.{process, segment, file, flow_matrix, configuration, rd};
+ghost use Rattle.rules.specs.Layout.{configuration};
 ghost use Rattle.rules.specs.WellFormed.{records_ok, well_formed};
 ghost use Rattle.rules.specs.SetUp.{can_set_up, set_up_answer, set_up_table};
 ghost use Rattle.layout.specs.Hall.{told_in};
-ghost use Rattle.table.specs.Shape.{Shaped, CellsOf};
+ghost use Rattle.table.specs.Shape.{Shaped};
+ghost use Rattle.table.specs.Frame.{conf, words};
 
-use layout::{Header, Kind};
-use rules::{MAX_CELLS, MAX_SLOTS, XB_PARAM, XOK};
+use crate::found::Found;
+use crate::frame::Frame;
+use layout::Kind;
+use rules::{MAX_SLOTS, XB_PARAM, XOK};
 
-// The records, once the shape is right and the cell of every slot is found; flow says which cell may flow to which. The processes are gone through once; what they
-// hold is counted on the way and then compared with what segments and files say.
-fn records_ok(
-    t: &[u32],
-    n: Header,
-    cells: &[u8; MAX_SLOTS],
-    segment_cells: &[u8; MAX_SLOTS],
-    file_cells: &[u8; MAX_SLOTS],
-    flow: &[[bool; MAX_CELLS]; MAX_CELLS],
-) -> bool
-    requires { Shaped t.now n × CellsOf (configuration t.now) process cells.now × CellsOf (configuration t.now) segment segment_cells.now × CellsOf (configuration t.now) file file_cells.now × (flow.now ≡ flow_matrix (configuration t.now)) }
-    ensures { result ≡ test (records_ok (configuration t.now) (rd (configuration t.now) t.now)) }
+// The records, by what is found of the table. The processes are gone through once; what they hold is counted on the way and then compared with what segments and
+// files say.
+fn records_ok(found: &Found) -> bool
+    ensures { result ≡ test (records_ok (conf found.now.frame) (words found.now.frame)) }
 {
     let mut references = [0u16; MAX_SLOTS];
     let mut opens = [0u16; MAX_SLOTS];
-    if !process::processes_ok(
-        t,
-        n,
-        cells,
-        segment_cells,
-        file_cells,
-        flow,
-        &mut references,
-        &mut opens,
-    ) {
+    if !found.processes_ok(&mut references, &mut opens) {
         return false;
     }
-    objects::objects_ok(t, n, Kind::Segment, segment_cells, &references)
-        & objects::objects_ok(t, n, Kind::File, file_cells, &opens)
+    found.objects_ok(Kind::Segment, &references) & found.objects_ok(Kind::File, &opens)
 }
 
 // Judges the records, once the shape is right. The cell of every slot and which cell may flow to which are found once: they serve the judging, and where all is right
 // the hall comes to hold them.
-fn judge_records(t: &[u32], n: Header, hall: &mut [u8]) -> bool
-    requires { Shaped t.now n }
-    ensures value { result ≡ test (records_ok (configuration t.now) (rd (configuration t.now) t.now)) }
-    ensures hall_after { hall.new ≡ (if test (records_ok (configuration t.now) (rd (configuration t.now) t.now)) then told_in (configuration t.now) hall.old else hall.old) }
+fn judge_records(frame: Frame, hall: &mut [u8]) -> bool
+    requires { Shaped frame.t.now frame.n }
+    ensures value { result ≡ test (records_ok (conf frame.entry) (words frame.entry)) }
+    ensures hall_after { hall.new ≡ (if test (records_ok (conf frame.entry) (words frame.entry)) then told_in (conf frame.entry) hall.old else hall.old) }
 {
-    let flow = levels::flow_matrix(t);
-    let mut cells = [0u8; MAX_SLOTS];
+    let flow = levels::flow_matrix(frame.t);
+    let valid = modes::valid_table();
+    let mut process_cells = [0u8; MAX_SLOTS];
     let mut segment_cells = [0u8; MAX_SLOTS];
     let mut file_cells = [0u8; MAX_SLOTS];
-    runs::slot_cells(t, n, Kind::Process, &mut cells);
-    runs::slot_cells(t, n, Kind::Segment, &mut segment_cells);
-    runs::slot_cells(t, n, Kind::File, &mut file_cells);
-    if !records_ok(t, n, &cells, &segment_cells, &file_cells, &flow) {
+    runs::slot_cells(frame, Kind::Process, &mut process_cells);
+    runs::slot_cells(frame, Kind::Segment, &mut segment_cells);
+    runs::slot_cells(frame, Kind::File, &mut file_cells);
+    let found = Found {
+        frame,
+        process_cells: &process_cells,
+        segment_cells: &segment_cells,
+        file_cells: &file_cells,
+        flow: &flow,
+        valid: &valid,
+    };
+    if !records_ok(&found) {
         return false;
     }
-    hall::tell(hall, &cells, &segment_cells, &file_cells, &flow);
+    hall::tell(hall, &found);
     true
 }
 
@@ -87,7 +85,7 @@ pub fn judge(t: &[u32], store_bytes: usize, hall: &mut [u8]) -> bool
         return false;
     }
     let n = layout::header_of(t);
-    judge_records(t, n, hall)
+    judge_records(Frame { t, n }, hall)
 }
 
 // The same for one who asks nothing more: there is no room for what is found on the way.
@@ -106,6 +104,7 @@ pub fn can_set_up(t: &[u32], store_bytes: usize) -> bool
 }
 
 // Sets the table up by the header and the cells that stand in it, for a store of that many bytes; or refuses them, and changes nothing.
+// The answer is a number: the C interface hands it on (monitor_setup).
 pub fn set_up(t: &mut [u32], store_bytes: usize) -> u32
     ensures value { result ≡ set_up_answer t.old store_bytes }
     ensures t_after { t.new ≡ set_up_table t.old store_bytes }

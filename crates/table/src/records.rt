@@ -16,8 +16,8 @@ pub(crate) fn zeros(t: &[u32], at: usize, from: usize, n: usize) -> bool
     ensures { result ≡ all_below n (λ j. nat_eq (slice_index t.now (at + (from + j))) 0) }
 {
     let mut all = 0;
-    for j in 0..n {
-        all = all | t[at + (from + j)];
+    for w in &t[at + from..at + (from + n)] {
+        all |= *w;
     }
     all == 0
 }

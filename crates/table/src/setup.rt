@@ -19,9 +19,7 @@ pub(crate) fn clear(t: &mut [u32], from: usize)
     requires { from ≤ length t.old }
     ensures { t.new ≡ take from t.old ++ replicate (length t.old - from) 0 }
 {
-    for i in from..t.len() {
-        t[i] = 0;
-    }
+    t[from..].fill(0);
 }
 
 // A process begins in the record at `at`, whose words are all zero.
@@ -36,7 +34,8 @@ fn begin(t: &mut [u32], at: usize, cell_owner: u32, cell_group: u32)
     t[at + PROCESS_BITS] = FIRST_BITS;
 }
 
-// The first process of each cell, in the first slot of the cell's run.
+// The first process of each cell, in the first slot of the cell's run. The table and its header are named apart: a frame lends the table for reading, and here it is
+// written.
 pub(crate) fn begin_all(t: &mut [u32], n: Header)
     requires { Framed t.old n × Holds (configured (configuration t.old)) }
     ensures { t.new ≡ write (configuration t.old) t.old (first_processes (configuration t.old) (cells (configuration t.old))) }

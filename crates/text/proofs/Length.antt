@@ -11,7 +11,7 @@ use Rattle.rules.specs.Errors.{error_name}
 use Rattle.rules.specs.Step.{Answer}
 use Rattle.rules.specs.Replay.{decimal_in, max_digits, hex, space, shows_buffer, max_buffer, line}
 use Rattle.laws.proofs.Tests.{cond_both}
-use Rattle.text.specs.Names.{errors, row_bytes}
+use Rattle.text.specs.Names.{errors, name_bytes}
 use Rattle.text.specs.Room.{line_bytes}
 use Rattle.text.proofs.Names.{name-short, no_name}
 
@@ -27,7 +27,7 @@ unfolding hex
 hex-double [] = refl
 hex-double (b ∷ s) = omega (arith, hex-double s)
 
-name-at-most : (n : ℕ) → length (error_name n) ≤ row_bytes
+name-at-most : (n : ℕ) → length (error_name n) ≤ name_bytes
 name-at-most n = elim (dec_lt n errors) [ yes h ↦ name-short n h | no m ↦ rw (no_name n (omega arith)) (omega arith) ]
 
 shown-short : (b : Bool) (s : List ℕ) → length s ≤ max_buffer → length (cond b (space ++ hex s) []) ≤ 1 + 2 * max_buffer

@@ -1,28 +1,41 @@
--- Digits: none, one, and one more; the two hex digits of one more byte.
+-- Digits: the only one, and one after those of the tenth; the two hex digits of one more byte.
 use mathlib.Core.List.{List, [], ◌∷◌, ◌++◌}
 use mathlib.Core.Path.{◌≡◌, refl, sym, ap}
-use Prim.Native.Nat.{ℕ, zero, suc, ◌+◌, ◌-◌, ◌/◌, ◌%◌, ◌<◌, ◌≤◌}
-use native.Mathlib.Numerals.{add-one, sub-one}
+use Prim.Native.Nat.{ℕ, zero, suc, ◌+◌, ◌/◌, ◌%◌, ◌^◌, ◌<◌, ◌≤◌}
+use native.Mathlib.Omega.{arith}
+use native.Mathlib.Decide.{dec_lt}
+use native.Mathlib.Nat.{pow-suc, div-lt_iff_lt-mul}
+use lib.Dec.{lit≤}
 use lib.ListN.{length, take, get_or}
-use lib.Seq.{take-suc}
 use borrow.Author.Tests.{lt-ltb, le-ltb}
-use Rattle.rules.specs.Replay.{decimal_in, hex_digit, hex}
-use Rattle.output.specs.Wrote.{Wrote}
-use Rattle.output.proofs.Laws.{then, as-text}
+use Rattle.std.proofs.lemmas.List.{take_more}
+use Rattle.rules.specs.Replay.{decimal_in, decimal, hex_digit, hex}
 
-pub no-digits : (k v : ℕ) → k ≡ 0 → [] ≡ decimal_in k v
-unfolding decimal_in
-no-digits k v e = rw e
+module _ (k v : ℕ) where
+  only-digit : v < 10 → decimal_in (suc k) v ≡ (48 + v) ∷ []
+  unfolding decimal_in
+  only-digit h = rw (lt-ltb v 10 h)
 
-pub one-digit : (k v : ℕ) → (k ≡ 0 → ⊥) → v < 10 → (48 + v) ∷ [] ≡ decimal_in k v
-unfolding decimal_in
-one-digit zero v e h = absurd (e refl)
-one-digit (suc k) v e h = rw (lt-ltb v 10 h)
+  last-digit : 10 ≤ v → decimal_in (suc k) v ≡ decimal_in k (v / 10) ++ ((48 + v % 10) ∷ [])
+  unfolding decimal_in
+  last-digit h = rw (le-ltb v 10 h)
 
-pub more-digits : (k v : ℕ) → (k ≡ 0 → ⊥) → 10 ≤ v → decimal_in (k - 1) (v / 10) ++ ((48 + v % 10) ∷ []) ≡ decimal_in k v
-unfolding decimal_in
-more-digits zero v e h = absurd (e refl)
-more-digits (suc k) v e h = rw (le-ltb v 10 h, sub-one (suc k))
+-- with room for the digits, more room changes nothing
+roomy : (k v : ℕ) → v < 10 ^ suc k → decimal_in (suc (suc k)) v ≡ decimal_in (suc k) v
+roomy zero v h = rw (only-digit 1 v, only-digit 0 v)
+roomy (suc k) v h = elim (dec_lt v 10) [
+  | yes l ↦ rw (only-digit (suc (suc k)) v l, only-digit (suc k) v l)
+  | no n ↦
+      let m : 10 ≤ v = omega arith in
+      let tenth : v / 10 < 10 ^ suc k = (div-lt_iff_lt-mul {k = 10} {x = v} {y = 10 ^ suc k} (lit≤ tt)).1 (rw pow-suc at h) in
+      rw (last-digit (suc (suc k)) v m, last-digit (suc k) v m, roomy k (v / 10) tenth)
+]
+
+pub one-digit : (v : ℕ) → v < 10 → (48 + v) ∷ [] ≡ decimal v
+one-digit v h = sym (only-digit 19 v h)
+
+pub more-digits : (v : ℕ) → 10 ≤ v → v < 2 ^ 64 → decimal (v / 10) ++ ((48 + v % 10) ∷ []) ≡ decimal v
+more-digits v h l = rw (roomy 18 (v / 10) (omega arith)) (sym (last-digit 19 v h))
 
 -- ---- hex
 hex-append : (s : List ℕ) (b : ℕ) → hex (s ++ (b ∷ [])) ≡ hex s ++ (hex_digit (b / 16) ∷ hex_digit (b % 16) ∷ [])
@@ -30,15 +43,7 @@ unfolding hex
 hex-append [] b = refl
 hex-append (x ∷ s) b = ap (λ (l : List ℕ). hex_digit (x / 16) ∷ hex_digit (x % 16) ∷ l) (hex-append s b)
 
-pub hex-none : [] ≡ hex []
-unfolding hex
-hex-none = refl
-
 -- the two digits x, y of one byte more
-pub hex-more : (d : List ℕ) (at : ℕ) (s : List ℕ) (i r : ℕ) (d' : List ℕ) (x r' : ℕ) (d'' : List ℕ) (y r'' : ℕ) (d''' : List ℕ) → i < length s
-    → x ≡ hex_digit (get_or s i 0 / 16) → y ≡ hex_digit (get_or s i 0 % 16) → Wrote d at (hex (take i s)) r d'
-    → Wrote d' r (x ∷ []) r' d'' → Wrote d'' r' (y ∷ []) r'' d''' → Wrote d at (hex (take (i + 1) s)) r'' d'''
-hex-more d at s i r d' x r' d'' y r'' d''' h e f p q w =
-    as-text d at (hex (take i s) ++ (x ∷ y ∷ [])) (hex (take (i + 1) s)) r'' d'''
-    (rw (e, f, add-one, take-suc s i 0 h) (sym (hex-append (take i s) (get_or s i 0))))
-    (then d at (hex (take i s)) r d' (x ∷ y ∷ []) r'' d''' p (then d' r (x ∷ []) r' d'' (y ∷ []) r'' d''' q w))
+pub hex-more : (s : List ℕ) (i x y : ℕ) → i < length s → x ≡ hex_digit (get_or s i 0 / 16) → y ≡ hex_digit (get_or s i 0 % 16)
+    → hex (take i s) ++ (x ∷ y ∷ []) ≡ hex (take (i + 1) s)
+hex-more s i x y h e f = rw (e, f, take_more s i 0 h) (sym (hex-append (take i s) (get_or s i 0)))

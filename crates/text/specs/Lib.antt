@@ -1,3 +1,3 @@
--- The table of the errors' names, and the room of a line.
+-- The errors' names, and the room of a line.
 pub mod Names
 pub mod Room

@@ -1,13 +1,8 @@
--- The errors' names as the table of fixed byte strings has them.
-use Rattle.std.specs.Prelude.{List, ◌++◌, ℕ, take, replicate}
+-- How many errors there are, and how long their names are at most.
+use Rattle.std.specs.Prelude.{ℕ}
 
 abbrev pub errors : ℕ
 errors = 37
 
--- the width of a row
-abbrev pub row_bytes : ℕ
-row_bytes = 16
-
--- a name filled up with spaces
-abbrev pub padded : List ℕ → List ℕ
-padded s = take row_bytes (s ++ replicate row_bytes 32)
+abbrev pub name_bytes : ℕ
+name_bytes = 16

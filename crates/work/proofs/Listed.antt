@@ -1,10 +1,8 @@
 -- The lists of free slots in the working slice: what is laid down for a cell, and looked at, is the rules' list of it; and how many words the lists have.
-use mathlib.Core.Path.{◌≡◌, refl, ap, ◌∙◌}
-use mathlib.Core.Bool.{Bool, true, ◌&&◌}
+use mathlib.Core.Path.{◌≡◌, refl, ap}
 use mathlib.Core.List.{List}
 use Prim.Native.Nat.{ℕ, zero, suc, ◌+◌, ◌<◌, ◌≤◌}
 use native.Mathlib.Omega.{arith}
-use lib.Dec.{leb}
 use lib.ListN.{length, length-append}
 use lib.Seq.{sets}
 use borrow.Author.Tests.{le-leb}
@@ -22,8 +20,9 @@ use Rattle.lists.specs.Region.{relisted, is_list}
 use Rattle.lists.proofs.Lists.{sorted-length}
 use Rattle.lists.proofs.Shown.{length-words}
 use Rattle.work.specs.Parts.{lists_at, lists_in, stands_at}
-use Rattle.work.proofs.Joined.{put-more, stands-more}
-use Rattle.work.proofs.Sized.{Walk, own-slots, run-few}
+use Rattle.work.specs.Passes.{InTurn}
+use Rattle.work.proofs.Joined.{pass-more}
+use Rattle.work.proofs.Sized.{Walk, own-slots}
 
 -- the words of a cell's list
 abbrev pub list_in : List ℕ → Kind → ℕ → List ℕ
@@ -32,6 +31,23 @@ list_in t k c = list_words (free_keys (configuration t) (rd (configuration t) t)
 pub list_length : (t : List ℕ) (k : Kind) (c : ℕ) → length (list_in t k c) ≡ cell_slots (configuration t) k c + 1
 unfolding free_keys
 list_length t k c = length-words _ (cell_slots (configuration t) k c) (sorted-length _ _ (cell_slots (configuration t) k c) (first_slot (configuration t) k c))
+
+-- those of a run, as the table's words have them
+module _ (t : List ℕ) (base size count from at : ℕ) (few : from + count ≤ max_slots) where
+  abbrev run-words : List ℕ
+  run-words = list_words (free_list t base size count from) count
+
+  run-length : length run-words ≡ count + 1
+  unfolding free_list
+  run-length = length-words _ count (sorted-length _ _ count from)
+
+  pub relisted-few : (w : List ℕ) → relisted t base size count from w at ≡ sets w at run-words
+  unfolding relisted
+  relisted-few w = cond-true _ _ _ (le-leb (from + count) max_slots few)
+
+  pub is-list-few : (w : List ℕ) → is_list t base size count from w at ≡ stands_at w at run-words
+  unfolding is_list stands_at
+  is-list-few w = rw (le-leb (from + count) max_slots few, run-length) refl
 
 -- those of the first cells
 pub lists_length : (t : List ℕ) (k : Kind) (c : ℕ) → length (joined c (list_in t k)) ≡ first_slot (configuration t) k c + c
@@ -50,24 +66,12 @@ module _ (t : List ℕ) (n : Header) (is : IsHeader t n) (k : Kind) (end c : ℕ
   words-is : list_words (free_list t (base_of n k) (record_words k) count from) count ≡ list_in t k c
   words-is = rw free-list (ap (list_words (free_keys (configuration t) (rd (configuration t) t) k c)) (own-slots t end c x l k count e))
 
-  few : leb (from + count) max_slots ≡ true
-  few = le-leb (from + count) max_slots (run-few t end c x l k from count f e)
-
   place_is : (at : ℕ) → at + from + c ≡ at + length (joined c (list_in t k))
   place_is at = omega (arith, f, lists_length t k c)
 
-  pub list_put : (w₀ : List ℕ) (at : ℕ) (w : List ℕ) → w ≡ sets w₀ at (joined c (list_in t k))
-      → (v : List ℕ) → v ≡ relisted t (base_of n k) (record_words k) count from w (at + from + c) → v ≡ sets w₀ at (joined (c + 1) (list_in t k))
-  unfolding relisted
-  list_put w₀ at w a v b =
-      put-more w₀ at c (list_in t k) w a (at + from + c) (place_is at) v (b ∙ cond-true _ _ _ few ∙ ap (sets w (at + from + c)) words-is)
-
-  pub list-seen : (w : List ℕ) (at : ℕ) (right : Bool) → right ≡ stands_at w at (joined c (list_in t k))
-      → (s : Bool) → s ≡ is_list t (base_of n k) (record_words k) count from w (at + from + c) → right && s ≡ stands_at w at (joined (c + 1) (list_in t k))
-  unfolding is_list stands_at
-  list-seen w at right a s b =
-      let m : count + 1 ≡ length (list_in t k c) = omega (arith, list_length t k c, own-slots t end c x l k count e) in
-      stands-more w at c (list_in t k) right a (at + from + c) (place_is at) s (b ∙ rw (few, words-is, m) refl)
+  pub list-passed : {S : Type 0} {passed : S → S → ℕ → List ℕ → Type 0} (laws : InTurn passed) (s u v : S) (at : ℕ) → passed s u at (joined c (list_in t k))
+      → passed u v (at + from + c) (list_words (free_list t (base_of n k) (record_words k) count from) count) → passed s v at (joined (c + 1) (list_in t k))
+  list-passed laws s u v at a b = pass-more laws s u v at c (list_in t k) a (at + from + c) (place_is at) _ words-is b
 
 -- all cells
 pub all-lists : (t : List ℕ) (k : Kind) (c : ℕ) → c ≡ cells (configuration t) → joined c (list_in t k) ≡ lists_in t k

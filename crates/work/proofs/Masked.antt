@@ -1,6 +1,5 @@
 -- The masks of open entries in the working slice: what is laid down for a process, and looked at, are the rules' masks; and how many words they have.
 use mathlib.Core.Path.{◌≡◌, refl, sym, ap, ◌∙◌}
-use mathlib.Core.Bool.{Bool, ◌&&◌}
 use mathlib.Core.List.{List}
 use Prim.Native.Nat.{ℕ, zero, suc, ◌+◌, ◌*◌, ◌<◌, ◌≤◌}
 use native.Mathlib.Omega.{arith}
@@ -20,7 +19,8 @@ use Rattle.table.proofs.Config.{base_read}
 use Rattle.marks.specs.Masks.{names_at, masks_at, masked, are_masks}
 use Rattle.work.specs.Parts.{rows_at, rows_size, rows_in, all_rows, rows_from, stands_at}
 use Rattle.laws.proofs.Joined.{joined_same, length-joined}
-use Rattle.work.proofs.Joined.{put-more, stands-more}
+use Rattle.work.specs.Passes.{InTurn}
+use Rattle.work.proofs.Joined.{pass-more}
 use Rattle.work.proofs.Sized.{Walk, walk_none, walk_more, walk-all, own-slots, first_more, run-few, size_few, size-more, rows_few}
 
 -- ---- a process's, in the table's words
@@ -28,6 +28,15 @@ use Rattle.work.proofs.Sized.{Walk, walk_none, walk_more, walk-all, own-slots, f
 pub masks-length : (t : List ℕ) (first n from : ℕ) → length (masks_at t first n from) ≡ n
 unfolding masks_at
 masks-length t first n from = length-tab from n _
+
+module _ (t : List ℕ) (first count from at : ℕ) (few : from + count ≤ max_slots) where
+  pub masked-few : (w : List ℕ) → masked t first count from w at ≡ sets w at (masks_at t first count from)
+  unfolding masked
+  masked-few w = cond-true _ _ _ (le-leb (from + count) max_slots few)
+
+  pub are-masks-few : (w : List ℕ) → are_masks t first count from w at ≡ stands_at w at (masks_at t first count from)
+  unfolding are_masks stands_at
+  are-masks-few w = rw (le-leb (from + count) max_slots few, masks-length t first count from) refl
 
 -- ---- a cell's
 
@@ -44,23 +53,12 @@ rows-from-length t n p f files i =
     length-joined i (row_from t n p f files) (λ _. files) (λ j l. masks-length t (record_of n process (p + j) + held_at file 0) files f) ∙ sum-same-each i files
 
 -- one process more
-module _ (t : List ℕ) (n : Header) (p f files i at : ℕ) (few : f + files ≤ max_slots) where
-  row_at : at + i * files ≡ at + length (joined i (row_from t n p f files))
-  row_at = rw (rows-from-length t n p f files i)
-
-  pub row_put : (w₀ w : List ℕ) → w ≡ sets w₀ at (joined i (row_from t n p f files))
-      → (v : List ℕ) → v ≡ masked t (record_of n process (p + i) + held_at file 0) files f w (at + i * files) → v ≡ sets w₀ at (joined (i + 1) (row_from t n p f files))
-  unfolding masked
-  row_put w₀ w a v b =
-      put-more w₀ at i (row_from t n p f files) w a (at + i * files) row_at v (b ∙ cond-true _ _ _ (le-leb (f + files) max_slots few))
-
-  pub row_seen : (w : List ℕ) (right : Bool) → right ≡ stands_at w at (joined i (row_from t n p f files))
-      → (s : Bool) → s ≡ are_masks t (record_of n process (p + i) + held_at file 0) files f w (at + i * files)
-      → right && s ≡ stands_at w at (joined (i + 1) (row_from t n p f files))
-  unfolding are_masks stands_at
-  row_seen w right a s b =
-      stands-more w at i (row_from t n p f files) right a (at + i * files) row_at s
-      (b ∙ rw (le-leb (f + files) max_slots few, masks-length t (record_of n process (p + i) + held_at file 0) files f) refl)
+pub row-passed : (t : List ℕ) (n : Header) (p f files i : ℕ) {S : Type 0} {passed : S → S → ℕ → List ℕ → Type 0} (laws : InTurn passed) (s u v : S) (at : ℕ)
+    → passed s u at (joined i (row_from t n p f files)) → passed u v (at + i * files) (row_from t n p f files i)
+    → passed s v at (joined (i + 1) (row_from t n p f files))
+row-passed t n p f files i laws s u v at a b =
+    let place : at + i * files ≡ at + length (joined i (row_from t n p f files)) = rw (rows-from-length t n p f files i) in
+    pass-more laws s u v at i (row_from t n p f files) a (at + i * files) place _ refl b
 
 -- all processes
 pub all-processes : (t : List ℕ) (n : Header) (p processes f files i : ℕ) → i ≤ processes → processes ≤ i
@@ -141,13 +139,9 @@ module _ (t : List ℕ) (from end c p f place : ℕ) (x : Passed t from end c p 
         rows_is t n is c p processes f files x.processes-is (own-slots t end c x.walk l process processes a)
         x.files-is (own-slots t end c x.walk l file files b)
 
-    pub cell-put : (w₀ w : List ℕ) → w ≡ sets w₀ from (joined c (rows_in t)) → (v : List ℕ) → v ≡ sets w place (rows_from t n p processes f files)
-        → v ≡ sets w₀ from (joined (c + 1) (rows_in t))
-    cell-put w₀ w d v e = put-more w₀ from c (rows_in t) w d place here v (e ∙ ap (sets w place) cell-is)
-
-    pub cell-seen : (w : List ℕ) (right : Bool) → right ≡ stands_at w from (joined c (rows_in t))
-        → (s : Bool) → s ≡ stands_at w place (rows_from t n p processes f files) → right && s ≡ stands_at w from (joined (c + 1) (rows_in t))
-    cell-seen w right d s e = stands-more w from c (rows_in t) right d place here s (e ∙ ap (stands_at w place) cell-is)
+    pub cell-passed : {S : Type 0} {passed : S → S → ℕ → List ℕ → Type 0} (laws : InTurn passed) (s u v : S) → passed s u from (joined c (rows_in t))
+        → passed u v place (rows_from t n p processes f files) → passed s v from (joined (c + 1) (rows_in t))
+    cell-passed laws s u v d e = pass-more laws s u v from c (rows_in t) d place here _ cell-is e
 
 -- all cells
 pub all-rows : (t : List ℕ) (from end c p f place : ℕ) → Passed t from end c p f place → end ≤ c

@@ -21,34 +21,11 @@ use Rattle.layout.specs.Header.{header_of, slots_of}
 use Rattle.table.specs.Shape.{Shaped}
 use Rattle.table.proofs.Config.{header_read, cells-read, slots_read}
 use Rattle.table.proofs.Formed.{shaped_of, misshapen}
-use Rattle.output.proofs.Laws.{sets-append}
-use Rattle.work.specs.Parts.{lists_at, rows_at, rows_size, lists_in, all_rows, stands_at}
-use Rattle.work.proofs.Joined.{put_all, not_same, stands-append, stands-all}
+use Rattle.work.specs.Parts.{lists_at, rows_at, rows_size, lists_in, all_rows}
+use Rattle.work.specs.Passes.{InTurn}
+use Rattle.work.proofs.Joined.{four-passed, put_all, not_same}
 use Rattle.work.proofs.Listed.{lists_length, all-lists}
 use Rattle.work.proofs.Masked.{all-rows-length}
-
--- ---- four parts
-
-module _ (w x y z u : List ℕ) (i j k : ℕ) (a : i ≡ length x) (b : j ≡ length x + length y) (c : k ≡ length x + length y + length z) where
-  second : i ≡ 0 + length x
-  second = omega (arith, a)
-
-  third : j ≡ 0 + length x + length y
-  third = omega (arith, b)
-
-  fourth : k ≡ 0 + length x + length y + length z
-  fourth = omega (arith, c)
-
-  four-put : sets (sets (sets (sets w 0 x) i y) j z) k u ≡ sets w 0 (x ++ (y ++ (z ++ u)))
-  four-put =
-      rw (second, third, fourth)
-      (sets-append (sets (sets w 0 x) (0 + length x) y) (0 + length x + length y) z u
-      ∙ sets-append (sets w 0 x) (0 + length x) y (z ++ u)
-      ∙ sets-append w 0 x (y ++ (z ++ u)))
-
-  four-seen : stands_at w 0 x && (stands_at w i y && (stands_at w j z && stands_at w k u)) ≡ stands_at w 0 (x ++ (y ++ (z ++ u)))
-  four-seen =
-      rw (second, third, fourth, stands-append w 0 x (y ++ (z ++ u)), stands-append w (0 + length x) y (z ++ u), stands-append w (0 + length x + length y) z u)
 
 -- ---- those of a table
 
@@ -82,23 +59,12 @@ module _ (t : List ℕ) (n : Header) (s : Shaped t n) where
         length-append (lists_in t file) (all_rows t),
       )
 
-  pub all-put : (w v₁ v₂ v₃ v₄ : List ℕ) → length w ≡ length (work_in t) → v₁ ≡ sets w (lists_at n process) (lists_in t process)
-      → v₂ ≡ sets v₁ (lists_at n segment) (lists_in t segment) → v₃ ≡ sets v₂ (lists_at n file) (lists_in t file)
-      → v₄ ≡ sets v₃ (rows_at n) (all_rows t) → v₄ ≡ work_in t
+  pub all-passed : {S : Type 0} {passed : S → S → ℕ → List ℕ → Type 0} (laws : InTurn passed) (s₀ s₁ s₂ s₃ s₄ : S)
+      → passed s₀ s₁ (lists_at n process) (lists_in t process) → passed s₁ s₂ (lists_at n segment) (lists_in t segment)
+      → passed s₂ s₃ (lists_at n file) (lists_in t file) → passed s₃ s₄ (rows_at n) (all_rows t) → passed s₀ s₄ 0 (work_in t)
   unfolding work_in work_of
-  all-put w v₁ v₂ v₃ v₄ l a b c d =
-      rw (d, c, b, a)
-      (four-put w (lists_in t process) (lists_in t segment) (lists_in t file) (all_rows t) _ _ _ at-segments at-files at_rows
-      ∙ put_all w (work_in t) l)
-
-  pub all_seen : (w : List ℕ) (b₁ b₂ b₃ b₄ : Bool) → length w ≡ length (work_in t) → b₁ ≡ stands_at w (lists_at n process) (lists_in t process)
-      → b₂ ≡ stands_at w (lists_at n segment) (lists_in t segment) → b₃ ≡ stands_at w (lists_at n file) (lists_in t file)
-      → b₄ ≡ stands_at w (rows_at n) (all_rows t) → b₁ && (b₂ && (b₃ && b₄)) ≡ same_words w (work_in t)
-  unfolding work_in work_of
-  all_seen w b₁ b₂ b₃ b₄ l a b c d =
-      rw (d, c, b, a)
-      (four-seen w (lists_in t process) (lists_in t segment) (lists_in t file) (all_rows t) _ _ _ at-segments at-files at_rows
-      ∙ stands-all w (work_in t) l)
+  all-passed laws =
+      four-passed laws (lists_in t process) (lists_in t segment) (lists_in t file) (all_rows t) _ _ _ at-segments at-files at_rows
 
 -- ---- the answers
 
@@ -125,9 +91,12 @@ module _ (t : List ℕ) (m : ℕ) where
       unfolding fill_answer filled
       fill-other l = let f = ne_eqb (length w) (length (work_in t)) l in (rw (e, f) refl, rw (e, f) refl)
 
-      pub fill_done : length w ≡ length (work_in t) → (v : List ℕ) → v ≡ work_in t → (XOK ≡ fill_answer t m w) × (v ≡ filled t m w)
+      pub fill_done : length w ≡ length (work_in t) → (v u : List ℕ) → u ≡ t → v ≡ sets w 0 (work_in u) → (XOK ≡ fill_answer t m w) × (v ≡ filled t m w)
       unfolding fill_answer filled
-      fill_done l v g = let f = eq-eqb (length w) (length (work_in t)) l in (rw (e, f) refl, rw (e, f) g)
+      fill_done l v u same g =
+          let f = eq-eqb (length w) (length (work_in t)) l in
+          let put : v ≡ work_in t = rw same at g ∙ put_all w (work_in t) l in
+          (rw (e, f) refl, rw (e, f) put)
 
     pub fits-bad : test (can_set_up t m) ≡ false → false ≡ test (can_set_up t m) && same_words w (work_in t)
     fits-bad e = rw e

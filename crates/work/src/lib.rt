@@ -2,206 +2,249 @@
 // kind by kind and cell by cell, then the masks of open entries, cell by cell and process by process.
 #![tactic(auto)]
 
-ghost use Rattle.std.specs.Prelude.{◌≡◌, ◌&&◌, ◌+◌, ◌≤◌, length};
+ghost use Rattle.std.specs.Prelude.{◌≡◌, refl, true, false, MatchOption, ◌&&◌, ℕ, List, ◌+◌, ◌≤◌, ◌<◌, ◌^◌, length};
+ghost use Rattle.std.proofs.Common.{◌∙◌};
 ghost use Rattle.std.proofs.lemmas.List.Edits.{sets};
 ghost use Rattle.rules.specs.Words.{sum_below};
 ghost use Rattle.rules.specs.Claim.{test};
-ghost use Rattle.rules.specs.Layout.{max_slots, cells, cell_slots, configuration};
+ghost use Rattle.rules.specs.Layout.{process, file, held_at, record_words, max_slots, cells, cell_slots, configuration};
+ghost use Rattle.rules.specs.WellFormed.{well_formed};
 ghost use Rattle.rules.specs.SetUp.{can_set_up};
-ghost use Rattle.rules.specs.Work.{most_masks, most_work, work_in, work_length, fill_answer, filled};
+ghost use Rattle.rules.specs.Work.{list_words, most_masks, most_work, work_in, work_length, fill_answer, filled};
 ghost use Rattle.rules.specs.Quick.{same_words};
 ghost use Rattle.layout.specs.Kinds.{kind_of};
-ghost use Rattle.table.specs.Shape.{Small, Shaped};
+ghost use Rattle.layout.specs.Header.{base_of, record_of};
+ghost use Rattle.lists.specs.Free.{free_list};
+ghost use Rattle.marks.specs.Masks.{masks_at};
+ghost use Rattle.table.specs.Shape.{Shaped};
 ghost use Rattle.work.specs.Parts.{lists_at, rows_at, rows_size, lists_in, all_rows, rows_from, stands_at};
+ghost use Rattle.work.specs.Passes.{InTurn, put-then, stands-none, stands-then};
 
 use layout::{Header, Kind};
 use rules::{CELL_WORDS, HEADER_WORDS, XB_SZ, XB_TAB, XOK};
 use words::{wide, word};
 
-// How many slots of a kind a cell has.
-fn cell_slots(t: &[u32], kind: Kind, c: u32) -> u32
-    ensures { result ≡ cell_slots t.now (kind_of kind) c }
-{
-    word(t, HEADER_WORDS + CELL_WORDS * wide(c) + kind.cell_word())
-}
-
 // Where the lists of a kind begin: a cell's has a word more than it has slots, for the count.
-fn lists_at(n: Header, kind: Kind) -> u32
-    requires { Small n }
-    ensures { result ≡ lists_at n (kind_of kind) }
+pub fn lists_at(n: Header, kind: Kind) -> usize
+    ensures { (result ≡ lists_at n (kind_of kind)) × (result < 2 ^ 34) }
 {
+    let segments = wide(n.processes) + wide(n.cells);
     match kind {
         Kind::Process => 0,
-        Kind::Segment => n.processes + n.cells,
-        Kind::File => n.processes + n.segments + 2 * n.cells,
+        Kind::Segment => segments,
+        Kind::File => segments + wide(n.segments) + wide(n.cells),
     }
 }
 
 // Where the masks begin.
-fn rows_at(n: Header) -> u32
-    requires { Small n }
-    ensures { result ≡ rows_at n }
+pub fn rows_at(n: Header) -> usize
+    ensures { (result ≡ rows_at n) × (result < 2 ^ 35) }
 {
-    n.processes + n.segments + n.files + 3 * n.cells
+    lists_at(n, Kind::File) + wide(n.files) + wide(n.cells)
 }
 
-// How many words the masks have: in every cell, one for each process and each file.
-fn rows_length(t: &[u32], n: Header) -> u32
-    requires { Shaped t.now n }
-    ensures { (result ≡ sum_below (cells (configuration t.now)) (rows_size t.now)) × (result ≤ most_masks) }
-{
-    let mut sum = 0;
-    for c in 0..n.cells {
-        let processes = cell_slots(t, Kind::Process, c);
-        let files = cell_slots(t, Kind::File, c);
-        sum = sum + processes * files;
-    }
-    sum
+// Slots of a kind one behind the other, of those that a table may have: a cell's.
+#[derive(Clone, Copy)]
+struct Run {
+    from: u32,
+    count: u32,
+    ghost few: { from + count ≤ max_slots },
 }
 
-// How many words the working slice has, of a table whose shape is right.
-fn whole_length(t: &[u32], n: Header) -> usize
-    requires { Shaped t.now n }
-    ensures { result ≡ length (work_in t.now) }
-{
-    wide(rows_at(n) + rows_length(t, n))
-}
-
-// Fills the lists of a kind.
-fn put_lists(t: &[u32], n: Header, kind: Kind, w: &mut [u32])
-    requires { Shaped t.now n }
-    ensures { w.new ≡ sets w.old (lists_at n (kind_of kind)) (lists_in t.now (kind_of kind)) }
-{
-    let at = lists_at(n, kind);
-    let mut from = 0;
-    for c in 0..n.cells {
-        let count = cell_slots(t, kind, c);
-        lists::relist(t, n, kind, from, count, w, at + from + c);
-        from = from + count;
-    }
-}
-
-// Whether the lists of a kind are the table's.
-fn lists_right(t: &[u32], n: Header, kind: Kind, w: &[u32]) -> bool
-    requires { Shaped t.now n }
-    ensures { result ≡ stands_at w.now (lists_at n (kind_of kind)) (lists_in t.now (kind_of kind)) }
-{
-    let at = lists_at(n, kind);
-    let mut right = true;
-    let mut from = 0;
-    for c in 0..n.cells {
-        let count = cell_slots(t, kind, c);
-        right = right & lists::is_list(t, n, kind, from, count, w, at + from + c);
-        from = from + count;
-    }
-    right
-}
-
-// Fills the masks of a cell, from a place on: those of its processes, which begin at p, for its files, which begin at f.
-fn put_cell(
-    t: &[u32],
+// A table whose shape is right, and its header.
+#[derive(Clone, Copy)]
+struct Table<'a> {
+    t: &'a [u32],
     n: Header,
-    p: u32,
-    processes: u32,
-    f: u32,
-    files: u32,
-    w: &mut [u32],
-    at: u32,
-)
-    requires { (p + processes ≤ max_slots) × (f + files ≤ max_slots) × (at ≤ most_work) }
-    ensures { w.new ≡ sets w.old at (rows_from t.now n p processes f files) }
-{
-    for i in 0..processes {
-        marks::put_masks(t, n, p + i, f, files, w, at + i * files);
+    ghost shaped: { Shaped t.now n },
+}
+
+// What is done with the words of a table's working slice, part by part: they are laid down, or looked at.
+trait Pass {
+    // The pass before and after it has come to words that belong at a place.
+    ghost passed: { Self → Self → ℕ → List ℕ → Type 0 };
+
+    // It comes to the list of a run of slots.
+    fn list(&mut self, table: Table, kind: Kind, slots: Run, at: u32)
+        ensures { passed self.old self.new at (list_words (free_list table.entry.t.now (base_of table.entry.n (kind_of kind)) (record_words (kind_of kind)) slots.count slots.from) slots.count) };
+
+    // It comes to the masks of process p, of a run of files.
+    fn masks(&mut self, table: Table, p: u32, files: Run, at: u32)
+        ensures { passed self.old self.new at (masks_at table.entry.t.now (record_of table.entry.n process p + held_at file 0) files.count files.from) };
+
+    // No words are passed at once, and words one behind the other as the first and then the others.
+    ghost in_turn: { InTurn passed };
+}
+
+// They are laid down.
+#[derive(Drop)]
+struct Filling<'a> {
+    w: &'a mut [u32],
+}
+
+impl Pass for Filling<'_> {
+    ghost passed = { λ s v at l. (v.w.now ≡ sets s.w.now at l) × (v.w.ghost_name ≡ s.w.ghost_name) };
+
+    ghost in_turn = { record {
+      none = λ s at. (refl, refl);
+      more = λ s u v at x y a b. (put-then s.w.now u.w.now v.w.now at x y a.0 b.0, b.1 ∙ a.1);
+    } };
+
+    fn list(&mut self, table: Table, kind: Kind, slots: Run, at: u32) {
+        lists::relist(table.t, table.n, kind, slots.from, slots.count, self.w, at);
+    }
+
+    fn masks(&mut self, table: Table, p: u32, files: Run, at: u32) {
+        marks::put_masks(table.t, table.n, p, files.from, files.count, self.w, at);
     }
 }
 
-// Whether they are the table's.
-fn cell_right(
-    t: &[u32],
-    n: Header,
-    p: u32,
-    processes: u32,
-    f: u32,
-    files: u32,
-    w: &[u32],
-    at: u32,
-) -> bool
-    requires { (p + processes ≤ max_slots) × (f + files ≤ max_slots) × (at ≤ most_work) }
-    ensures { result ≡ stands_at w.now at (rows_from t.now n p processes f files) }
-{
-    let mut right = true;
-    for i in 0..processes {
-        right = right & marks::are_masks(t, n, p + i, f, files, w, at + i * files);
-    }
-    right
+// They are looked at: whether all that were come to stood there.
+#[derive(Drop)]
+struct Comparing<'a> {
+    w: &'a [u32],
+    right: bool,
 }
 
-// Fills the masks.
-fn put_rows(t: &[u32], n: Header, w: &mut [u32])
-    requires { Shaped t.now n }
-    ensures { w.new ≡ sets w.old (rows_at n) (all_rows t.now) }
-{
-    let mut at = rows_at(n);
-    let mut p = 0;
-    let mut f = 0;
-    for c in 0..n.cells {
-        let processes = cell_slots(t, Kind::Process, c);
-        let files = cell_slots(t, Kind::File, c);
-        put_cell(t, n, p, processes, f, files, w, at);
-        at = at + processes * files;
-        p = p + processes;
-        f = f + files;
+impl Pass for Comparing<'_> {
+    ghost passed = { λ s v at l. (v.w.now ≡ s.w.now) × (v.right ≡ (s.right && stands_at s.w.now at l)) };
+
+    ghost in_turn = { record {
+      none = λ s at. (refl, stands-none s.w.now at s.right);
+      more = λ s u v at x y a b. (b.0 ∙ a.0, stands-then s.w.now u.w.now s.right u.right v.right at x y a.0 a.1 b.1);
+    } };
+
+    fn list(&mut self, table: Table, kind: Kind, slots: Run, at: u32) {
+        self.right &= lists::is_list(table.t, table.n, kind, slots.from, slots.count, self.w, at);
+    }
+
+    fn masks(&mut self, table: Table, p: u32, files: Run, at: u32) {
+        self.right &= marks::are_masks(table.t, table.n, p, files.from, files.count, self.w, at);
     }
 }
 
-// Whether the masks are the table's.
-fn rows_right(t: &[u32], n: Header, w: &[u32]) -> bool
-    requires { Shaped t.now n }
-    ensures { result ≡ stands_at w.now (rows_at n) (all_rows t.now) }
-{
-    let mut right = true;
-    let mut at = rows_at(n);
-    let mut p = 0;
-    let mut f = 0;
-    for c in 0..n.cells {
-        let processes = cell_slots(t, Kind::Process, c);
-        let files = cell_slots(t, Kind::File, c);
-        right = right & cell_right(t, n, p, processes, f, files, w, at);
-        at = at + processes * files;
-        p = p + processes;
-        f = f + files;
+impl<'a> Table<'a> {
+    // The table, where it is well formed.
+    fn checked(t: &'a [u32], store_bytes: usize) -> Option<Table<'a>>
+        ensures { MatchOption result (test (well_formed t.now store_bytes) ≡ false) (λ x. (test (well_formed t.now store_bytes) ≡ true) × (x.t.now ≡ t.now)) }
+    {
+        if !table::check(t, store_bytes) {
+            return None;
+        }
+        let n = layout::header_of(t);
+        Some(Table { t, n })
     }
-    right
+
+    // How many slots of a kind a cell has.
+    fn cell_slots(self, kind: Kind, c: u32) -> u32
+        ensures { result ≡ cell_slots self.entry.t.now (kind_of kind) c }
+    {
+        word(
+            self.t,
+            HEADER_WORDS + CELL_WORDS * wide(c) + kind.cell_word(),
+        )
+    }
+
+    // How many words the masks have: in every cell, one for each process and each file.
+    fn rows_length(self) -> u32
+        ensures { (result ≡ sum_below (cells (configuration self.entry.t.now)) (rows_size self.entry.t.now)) × (result ≤ most_masks) }
+    {
+        let mut sum = 0;
+        for c in 0..self.n.cells {
+            sum += self.cell_slots(Kind::Process, c) * self.cell_slots(Kind::File, c);
+        }
+        sum
+    }
+
+    // How many words the working slice has.
+    fn whole_length(self) -> usize
+        ensures { result ≡ length (work_in self.entry.t.now) }
+    {
+        rows_at(self.n) + wide(self.rows_length())
+    }
+
+    // Goes over the lists of a kind.
+    fn pass_lists<P: Pass>(self, kind: Kind, pass: &mut P)
+        ensures { P.passed pass.old pass.new (lists_at self.entry.n (kind_of kind)) (lists_in self.entry.t.now (kind_of kind)) }
+    {
+        let at = lists_at(self.n, kind) as u32;
+        let mut from = 0;
+        for c in 0..self.n.cells {
+            let slots = Run {
+                from,
+                count: self.cell_slots(kind, c),
+            };
+            pass.list(self, kind, slots, at + from + c);
+            from += slots.count;
+        }
+    }
+
+    // Goes over the masks of a cell, from a place on.
+    fn pass_cell<P: Pass>(self, processes: Run, files: Run, at: u32, pass: &mut P)
+        requires { at ≤ most_work }
+        ensures { P.passed pass.old pass.new at (rows_from self.entry.t.now self.entry.n processes.from processes.count files.from files.count) }
+    {
+        for i in 0..processes.count {
+            pass.masks(self, processes.from + i, files, at + i * files.count);
+        }
+    }
+
+    // Goes over the masks.
+    fn pass_rows<P: Pass>(self, pass: &mut P)
+        ensures { P.passed pass.old pass.new (rows_at self.entry.n) (all_rows self.entry.t.now) }
+    {
+        let mut at = rows_at(self.n) as u32;
+        let mut p = 0;
+        let mut f = 0;
+        for c in 0..self.n.cells {
+            let processes = Run {
+                from: p,
+                count: self.cell_slots(Kind::Process, c),
+            };
+            let files = Run {
+                from: f,
+                count: self.cell_slots(Kind::File, c),
+            };
+            self.pass_cell(processes, files, at, pass);
+            at += processes.count * files.count;
+            p += processes.count;
+            f += files.count;
+        }
+    }
+
+    // Goes over the whole working slice.
+    fn pass<P: Pass>(self, pass: &mut P)
+        ensures { P.passed pass.old pass.new 0 (work_in self.entry.t.now) }
+    {
+        self.pass_lists(Kind::Process, pass);
+        self.pass_lists(Kind::Segment, pass);
+        self.pass_lists(Kind::File, pass);
+        self.pass_rows(pass);
+    }
 }
 
 // How many words a table's working slice has; of a bad table, 0.
 pub fn work_length(t: &[u32], store_bytes: usize) -> usize
     ensures { result ≡ work_length t.now store_bytes }
 {
-    if !table::check(t, store_bytes) {
+    let Some(table) = Table::checked(t, store_bytes) else {
         return 0;
-    }
-    let n = layout::header_of(t);
-    whole_length(t, n)
+    };
+    table.whole_length()
 }
 
-// Fills a working slice by the table; a bad table is refused with 1, then a slice of another length with 5.
+// Fills a working slice by the table; a bad table is refused with 1, then a slice of another length with 5. The answer is a number: the C interface hands it on (monitor_work).
 pub fn fill(t: &[u32], store_bytes: usize, w: &mut [u32]) -> u32
     ensures value { result ≡ fill_answer t.now store_bytes w.old }
     ensures w_after { w.new ≡ filled t.now store_bytes w.old }
 {
-    if !table::check(t, store_bytes) {
+    let Some(table) = Table::checked(t, store_bytes) else {
         return XB_TAB;
-    }
-    let n = layout::header_of(t);
-    if w.len() != whole_length(t, n) {
+    };
+    if w.len() != table.whole_length() {
         return XB_SZ;
     }
-    put_lists(t, n, Kind::Process, w);
-    put_lists(t, n, Kind::Segment, w);
-    put_lists(t, n, Kind::File, w);
-    put_rows(t, n, w);
+    table.pass(&mut Filling { w });
     XOK
 }
 
@@ -213,10 +256,11 @@ pub fn fits(t: &[u32], store_bytes: usize, w: &[u32]) -> bool
         return false;
     }
     let n = layout::header_of(t);
-    if whole_length(t, n) != w.len() {
+    let table = Table { t, n };
+    if table.whole_length() != w.len() {
         return false;
     }
-    lists_right(t, n, Kind::Process, w)
-        & (lists_right(t, n, Kind::Segment, w)
-            & (lists_right(t, n, Kind::File, w) & rows_right(t, n, w)))
+    let mut seen = Comparing { w, right: true };
+    table.pass(&mut seen);
+    seen.right
 }

@@ -11,7 +11,7 @@ use Rattle.layout.specs.Hall.{hall_bytes, hall_of, matrix_in}
 use Rattle.calls.proofs.Whole.{ready_by, store_long, caller-few, sound}
 use Rattle.calls.specs.World.{Judged}
 use Rattle.calls.proofs.TrayLaws.{ready-judged}
-use Rattle.calls.proofs.ViewLaws.{known_by, view-no-table, view-no-caller, view-done}
+use Rattle.calls.proofs.ViewLaws.{known_by, view-no-table, view-no-caller, view-refused, view-done}
 use Rattle.calls.proofs.view_part.Goals.{Else-bad_caller}
 use Rattle.calls.proofs.view_part.Goals as goal
 
@@ -47,8 +47,15 @@ shown-requires c =
     let j = judged (goal.at.shown-requires c).Else-bad_caller c.matrix_in-m.ensures c.judge.ensures.hall_after in
     (sound j _ c.bad_caller.ensures c.if-bad_caller.false c.cell_in-cell.ensures, j.handed, store_long j)
 
-pub returns : goal.returns
-returns c =
-    let told = view-done _ _ _ _ _ (sym c.judge.ensures.value ∙ c.if-not-judge.false)
-    c.bad_caller.ensures c.if-bad_caller.false c.shown.ensures in
+pub returns-in-Ok : goal.returns-in-Ok
+returns-in-Ok c = record {
+  value = view-done _ _ _ _ _ (sym c.judge.ensures.value ∙ c.if-not-judge.false) c.bad_caller.ensures c.if-bad_caller.false
+      c.in-Ok.ensures.refused c.in-Ok.ensures.place.0;
+  count_in_bounds = c.in-Ok.ensures.place.1;
+}
+
+pub returns-in-Err : goal.returns-in-Err
+returns-in-Err c =
+    let told = view-refused _ _ _ _ _ (sym c.judge.ensures.value ∙ c.if-not-judge.false) c.bad_caller.ensures c.if-bad_caller.false
+    c.in-Err.error c.in-Err.ensures.refused c.hidden-in-Err.ensures in
     record { value = told.0; count_in_bounds = told.1 }

@@ -1,52 +1,24 @@
--- `checker::compare` meets its contract: from each place the rest agrees as far as the whole does.
-use Rattle.std.proofs.Common.{◌≡◌, ℕ, ◌<◌, true, List, length, take, drop, sym, refl, ap, ◌∙◌, arith, length-take, rules}
-use Rattle.checker.specs.Scan.{alike}
-use Rattle.checker.specs.Check.{met}
-use Rattle.checker.proofs.Ways.{alike-inside, agree-one, agree-none}
-use Rattle.checker.proofs.compare.Goals.{At-loop-within, In-loop-within}
+-- `checker::compare` meets its contract: as far as the two agree, lines are counted, and the places moved on.
+use Rattle.std.proofs.Common.{◌≤◌, ◌-◌, length, sym, arith, length-take-le, rules}
+use Rattle.checker.proofs.Ways.{rest, compared-within, compared}
+use Rattle.checker.proofs.compare.Goals.{After-alike-n}
 use Rattle.checker.proofs.compare.Goals as goal
 
--- the next two bytes are there, and the same
-abbrev text : At-loop-within → List ℕ
-text c = take c.args.x.end c.args.out.now
+within : (c : After-alike-n)
+    → (c.alike-n.result ≤ length c.waiting-due.result.now) × (c.alike-n.result ≤ c.args.x.end - c.args.x.at)
+    × (c.alike-n.result ≤ length c.args.r.now - c.args.from)
+within c = compared-within c.args.x _ _ _ _ _ _ c.waiting-due.ensures (rest _ _ _ c.min.ensures) c.alike-n.ensures
 
-abbrev recorded : At-loop-within → List ℕ
-recorded c = c.args.r.now
+pub slice_bounds-same-end : goal.slice_bounds-same-end
+slice_bounds-same-end c = sym (length-take-le _ _ (within c).0)
 
-same : (c : In-loop-within)
-    → alike (drop c.loop-within.at (text (goal.at.In-loop-within c).At-loop-within)) (drop c.loop-within.next (recorded (goal.at.In-loop-within c).At-loop-within)) ≡ true
-same c = sym c.alike.ensures ∙ c.loop-within-test.true
+pub overflow_add-result : goal.overflow_add-result
+overflow_add-result c = let z = within (goal.at.overflow_add-result c).After-alike-n in search rules
 
-inside : (c : In-loop-within) → (c.loop-within.at < length (text (goal.at.In-loop-within c).At-loop-within)) ×
-    (c.loop-within.next < length (recorded (goal.at.In-loop-within c).At-loop-within))
-inside c = alike-inside (text (goal.at.In-loop-within c).At-loop-within) (recorded (goal.at.In-loop-within c).At-loop-within) c.loop-within.at c.loop-within.next (same c)
-
-pub loop-within-init : goal.loop-within-init
-loop-within-init c = refl
-
-pub overflow_add-at : goal.overflow_add-at
-overflow_add-at c =
-    let h = inside (goal.at.overflow_add-at c).In-loop-within in
-    let n = length-take c.args.x.end
-    c.args.out.now in
-    search rules
-
-pub overflow_add-next : goal.overflow_add-next
-overflow_add-next c = let h = inside (goal.at.overflow_add-next c).In-loop-within in search rules
-
-pub loop-within-smaller : goal.loop-within-smaller
-loop-within-smaller c = omega (arith, (inside (goal.at.loop-within-smaller c).In-loop-within).1)
-
-pub loop-within-preserved : goal.loop-within-preserved
-loop-within-preserved c =
-    agree-one c.loop-within.lines c.loop-within.within (text (goal.at.loop-within-preserved c).At-loop-within)
-    (recorded (goal.at.loop-within-preserved c).At-loop-within) c.loop-within.at c.loop-within.next _ _
-    (same (goal.at.loop-within-preserved c).In-loop-within) c.byte-b.ensures c.lines_after-lines.ensures
-    ∙ c.loop-within.invariant
+pub overflow_add-result-2 : goal.overflow_add-result-2
+overflow_add-result-2 c = let z = within (goal.at.overflow_add-result-2 c).After-alike-n in search rules
 
 pub returns : goal.returns
 returns c =
-    ap (met c.args.x)
-    (agree-none c.loop-within.lines c.loop-within.within (text (goal.at.returns c).At-loop-within) (recorded (goal.at.returns c).At-loop-within) c.loop-within.at c.loop-within.next
-    (sym c.alike.ensures ∙ c.loop-within-test.false)
-    ∙ c.loop-within.invariant)
+    compared _ _ _ _ _ _ _ _ _ (omega arith) c.waiting-due.ensures (rest _ _ _ c.min.ensures)
+    c.alike-n.ensures c.lines_in.ensures c.ends_within.ensures

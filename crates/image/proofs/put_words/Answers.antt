@@ -1,17 +1,15 @@
 -- `image::put_words` meets its contract: the words so far are written.
-use Rattle.output.proofs.Laws.{same_size}
-use Rattle.image.proofs.Lengths.{put-none, put-more, put_all}
+use mathlib.Core.Path.{sym}
+use Rattle.rules.specs.Image.{word_bytes}
+use Rattle.output.proofs.Laws.{none, then, as-text}
+use Rattle.image.proofs.Lengths.{next_word}
 use Rattle.image.proofs.put_words.Goals as goal
 
-pub loop-i-init : goal.loop-i-init
-loop-i-init c = put-none _ _
+pub loop-w-init : goal.loop-w-init
+unfolding word_bytes
+loop-w-init c = none _ _
 
-pub loop-i-preserved : goal.loop-i-preserved
-loop-i-preserved c =
-    put-more _ _ _ _ _ _ _ c.loop-i.invariant c.loop-i-test.true c.put_number-at.ensures
-
-pub shape_of-out : goal.shape_of-out
-shape_of-out c = same_size _ _ _ _ _ (put_all _ _ _ _ _ c.loop-i.invariant c.loop-i-test.false)
-
-pub returns : goal.returns
-returns c = put_all _ _ _ _ _ c.loop-i.invariant c.loop-i-test.false
+pub loop-w-preserved : goal.loop-w-preserved
+loop-w-preserved c =
+    as-text _ _ _ _ _ _ (sym (next_word _ _ c.loop-w-test.true)) (then _ _ _ _ _ _ _ _ c.loop-w.invariant
+    c.put_number-at.ensures)

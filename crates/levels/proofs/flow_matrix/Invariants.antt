@@ -1,18 +1,11 @@
 -- `levels::flow_matrix` meets its contract: the first c rows are the rule's, row c is up to its entry d, and the others are no, as the rows past the last cell are.
 use mathlib.Core.Path.{◌≡◌}
-use Prim.Native.Nat.{◌≤◌, ◌-◌}
 use lib.ListN.{set}
 use Rattle.levels.proofs.Cells.{row_to, rows_to}
 use Rattle.levels.proofs.flow_matrix.Given as goal
 
 abbrev pub invariant-loop-d : goal.invariant-loop-d
-invariant-loop-d l = (l.d ≤ l.n) × (l.m ≡ set (rows_to l.t l.c) l.c (row_to l.all l.from l.d))
-
-abbrev pub decreases-loop-d : goal.decreases-loop-d
-decreases-loop-d l = l.n - l.d
+invariant-loop-d l = l.m ≡ set (rows_to l.t l.c) l.c (row_to l.all l.from l.d)
 
 abbrev pub invariant-loop-c : goal.invariant-loop-c
-invariant-loop-c l = (l.c ≤ l.n) × (l.m ≡ rows_to l.t l.c)
-
-abbrev pub decreases-loop-c : goal.decreases-loop-c
-decreases-loop-c l = l.n - l.c
+invariant-loop-c l = l.m ≡ rows_to l.t l.c

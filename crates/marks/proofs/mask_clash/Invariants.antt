@@ -7,6 +7,3 @@ use Rattle.marks.proofs.mask_clash.Given as goal
 
 abbrev pub invariant-loop-d : goal.invariant-loop-d
 invariant-loop-d l = (l.d ≤ entries) × (met l.t l.at l.s l.b (entries - l.d) l.x l.d ≡ met l.t l.at l.s l.b entries l.mask 0)
-
-abbrev pub decreases-loop-d : goal.decreases-loop-d
-decreases-loop-d l = entries - l.d

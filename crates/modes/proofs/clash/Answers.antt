@@ -5,7 +5,7 @@ use mathlib.Core.List.{[]}
 use Rattle.rules.specs.Words.{tab_from}
 use Rattle.rules.specs.Modes.{clash, excludes_readers, excludes_writers, writes}
 use Rattle.laws.proofs.Tab.{get_or-tab2}
-use Rattle.modes.proofs.Numbers.{clash-in, clash-past-left, clash-past-right}
+use Rattle.modes.proofs.Numbers.{clash-in}
 use Rattle.modes.proofs.clash.Goals as goal
 
 pub returns-then-j-lt-NUMBERS : goal.returns-then-j-lt-NUMBERS
@@ -13,9 +13,3 @@ unfolding clash excludes_readers excludes_writers writes tab_from
 returns-then-j-lt-NUMBERS c =
     get_or-tab2 16 16 clash c.args.m c.args.n [] false c.if-i-lt-NUMBERS.true c.if-j-lt-NUMBERS.true
     ∙ sym (clash-in c.args.m c.args.n c.if-i-lt-NUMBERS.true c.if-j-lt-NUMBERS.true)
-
-pub returns-else-j-lt-NUMBERS : goal.returns-else-j-lt-NUMBERS
-returns-else-j-lt-NUMBERS c = sym (clash-past-right c.args.m c.args.n c.if-j-lt-NUMBERS.false)
-
-pub returns-else-i-lt-NUMBERS : goal.returns-else-i-lt-NUMBERS
-returns-else-i-lt-NUMBERS c = sym (clash-past-left c.args.m c.args.n c.if-i-lt-NUMBERS.false)

@@ -1,20 +1,16 @@
--- `numerals::put_number` meets its contract: at each turn, what is written and the groups of the rest are the number's.
+-- `numerals::put_number` meets its contract: at each turn, once the rest is written, so is the number.
 use native.Mathlib.Omega.{arith}
-use Rattle.output.proofs.Laws.{same_size}
-use Rattle.numerals.proofs.Groups.{begin, one_more, end}
+use Rattle.output.proofs.Laws.{then, as-text, same_size}
+use Rattle.numerals.proofs.Groups.{only-group, first-group}
 use Rattle.numerals.proofs.put_number.Goals as goal
 
-pub loop-rest-init : goal.loop-rest-init
-loop-rest-init c = begin _ _ _ (omega arith)
-
 pub loop-rest-preserved : goal.loop-rest-preserved
-loop-rest-preserved c =
-    one_more _ _ _ _ _ _ _ _ c.loop-rest.invariant c.loop-rest-test.true c.put_byte-next.ensures
+loop-rest-preserved c = λ r d later.
+    c.loop-rest.invariant r d (as-text _ _ _ _ _ _ (first-group _ c.loop-rest-test.true (omega arith))
+    (then _ _ _ _ _ _ _ _ c.put_byte-next.ensures later))
 
 pub shape_of-out : goal.shape_of-out
-shape_of-out c =
-    same_size _ _ _ _ _ (end _ _ _ _ _ _ _ _ c.loop-rest.invariant c.loop-rest-test.false c.put_byte.ensures)
+shape_of-out c = same_size _ _ _ _ _ (c.loop-rest.invariant _ _ (as-text _ _ _ _ _ _ (only-group _ c.loop-rest-test.false) c.put_byte.ensures))
 
 pub returns : goal.returns
-returns c =
-    end _ _ _ _ _ _ _ _ c.loop-rest.invariant c.loop-rest-test.false c.put_byte.ensures
+returns c = c.loop-rest.invariant _ _ (as-text _ _ _ _ _ _ (only-group _ c.loop-rest-test.false) c.put_byte.ensures)

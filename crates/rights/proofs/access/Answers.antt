@@ -1,19 +1,17 @@
 -- `rights::access` meets its contract: the four cases.
+use mathlib.Core.Bool.{Bool, true, false}
+use mathlib.Core.Path.{◌≡◌, refl}
+use Prim.Native.Nat.{◌+◌, ◌*◌}
+use mir.Val.{bool_byte}
 use Rattle.rules.specs.Rights.{access}
 use Rattle.rights.proofs.access.Goals as goal
 
-pub returns-then-write : goal.returns-then-write
+by-cases : (read write : Bool) → 256 * bool_byte read + 128 * bool_byte write ≡ access read write
 unfolding access
-returns-then-write c = rw (c.if-read.true, c.if-write.true)
+by-cases true true = refl
+by-cases true false = refl
+by-cases false true = refl
+by-cases false false = refl
 
-pub returns-else-write : goal.returns-else-write
-unfolding access
-returns-else-write c = rw (c.if-read.true, c.if-write.false)
-
-pub returns-then-write-2 : goal.returns-then-write-2
-unfolding access
-returns-then-write-2 c = rw (c.if-read.false, c.if-write-2.true)
-
-pub returns-else-write-2 : goal.returns-else-write-2
-unfolding access
-returns-else-write-2 c = rw (c.if-read.false, c.if-write-2.false)
+pub returns : goal.returns
+returns c = rw (c.from.ensures, c.from-2.ensures) (by-cases c.args.read c.args.write)

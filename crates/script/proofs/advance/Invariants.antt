@@ -7,8 +7,7 @@ use Rattle.script.proofs.advance.Given as goal
 
 abbrev pub invariant-loop-i : goal.invariant-loop-i
 invariant-loop-i l =
-    (length l.table ≡ length l.initial.table) × (length l.buf ≡ length l.initial.buf) ×
-    (advance l.reader l.table l.buf (drop l.i l.s) l.i ≡ advance l.initial.reader l.initial.table l.initial.buf (drop l.from l.s) l.from)
+    advance l.reader l.table l.buf (drop l.i l.s) l.i ≡ advance l.initial.reader l.initial.table l.initial.buf (drop l.from l.s) l.from
 
 abbrev pub decreases-loop-i : goal.decreases-loop-i
 decreases-loop-i l = length l.s - l.i

@@ -1,13 +1,11 @@
 -- `session::prepare` meets its contract.
-use Rattle.session.proofs.Ways.{lent_length, prepared}
+use Rattle.std.proofs.Common.{◌≡◌, refl, ◌∙◌, rules}
+use Rattle.session.specs.Turn.{words_of, bytes_of}
+use Rattle.session.proofs.Ways.{prepared, zeroed}
 use Rattle.session.proofs.prepare.Goals as goal
-
-pub slice_bounds-set_up-end-2 : goal.slice_bounds-set_up-end-2
-slice_bounds-set_up-end-2 c =
-    lent_length _ _ _ c.least-words.ensures
 
 pub returns : goal.returns
 returns c =
-    prepared _ _ _ _ _ _ _ _ _ _ c.table_words.ensures c.least-words.ensures c.file_blocks.ensures
-    c.least-blocks.ensures c.least-bytes.ensures c.put_zeros.ensures c.set_up-answer.ensures.value
-    c.set_up-answer.ensures.t_after c.set_up-answer.auto.t
+    let a : c.min-words.result ≡ words_of c.args.table.now = search rules in
+    let b : c.min-bytes.result ≡ bytes_of c.args.table.now c.args.store.now = search rules in
+    prepared _ _ _ _ _ _ _ _ _ a b (c.fill.ensures.after (λ y e. e) ∙ zeroed _) c.set_up-answer.ensures.value refl c.set_up-answer.ensures.t_after c.set_up-answer.auto.t

@@ -9,7 +9,7 @@ unfolding bad_script ascii
 returns-then-calling c =
     fault-script _ _ _ _ _ c.if-calling.true c.put_bytes.ensures
 
-pub returns : goal.returns
+pub returns-else-calling : goal.returns-else-calling
 unfolding bad_configuration ascii
-returns c =
-    fault-configuration _ _ _ _ _ c.if-calling.false c.put_bytes-2.ensures
+returns-else-calling c =
+    fault-configuration _ _ _ _ _ c.if-calling.false c.put_bytes-else-calling.ensures

@@ -12,6 +12,11 @@ returns-then-not-can_set_up c =
       hall_after = rw wrong;
     }
 
+pub invariant_of-judge_records : goal.invariant_of-judge_records
+invariant_of-judge_records c =
+    let right = sym c.can_set_up.ensures ∙ c.if-not-can_set_up.false in
+    record { framed = (shaped_of _ _ right _ (header_read _ _ c.header_of-n.ensures)).framed }
+
 pub judge_records-requires : goal.judge_records-requires
 judge_records-requires c =
     let right = sym c.can_set_up.ensures ∙ c.if-not-can_set_up.false in

@@ -1,12 +1,8 @@
--- `text::put_hex` meets its contract: after i turns the digits of the first i bytes are written.
-use Prim.Native.Nat.{◌≤◌, ◌-◌}
-use lib.ListN.{length, take}
+-- `text::put_hex` meets its contract: the digits of the bytes so far are written.
+use lib.ListN.{take}
 use Rattle.rules.specs.Replay.{hex}
 use Rattle.output.specs.Wrote.{Wrote}
 use Rattle.text.proofs.put_hex.Given as goal
 
-abbrev pub invariant-loop-i : goal.invariant-loop-i
-invariant-loop-i l = (l.i ≤ length l.s) × Wrote l.initial.out l.at (hex (take l.i l.s)) l.next l.out
-
-abbrev pub decreases-loop-i : goal.decreases-loop-i
-decreases-loop-i l = length l.s - l.i
+abbrev pub invariant-loop-b : goal.invariant-loop-b
+invariant-loop-b l = Wrote l.initial.out l.at (hex (take l.b-index l.s)) l.next l.out

@@ -1,4 +1,5 @@
 -- `text::put_line` meets its contract: its four parts, one after the other, are the line.
+use Rattle.std.proofs.Common.{rules}
 use mathlib.Core.Bool.{cond}
 use mathlib.Core.List.{List, [], ◌++◌, append_assoc}
 use mathlib.Core.Path.{◌≡◌}
@@ -18,6 +19,4 @@ unfolding line
 parts n code error first second buffer = simp append_assoc
 
 pub returns : goal.returns
-returns c =
-    as-text _ _ _ _ _ _ (parts _ _ _ _ _ _) (then _ _ _ _ _ _ _ _ c.put_front-front.ensures (then _ _ _ _ _ _ _ _
-    c.put_results-results.ensures (then _ _ _ _ _ _ _ _ c.put_buffer-shown.ensures c.put_byte.ensures)))
+returns c = as-text _ _ _ _ _ _ (parts _ _ _ _ _ _) (search (rules, then))

@@ -1,17 +1,14 @@
--- `words::put_zeros` meets its contract: a copy of n zeros.
-use mathlib.Core.Path.{sym}
+-- `words::put_zeros` meets its contract: the zeros that find room are stored, and the others change nothing.
 use native.Mathlib.Omega.{arith}
-use lib.ListN.{get_or-replicate}
-use Rattle.words.proofs.Copies.{copied_none, copied_more, copied_all, as_many}
+use Prim.Native.Nat.{ℕ}
+use lib.ListN.{replicate, length-replicate}
+use Rattle.words.proofs.Copies.{filled_part, copied_nothing}
 use Rattle.words.proofs.put_zeros.Goals as goal
 
-pub loop-j-init : goal.loop-j-init
-loop-j-init c = copied_none _ _ _ _
+pub returns-then-k-gt0 : goal.returns-then-k-gt0
+returns-then-k-gt0 c = filled_part _ _ _ 0 _ c.room-k.ensures _ (c.fill.ensures.after (λ y h. h))
 
-pub loop-j-preserved : goal.loop-j-preserved
-loop-j-preserved c =
-    copied_more _ _ _ _ (as_many _ 0 _ _ c.room-k.ensures) _ _ c.loop-j.invariant 0 _ c.loop-j-test.true
-    (sym (get_or-replicate c.args.n _ 0 0 (omega arith)))
-
-pub returns : goal.returns
-returns c = copied_all _ _ _ _ (as_many _ 0 _ _ c.room-k.ensures) _ _ c.loop-j.invariant c.loop-j-test.false
+pub returns-else-k-gt0 : goal.returns-else-k-gt0
+returns-else-k-gt0 c =
+    let long = length-replicate {A = ℕ} c.args.n 0 in
+    copied_nothing _ _ (replicate c.args.n 0) _ (omega (arith, c.room-k.ensures, long)) c.if-k-gt0.false

@@ -1,24 +1,18 @@
 -- `blocks::read_block` meets its contract: the buffer's length, then what refuses a view too, and the block copied out.
-use Rattle.calls.proofs.BlocksLaws.{read_number, read-within, read-buffer, read-refused, read_done}
-use Rattle.calls.specs.Left.{rule_at}
-use Rattle.rules.specs.Rule.{first_refusal}
-use Rattle.rules.specs.Call13.{read_block}
-use mathlib.Core.Path.{◌≡◌}
-use Rattle.calls.proofs.blocks.read_block.Goals.{After-shown-p}
+use native.Mathlib.Omega.{arith}
+use Rattle.calls.proofs.BlocksLaws.{read-stops, read-passes, read-buffer, read-refused, read_done}
 use Rattle.calls.proofs.blocks.read_block.Goals as goal
 
-number : (c : After-shown-p) → let a = c.args in
-    c.shown-p.result.error ≡ first_refusal (rule_at a.t.now (λ h q. read_block h q a.store.now a.c.slot a.a a.b a.buffer.now)).refusals
-number c = read_number _ _ _ _ _ c.args.buffer.now c.or_refuse-e.ensures c.shown-p.ensures
+pub returns-in_err-refuse : goal.returns-in_err-refuse
+returns-in_err-refuse c =
+    read-refused _ _ _ _ _ _ _ _ c.from_residual.ensures.0 c.from_residual.ensures.1 (read-stops _ _ _ _ _ c.args.buffer.now _ c.in_err-refuse.ensures)
 
-pub returns-then-p-ne-XOK : goal.returns-then-p-ne-XOK
-returns-then-p-ne-XOK c = read-refused _ _ _ _ _ _ (number (goal.at.returns-then-p-ne-XOK c).After-shown-p) c.if-p-ne-XOK.true c.refused.ensures
-
-pub read_store-requires : goal.read_store-requires
-read_store-requires c =
-    read-within _ _ _ _ _ c.args.buffer.now c.or_refuse-e.ensures c.shown-p.ensures c.if-p-ne-XOK.false
+pub returns-in_err-from : goal.returns-in_err-from
+returns-in_err-from c =
+    read-refused _ _ _ _ _ _ _ _ c.from_residual-in_err-from.ensures.0 c.from_residual-in_err-from.ensures.1
+    (read-passes _ _ _ _ _ c.args.buffer.now c.in_ok-refuse.ensures c.in_err-from.ensures.refused)
 
 pub returns : goal.returns
 returns c =
-    read_done _ _ _ _ _ _ (number (goal.at.returns c).After-shown-p) c.if-p-ne-XOK.false c.answered.ensures (read-buffer _ _ _ _ _ c.args.buffer.now
-    c.or_refuse-e.ensures c.shown-p.ensures c.if-p-ne-XOK.false c.read_store.ensures)
+    read_done _ _ _ _ _ _ (read-passes _ _ _ _ _ c.args.buffer.now c.in_ok-refuse.ensures c.in_ok-from.ensures.refused)
+    (read-buffer _ _ _ _ _ c.args.buffer.now c.in_ok-from.ensures.place.0 (omega arith) c.copy_from_slice.ensures.after)

@@ -1,34 +1,33 @@
 -- `blocks::shown` meets its contract: what refuses a read, whatever its buffer, in order, and the place of the block.
-use Rattle.calls.proofs.BlocksLaws.{Used, stretch-fits, read_tests, read_told, block-hidden, block_within, block-shown}
-use Rattle.calls.specs.Refusing.{refusing}
-use mathlib.Core.Path.{◌≡◌}
-use Rattle.calls.proofs.blocks.shown.Goals.{After-or_refuse-e-2}
+use Rattle.calls.proofs.BlocksLaws.{Used, stretch-fits, entry-stops, entry-passes, block-hidden, block_within, block-shown}
+use mathlib.Core.Path.{refl}
+use Rattle.calls.proofs.blocks.shown.Goals.{After-read-size}
 use Rattle.calls.proofs.blocks.shown.Goals as goal
 
-used : (c : After-or_refuse-e-2) → Used c.args.t.now c.args.n c.args.c c.args.a c.entry_of-d.result
-    c.look-f.result c.read-size.result
+used : (c : After-read-size) → Used c.args.t.now c.args.n c.args.c c.args.a c.entry_of-d.result c.look-f.result c.read-size.result
 used c = record { sound = c.requires.0; entry = c.entry_of-d.ensures; seen = c.look-f.ensures; sized = c.read-size.ensures }
 
-told : (c : After-or_refuse-e-2) → c.or_refuse-e-2.result ≡ refusing c.args.e (read_tests c.args.a c.entry_of-d.result
-    c.look-f.result c.read-size.result c.args.n.blocks c.args.b)
-told c =
-    read_told (used c) c.args.store.now c.args.b c.args.e c.to_read-u.ensures
-    c.bad_use-e.ensures c.or_refuse-e.ensures c.or_refuse-e-2.ensures
+pub returns-in_err-may_use : goal.returns-in_err-may_use
+returns-in_err-may_use c =
+    let u = used (goal.at.returns-in_err-may_use c).After-read-size in
+    block-hidden u c.args.store.now c.args.b _ _ (entry-stops u c.args.store.now c.args.b _ c.in_err-may_use.ensures)
+    c.from_residual.ensures.0 c.from_residual.ensures.1
 
-pub returns-then-e-ne-XOK : goal.returns-then-e-ne-XOK
-returns-then-e-ne-XOK c =
-    block-hidden (used (goal.at.returns-then-e-ne-XOK c).After-or_refuse-e-2) c.args.store.now c.args.b c.args.e
-    (told (goal.at.returns-then-e-ne-XOK c).After-or_refuse-e-2) c.if-e-ne-XOK.true c.hidden.ensures
+pub returns-in_err-refuse : goal.returns-in_err-refuse
+returns-in_err-refuse c =
+    let u = used (goal.at.returns-in_err-refuse c).After-read-size in
+    block-hidden u c.args.store.now c.args.b _ _ (entry-passes u c.args.store.now c.args.b c.in_ok-may_use.ensures c.in_err-refuse.ensures)
+    c.from_residual-in_err-refuse.ensures.0 c.from_residual-in_err-refuse.ensures.1
 
 pub overflow_mul-stretch : goal.overflow_mul-stretch
-overflow_mul-stretch c = record { fits = stretch-fits (used (goal.at.overflow_mul-stretch c).After-or_refuse-e-2) c.wide-stretch.ensures }
+overflow_mul-stretch c = record { fits = stretch-fits (used (goal.at.overflow_mul-stretch c).After-read-size) refl }
 
-pub block_place-from-requires : goal.block_place-from-requires
-block_place-from-requires c =
-    block_within (used (goal.at.block_place-from-requires c).After-or_refuse-e-2) c.args.store.now c.args.b c.args.e
-    (told (goal.at.block_place-from-requires c).After-or_refuse-e-2) c.if-e-ne-XOK.false c.requires.2 c.wide-stretch.ensures c.wide.ensures c.wide-2.ensures
+pub block_place-requires : goal.block_place-requires
+block_place-requires c =
+    let u = used (goal.at.block_place-requires c).After-read-size in
+    block_within u c.args.store.now c.args.b (entry-passes u c.args.store.now c.args.b c.in_ok-may_use.ensures c.in_ok-refuse.ensures) c.requires.2 refl
 
 pub returns : goal.returns
 returns c =
-    block-shown (used (goal.at.returns c).After-or_refuse-e-2) c.args.store.now c.args.b c.args.e
-    (told (goal.at.returns c).After-or_refuse-e-2) c.if-e-ne-XOK.false c.wide-stretch.ensures c.wide.ensures c.wide-2.ensures c.block_place-from.ensures
+    let u = used (goal.at.returns c).After-read-size in
+    block-shown u c.args.store.now c.args.b (entry-passes u c.args.store.now c.args.b c.in_ok-may_use.ensures c.in_ok-refuse.ensures) refl c.block_place.ensures

@@ -5,9 +5,9 @@ use Rattle.calls.proofs.entries.give_up.Goals as goal
 pub returns-then-own : goal.returns-then-own
 unfolding given_up_at
 returns-then-own c =
-    rw (c.if-own.true, ← c.put.ensures, ← c.put-2.ensures) c.less.ensures
+    rw (c.if-own.true, ← c.enter.ensures) c.less.ensures
 
 pub returns-else-own : goal.returns-else-own
 unfolding given_up_at
 returns-else-own c =
-    rw (c.if-own.false, ← c.put.ensures) c.put-2.ensures
+    rw c.if-own.false c.enter.ensures

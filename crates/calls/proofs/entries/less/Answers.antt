@@ -25,4 +25,4 @@ returns-then-n-kept c =
 pub returns-else-n-kept : goal.returns-else-n-kept
 unfolding less_at
 returns-else-n-kept c =
-    rw (c.if-n-kept.false, ← c.one_less.ensures, ← c.holders_word.ensures) c.put.ensures
+    rw (c.if-n-kept.false, ← c.saturating_sub.ensures, ← c.holders_word.ensures) c.put.ensures

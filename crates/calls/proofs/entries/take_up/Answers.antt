@@ -19,11 +19,10 @@ returns-then-own c =
       c.if-own.true,
       ← c.holders_word.ensures,
       ← c.word-n.ensures,
-      ← c.put.ensures,
-      ← c.put-2.ensures,
-    ) c.put-then-own.ensures
+      ← c.enter.ensures,
+    ) c.put.ensures
 
 pub returns-else-own : goal.returns-else-own
 unfolding taken_up_at
 returns-else-own c =
-    rw (c.if-own.false, ← c.put.ensures) c.put-2.ensures
+    rw c.if-own.false c.enter.ensures

@@ -1,36 +1,45 @@
 -- `files::open_subtype` meets its contract: the rule's refusals in order, and the descriptor filled.
-use Rattle.calls.proofs.FilesLaws.{may-clash-subtype, subtype-number, subtype-words}
-use Rattle.calls.proofs.Leaves.{left-refused, left-done}
-use Rattle.calls.specs.Left.{said, rule_at}
-use Rattle.rules.specs.Rule.{first_refusal}
+use mathlib.Core.Path.{refl, sym, ◌∙◌}
+use mathlib.Core.List.{[]}
 use Rattle.rules.specs.Call08.{open_subtype}
-use Prim.Native.Nat.{ℕ}
-use mathlib.Core.List.{List, []}
-use mathlib.Core.Path.{◌≡◌, refl, ap, ◌∙◌}
-use Rattle.calls.proofs.files.open_subtype.Goals.{After-or_refuse-e-2}
+use Rattle.calls.proofs.Leaves.{left-stopped, left-told, error-named}
+use Rattle.calls.proofs.Searches.{entry-none, entry-some}
+use Rattle.calls.proofs.FilesLaws.{may-clash-subtype, subtype-open, subtype-clash, subtype-room, subtype-words}
 use Rattle.calls.proofs.files.open_subtype.Goals as goal
 
-number : (c : After-or_refuse-e-2) (buffer : List ℕ) → c.or_refuse-e-2.result ≡ first_refusal (rule_at c.args.t.now (λ h q. open_subtype h q
-    c.args.c.slot c.args.s c.args.b buffer)).refusals
-number c buffer =
-    subtype-number c.requires.0 c.args.s c.args.b buffer c.look_subtype-f.ensures c.free_entry-d.ensures
-    c.may_open-e.ensures c.busy-clashing.ensures c.or_refuse-e.ensures c.wide.ensures c.or_refuse-e-2.ensures
+pub returns-in_err-may_open : goal.returns-in_err-may_open
+returns-in_err-may_open c =
+    λ buffer. left-stopped _ (λ h q. open_subtype h q _ _ _ buffer) _ _
+    (subtype-open c.requires.0 _ _ buffer c.look_subtype-f.ensures _ c.in_err-may_open.ensures)
+    c.from_residual.ensures.0 c.from_residual.ensures.1
 
-pub busy-clashing-requires : goal.busy-clashing-requires
-busy-clashing-requires c = (
-  c.requires.0,
-  λ none own. may-clash-subtype c.requires.0 c.args.s c.args.b [] c.look_subtype-f.ensures
-      c.free_entry-d.ensures c.may_open-e.ensures refl none,
-)
+pub is_busy-clashing-requires : goal.is_busy-clashing-requires
+is_busy-clashing-requires c =
+    (c.requires.0, λ own. may-clash-subtype c.requires.0 _ _ [] c.look_subtype-f.ensures c.in_ok-may_open.ensures refl, tt)
 
-pub returns-then-e-ne-XOK : goal.returns-then-e-ne-XOK
-returns-then-e-ne-XOK c = λ buffer. left-refused _ _ (number (goal.at.returns-then-e-ne-XOK c).After-or_refuse-e-2 buffer) c.if-e-ne-XOK.true c.refused.ensures
+pub returns-in_err-refuse : goal.returns-in_err-refuse
+returns-in_err-refuse c =
+    λ buffer. left-stopped _ (λ h q. open_subtype h q _ _ _ buffer) _ _
+    (subtype-clash c.requires.0 _ _ buffer c.look_subtype-f.ensures c.in_ok-may_open.ensures _
+    (rw c.is_busy-clashing.ensures at c.in_err-refuse.ensures))
+    c.from_residual-in_err-refuse.ensures.0 c.from_residual-in_err-refuse.ensures.1
+
+pub returns-in_err-d : goal.returns-in_err-d
+returns-in_err-d c =
+    λ buffer. left-stopped _ (λ h q. open_subtype h q _ _ _ buffer) _ _
+    (error-named _ _ _ c.in_err-d.ensures.value
+    ∙ subtype-room c.requires.0 _ _ buffer c.look_subtype-f.ensures c.in_ok-may_open.ensures
+    (rw c.is_busy-clashing.ensures at c.in_ok-refuse.ensures) (entry-none _ _ _ [] (sym c.in_err-d.ensures.ok_part ∙ c.free_entry.ensures)))
+    c.from_residual-in_err-d.ensures.0 c.from_residual-in_err-d.ensures.1
 
 pub returns : goal.returns
 unfolding open_subtype
 returns c =
-    λ buffer. left-done _ (λ h q. open_subtype h q _ _ _ buffer) (number (goal.at.returns c).After-or_refuse-e-2 buffer) c.if-e-ne-XOK.false
-    (c.answered.ensures ∙ ap (λ (d : ℕ). said 0 d 0) c.free_entry-d.ensures) (c.enter.ensures ∙ subtype-words
-    c.requires.0 c.args.s c.args.b buffer c.look_subtype-f.ensures c.free_entry-d.ensures
-    c.may_open-e.ensures c.busy-clashing.ensures c.or_refuse-e.ensures c.wide.ensures
-    c.or_refuse-e-2.ensures c.entry_at.ensures.0)
+    λ buffer. left-told _ (λ h q. open_subtype h q _ _ _ buffer)
+    (subtype-room c.requires.0 _ _ buffer c.look_subtype-f.ensures c.in_ok-may_open.ensures
+    (rw c.is_busy-clashing.ensures at c.in_ok-refuse.ensures)
+    (entry-some _ _ _ _ [] (sym c.in_ok-d.ensures.ok_part ∙ c.free_entry.ensures)).1)
+    (entry-some _ _ _ _ [] (sym c.in_ok-d.ensures.ok_part ∙ c.free_entry.ensures)).0 refl
+    (c.enter.ensures
+    ∙ subtype-words c.requires.0 _ _ buffer c.look_subtype-f.ensures
+    (entry-some _ _ _ _ [] (sym c.in_ok-d.ensures.ok_part ∙ c.free_entry.ensures)).0 c.entry_at.ensures.0)

@@ -1,28 +1,25 @@
 -- `files::unlink` meets its contract: the rule's refusals in order, and one link less.
-use Rattle.calls.proofs.FilesLaws.{unlink-number, unlink-words}
-use Rattle.calls.proofs.Leaves.{left-refused, left-done}
-use Rattle.calls.specs.Left.{rule_at}
-use Rattle.rules.specs.Rule.{first_refusal}
+use mathlib.Core.Path.{refl, ◌∙◌}
 use Rattle.rules.specs.Call11.{unlink}
-use lib.Dec.{eqb}
-use Prim.Native.Nat.{ℕ}
-use mathlib.Core.List.{List}
-use mathlib.Core.Path.{◌≡◌, ◌∙◌}
-use Rattle.calls.proofs.files.unlink.Goals.{After-or_refuse-e}
+use Rattle.calls.proofs.Leaves.{left-stopped, left-told}
+use Rattle.calls.proofs.FilesLaws.{unlink-owned, unlink-counted, unlink-words}
 use Rattle.calls.proofs.files.unlink.Goals as goal
 
-number : (c : After-or_refuse-e) (buffer : List ℕ) → c.or_refuse-e.result ≡ first_refusal (rule_at c.args.t.now (λ h q. unlink h q
-    c.args.c.slot c.args.a buffer)).refusals
-number c buffer =
-    unlink-number c.requires.0 _ buffer c.or_self-s.ensures c.look-f.ensures c.read-links.ensures
-    c.own-e.ensures c.or_refuse-e.ensures
+pub returns-in_err-own : goal.returns-in_err-own
+returns-in_err-own c =
+    λ buffer. left-stopped _ (λ h q. unlink h q _ _ buffer) _ _
+    (unlink-owned c.requires.0 _ buffer c.or_self-s.ensures c.look-f.ensures c.read-links.ensures _ c.in_err-own.ensures)
+    c.from_residual.ensures.0 c.from_residual.ensures.1
 
-pub returns-then-e-ne-XOK : goal.returns-then-e-ne-XOK
-returns-then-e-ne-XOK c = λ buffer. left-refused _ _ (number (goal.at.returns-then-e-ne-XOK c).After-or_refuse-e buffer) c.if-e-ne-XOK.true c.refused.ensures
+pub returns-in_err-refuse : goal.returns-in_err-refuse
+returns-in_err-refuse c =
+    λ buffer. left-stopped _ (λ h q. unlink h q _ _ buffer) _ _
+    (unlink-counted c.requires.0 _ buffer c.or_self-s.ensures c.look-f.ensures c.read-links.ensures c.in_ok-own.ensures c.in_err-refuse.ensures)
+    c.from_residual-in_err-refuse.ensures.0 c.from_residual-in_err-refuse.ensures.1
 
 pub returns : goal.returns
 unfolding unlink
 returns c =
-    λ buffer. left-done _ (λ h q. unlink h q _ _ buffer) (number (goal.at.returns c).After-or_refuse-e buffer) c.if-e-ne-XOK.false c.answered.ensures
-    (c.drop_link.ensures ∙ unlink-words c.requires.0 _ buffer c.or_self-s.ensures c.look-f.ensures c.read-links.ensures
-    c.own-e.ensures (eqb c.read-links.result 0) c.or_refuse-e.ensures c.if-e-ne-XOK.false)
+    λ buffer. left-told _ (λ h q. unlink h q _ _ buffer)
+    (unlink-counted c.requires.0 _ buffer c.or_self-s.ensures c.look-f.ensures c.read-links.ensures c.in_ok-own.ensures c.in_ok-refuse.ensures) refl refl
+    (c.drop_link.ensures ∙ unlink-words c.requires.0 _ buffer c.or_self-s.ensures c.look-f.ensures c.read-links.ensures c.in_ok-own.ensures)

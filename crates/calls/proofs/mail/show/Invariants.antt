@@ -1,12 +1,7 @@
 -- `mail::show` meets its contract: so many words are shown as turns were made.
-use Prim.Native.Nat.{◌-◌, ◌≤◌}
 use mathlib.Core.Path.{◌≡◌}
-use Rattle.rules.specs.Layout.{message_words}
 use Rattle.calls.specs.Mail.{shown_at}
 use Rattle.calls.proofs.mail.show.Given as goal
 
 abbrev pub invariant-loop-i : goal.invariant-loop-i
-invariant-loop-i l = (l.i ≤ message_words) × (l.b ≡ shown_at l.t l.from l.initial.b l.i)
-
-abbrev pub decreases-loop-i : goal.decreases-loop-i
-decreases-loop-i l = message_words - l.i
+invariant-loop-i l = l.b ≡ shown_at l.t l.from l.initial.b l.i

@@ -1,35 +1,29 @@
--- `map::conflict` meets its contract: a run past page 7, or else the pages of it that are passed are free.
-use Prim.Native.Nat.{◌+◌}
-use mathlib.Core.Path.{◌≡◌, ap₂}
+-- `map::conflict` meets its contract: a run past page 7, or a used page of it.
+use mathlib.Core.Path.{◌≡◌, ◌∙◌}
+use mathlib.Core.Bool.{not}
+use Prim.Native.Nat.{◌+◌, ◌-◌}
 use native.Mathlib.Omega.{arith}
-use borrow.Author.Tests.{lt-ltb, le-ltb}
+use lib.Dec.{eqb}
+use lib.ListN.{length, take, drop}
+use borrow.Author.Rules.{rules}
+use borrow.Author.Tests.{tests, lt-ltb, le-ltb}
+use Rattle.std.proofs.lemmas.Iterator.{YieldsList-from_slice}
+use Rattle.std.proofs.lemmas.Iterator.Search.{any_from_yields_List}
 use Rattle.rules.specs.Layout.{pages}
 use Rattle.rules.specs.Call19.{conflict}
-use Rattle.calls.proofs.MapLaws.{some_first, some_next}
-use borrow.Author.Rules.{rules}
-use Rattle.calls.proofs.map.conflict.Goals.{After-wide-run}
+use Rattle.calls.proofs.MapLaws.{some_part}
 use Rattle.calls.proofs.map.conflict.Goals as goal
-
--- the run's end, as the code finds it
-end : (c : After-wide-run) → c.wide-from.result + c.wide-run.result ≡ c.args.b + c.args.n
-end c = ap₂ ◌+◌ c.wide-from.ensures c.wide-run.ensures
 
 pub returns-then-from-run-gt-PAGES : goal.returns-then-from-run-gt-PAGES
 unfolding conflict
-returns-then-from-run-gt-PAGES c = rw (lt-ltb pages (c.args.b + c.args.n) (omega (arith, end (goal.at.returns-then-from-run-gt-PAGES c).After-wide-run, c.if-from-run-gt-PAGES.true)))
+returns-then-from-run-gt-PAGES c = rw (lt-ltb pages (c.args.b + c.args.n) (omega arith))
 
-pub loop-i-init : goal.loop-i-init
-loop-i-init c = (search rules, some_first _)
-
-pub loop-i-preserved : goal.loop-i-preserved
-loop-i-preserved c =
-    (omega arith, some_next _ _ c.loop-i.invariant.1 (rw c.wide-from.ensures))
-
-pub returns : goal.returns
+pub returns-else-from-run-gt-PAGES : goal.returns-else-from-run-gt-PAGES
 unfolding conflict
-returns c =
-    let e : c.loop-i.i ≡ c.args.n = omega (arith, c.wide-run.ensures, c.loop-i-test.false) in
-    rw (
-      le-ltb pages (c.args.b + c.args.n) (omega (arith, end (goal.at.returns c).After-wide-run, c.if-from-run-gt-PAGES.false)),
-      ← e,
-    ) c.loop-i.invariant.1
+returns-else-from-run-gt-PAGES c =
+    let a = c.args in
+    let long : length a.m ≡ pages = search rules in
+    rw (le-ltb pages (a.b + a.n) (omega arith))
+    (any_from_yields_List (λ x. not (eqb x 0)) _ _ _ c.any.ensures.ran (YieldsList-from_slice (take (a.b + a.n - a.b) (drop a.b a.m)) cc)
+    (λ x b q k. search (rules, tests))
+    ∙ some_part (λ x. not (eqb x 0)) a.m a.b a.n (omega arith) (omega arith))

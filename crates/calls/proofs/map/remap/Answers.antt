@@ -19,15 +19,15 @@ use Rattle.calls.specs.declared.entries.Entry.{Entry}
 use Rattle.calls.specs.declared.objects.Seen.{Seen}
 use Rattle.calls.specs.World.{Sound, words_of}
 use Rattle.calls.specs.Left.{rule_at}
+use Rattle.calls.specs.Refusing.{found}
 use Rattle.calls.specs.Entries.{entry_of}
 use Rattle.calls.specs.Seen.{name_of, named_of, seen_as, seen_of}
 use Rattle.calls.specs.Map.{held, map_of, left_by, taken_by, run_of, remap_tests}
 use Rattle.laws.proofs.Refusals.{clear}
-use Rattle.calls.proofs.Refusals.{refusing-first}
-use Rattle.calls.proofs.Leaves.{left-refused, left-done}
+use Rattle.calls.proofs.Leaves.{left-stopped, left-told}
 use Rattle.calls.proofs.SegmentsLaws.{after, entry-formed, entry_named}
 use Rattle.calls.proofs.MapLaws.{mapped-is, still-mapped, conflict-is, taken_is}
-use Rattle.calls.proofs.map.remap.Goals.{After-may_remap-e}
+use Rattle.calls.proofs.map.remap.Goals.{After-may_remap}
 use Rattle.calls.proofs.map.remap.Goals as goal
 
 -- x and y are the entries a and d, g what is seen of what the first holds, m the map and rest what is left of it
@@ -93,30 +93,21 @@ module _ {t : List ℕ} {n : Header} {c : Caller} (sound : Sound t n c) (a b d :
         e ∙ ap (λ (ws : List Word). write (configuration t) t ws)
         (taken_is (words_of t) c.slot d map_is left_is a b run (λ comes. run-named comes (some_in (rw (x-is, y-is) at filled) comes)) (rw we at te))
 
--- the number that was found is the first of the code's tests, and so the rule's
-found : (c : After-may_remap-e) → c.may_remap-e.result ≡ first_refusal (remap_tests c.args.incoming c.args.b
-    c.args.outgoing c.entry_of-s.result.held c.entry_of-u.result.held
-    c.look-g.result.present c.run_of-run.result c.map_of-map.result c.left-rest.result)
-found c =
-    c.may_remap-e.ensures ∙ refusing-first (remap_tests c.args.incoming c.args.b c.args.outgoing c.entry_of-s.result.held
-    c.entry_of-u.result.held c.look-g.result.present c.run_of-run.result
-    c.map_of-map.result c.left-rest.result) refl
-
--- what the laws above say of the places where it was found
-module _ (c : After-may_remap-e) (buffer : List ℕ) where
-  counted : c.may_remap-e.result ≡ first_refusal (rule_at c.args.t.now (λ h q. remap h q c.args.c.slot
+-- what the laws above say of the places where the code has judged it
+module _ (c : After-may_remap) (buffer : List ℕ) where
+  counted : found c.may_remap.result ≡ first_refusal (rule_at c.args.t.now (λ h q. remap h q c.args.c.slot
       c.args.incoming c.args.b c.args.outgoing buffer)).refusals
-  counted = found c ∙ number c.requires.0 _ _ _ buffer c.entry_of-s.ensures
+  counted = c.may_remap.ensures ∙ number c.requires.0 _ _ _ buffer c.entry_of-s.ensures
       c.entry_of-u.ensures c.look-g.ensures c.run_of-run.ensures
       c.map_of-map.ensures c.left-rest.ensures
 
-  clear-low : c.may_remap-e.result ≡ 0 → c.args.incoming ≤ entries
+  clear-low : found c.may_remap.result ≡ 0 → c.args.incoming ≤ entries
   clear-low z = low c.requires.0 _ _ _ buffer c.entry_of-s.ensures
       c.entry_of-u.ensures c.look-g.ensures c.run_of-run.ensures
-      c.map_of-map.ensures c.left-rest.ensures (sym (found c) ∙ z)
+      c.map_of-map.ensures c.left-rest.ensures (sym c.may_remap.ensures ∙ z)
 
-  written : c.may_remap-e.result ≡ 0 → {to t' : List ℕ} {w : ℕ} → w ≡ c.args.incoming
-      → to ≡ taken_by c.left-rest.result (ltb w entries) (c.args.incoming + 1) c.args.b
+  written : found c.may_remap.result ≡ 0 → {to t' : List ℕ}
+      → to ≡ taken_by c.left-rest.result (ltb c.args.incoming entries) (c.args.incoming + 1) c.args.b
       c.run_of-run.result
       → t' ≡ write (configuration c.args.t.now) c.args.t.now (pages_set c.args.c.slot (held to))
       → t' ≡ write (configuration c.args.t.now) c.args.t.now (rule_at c.args.t.now
@@ -124,13 +115,17 @@ module _ (c : After-may_remap-e) (buffer : List ℕ) where
       ).effects.words
   written z = done c.requires.0 _ _ _ buffer c.entry_of-s.ensures
       c.entry_of-u.ensures c.look-g.ensures c.run_of-run.ensures
-      c.map_of-map.ensures c.left-rest.ensures (sym (found c) ∙ z)
+      c.map_of-map.ensures c.left-rest.ensures (sym c.may_remap.ensures ∙ z) refl
 
-pub returns-then-e-ne-XOK : goal.returns-then-e-ne-XOK
-returns-then-e-ne-XOK c = λ buffer. left-refused _ _ (counted (goal.at.returns-then-e-ne-XOK c).After-may_remap-e buffer) c.if-e-ne-XOK.true c.refused.ensures
+pub returns-in_err-may_remap : goal.returns-in_err-may_remap
+returns-in_err-may_remap c =
+    λ buffer. left-stopped _ _ _ _ (c.in_err-may_remap.ensures ∙ sym c.may_remap.ensures
+    ∙ counted (goal.at.returns-in_err-may_remap c).After-may_remap buffer)
+    c.from_residual.ensures.0 c.from_residual.ensures.1
 
 pub overflow_add-incoming : goal.overflow_add-incoming
-overflow_add-incoming c = record { fits = omega (arith, clear-low (goal.at.overflow_add-incoming c).After-may_remap-e [] c.if-e-ne-XOK.false) }
+overflow_add-incoming c =
+    record { fits = omega (arith, clear-low (goal.at.overflow_add-incoming c).After-may_remap [] (c.may_remap.ensures ∙ sym c.in_ok-may_remap.ensures)) }
 
 pub set_pages-requires : goal.set_pages-requires
 set_pages-requires c =
@@ -139,5 +134,7 @@ set_pages-requires c =
 pub returns : goal.returns
 unfolding remap
 returns c =
-    λ buffer. left-done _ (λ h q. remap h q _ _ _ _ buffer) (counted (goal.at.returns c).After-may_remap-e buffer) c.if-e-ne-XOK.false c.answered.ensures
-    (written (goal.at.returns c).After-may_remap-e buffer c.if-e-ne-XOK.false c.wide-comes.ensures c.taken.ensures c.set_pages.ensures)
+    let x = (goal.at.returns c).After-may_remap in
+    let none : found c.may_remap.result ≡ 0 = c.may_remap.ensures ∙ sym c.in_ok-may_remap.ensures in
+    λ buffer. left-told _ (λ h q. remap h q _ _ _ _ buffer) (sym none ∙ counted x buffer) refl refl
+    (written x buffer none c.taken.ensures c.set_pages.ensures)

@@ -1,19 +1,11 @@
--- `map::taken` meets its contract: of the pages passed, those of the run hold the number.
-use mathlib.Core.Path.{◌∙◌}
-use native.Mathlib.Omega.{arith}
-use Rattle.laws.proofs.Tab.{filled_none, filled_more, filled-all}
+-- `map::taken` meets its contract: the pages of the run hold the number, as far as there are pages.
 use borrow.Author.Rules.{rules}
+use Rattle.calls.proofs.MapLaws.{taken-part, taken-none}
 use Rattle.calls.proofs.map.taken.Goals as goal
 
-pub loop-g-init : goal.loop-g-init
-loop-g-init c = (search rules, filled_none _ _ _ _ (search rules))
+pub returns-then-comes : goal.returns-then-comes
+returns-then-comes c =
+    taken-part c.args.m c.args.v c.args.b c.args.n (search rules) c.if-comes.true c.min.ensures c.min-then-comes.ensures (c.fill.ensures.after (search rules))
 
-pub loop-g-preserved : goal.loop-g-preserved
-loop-g-preserved c = (
-  omega arith,
-  filled_more _ _ _ _ _ _ (omega arith) c.loop-g.invariant.1
-      (c.first.ensures ∙ rw (c.wide.ensures, c.wide-from.ensures)),
-)
-
-pub returns : goal.returns
-returns c = filled-all _ _ _ _ _ (omega arith) c.loop-g.invariant.1
+pub returns-else-comes : goal.returns-else-comes
+returns-else-comes c = taken-none c.args.m c.args.v c.args.b c.args.n (search rules) c.if-comes.false

@@ -1,6 +1,7 @@
 -- `objects::kind_by` meets its contract: the class is a process's, or a segment's, or is taken for a file's.
 use mathlib.Core.Path.{◌≡◌, sym, ◌∙◌}
 use Prim.Native.Nat.{ℕ}
+use native.Mathlib.Omega.{arith}
 use borrow.Author.Tests.{eq-eqb, ne_eqb}
 use Rattle.rules.specs.Layout.{process, segment, file}
 use Rattle.rules.specs.Seid.{class, class_of}
@@ -21,11 +22,11 @@ module _ (s : ℕ) {n : ℕ} (class-is : n ≡ class_of s) where
     else-file no-segment = sym (cond-false _ _ _ (ne_eqb (class_of s) (class process) (λ f. no-process (class-is ∙ f)))
         ∙ cond-false _ _ _ (ne_eqb (class_of s) (class segment) (λ f. no-segment (class-is ∙ f))))
 
-pub returns-then-class-eq-PROCESS_CLASS : goal.returns-then-class-eq-PROCESS_CLASS
-returns-then-class-eq-PROCESS_CLASS c = a-process _ c.class_of-class.ensures c.if-class-eq-PROCESS_CLASS.true
+pub returns-in-4 : goal.returns-in-4
+returns-in-4 c = a-process _ c.class_of.ensures c.in-4.is
 
-pub returns-then-class-eq-SEGMENT_CLASS : goal.returns-then-class-eq-SEGMENT_CLASS
-returns-then-class-eq-SEGMENT_CLASS c = a-segment _ c.class_of-class.ensures c.if-class-eq-PROCESS_CLASS.false c.if-class-eq-SEGMENT_CLASS.true
+pub returns-in-5 : goal.returns-in-5
+returns-in-5 c = a-segment _ c.class_of.ensures (λ e. omega (arith, c.in-5.is, e)) c.in-5.is
 
-pub returns : goal.returns
-returns c = else-file _ c.class_of-class.ensures c.if-class-eq-PROCESS_CLASS.false c.if-class-eq-SEGMENT_CLASS.false
+pub returns-in_default : goal.returns-in_default
+returns-in_default c = else-file _ c.class_of.ensures (λ e. omega (arith, e)) (λ e. omega (arith, e))

@@ -2,28 +2,27 @@
 use Rattle.rules.specs.Layout.{configuration, slots, record_words, live, serial, owner, group}
 use Rattle.layout.specs.Kinds.{kind_of}
 use Rattle.calls.specs.World.{words_of}
-use Rattle.laws.proofs.Tests.{passed, failed}
 use Rattle.calls.proofs.Names.{bits_small, sixteen, slot-few, cell-is, record-there, bits_in, named_in, not_seen, seen}
 use Rattle.calls.proofs.Searches.{record-some}
 use Rattle.calls.proofs.Worlds.{see}
-use mathlib.Core.Path.{refl}
+use mathlib.Core.Path.{refl, sym, ◌∙◌}
 use Prim.Native.Nat.{ℕ, ◌+◌, ◌≤◌, ◌<◌, ◌^◌}
 use lib.ListN.{length}
 use native.Mathlib.Omega.{arith}
-use Rattle.calls.proofs.objects.look.Goals.{After-bits_word-bits_at, After-record_at-at, After-record_at-mine, Else-not-x}
+use Rattle.calls.proofs.objects.look.Goals.{After-bits_word-bits_at, After-record_at-at, After-record_at-mine, In-Some}
 use Rattle.calls.proofs.objects.look.Goals as goal
 
 -- past the form the slot is one of the table's
-slot-in : (c : Else-not-x) → c.name_of-x.result.slot < slots (configuration c.args.t.now)
+slot-in : (c : In-Some) → c.in-Some.x.slot < slots (configuration c.args.t.now)
     (kind_of c.args.kind)
 slot-in c =
-    named_in c.requires.0.known _ _ c.name_of-x.ensures (passed _ c.if-not-x.false)
+    named_in c.requires.0.known _ _ (sym c.name_of.ensures ∙ c.in-Some.is)
 
 -- past the form the object's record is there, and the caller's is
 there : (c : After-record_at-at) (j : ℕ) → let args = c.args in j < record_words (kind_of
     args.kind) → c.record_at-at.result + j < length args.t.now
 there c j l =
-    record-there c.requires.0 _ _ j (slot-in (goal.at.After-record_at-at c).Else-not-x) l c.record_at-at.ensures.0
+    record-there c.requires.0 _ _ j (slot-in (goal.at.After-record_at-at c).In-Some) l c.record_at-at.ensures.0
 
 -- as far as the words that every record has
 front : (c : After-record_at-at) (j : ℕ) → j ≤ group → c.record_at-at.result + j < length c.args.t.now
@@ -40,15 +39,15 @@ near c =
     let small = bits_small (kind_of c.args.kind) c.bits_word-bits_at.ensures in
     omega (arith, small, c.record_at-at.ensures.1)
 
-pub returns-then-not-x : goal.returns-then-not-x
-returns-then-not-x c =
+pub returns-in_default : goal.returns-in_default
+returns-in_default c =
     let args = c.args in
     not_seen (configuration args.t.now) (words_of args.t.now) args.n args.c.slot (kind_of args.kind) args.s
-    c.name_of-x.ensures (failed _ c.if-not-x.true) c.unseen.ensures
+    (sym c.name_of.ensures ∙ c.in_default.is) c.unseen.ensures
 
 pub cell_in-cell-requires : goal.cell_in-cell-requires
 cell_in-cell-requires c =
-    slot-few c.requires.0.known _ _ (slot-in (goal.at.cell_in-cell-requires c).Else-not-x)
+    slot-few c.requires.0.known _ _ (slot-in (goal.at.cell_in-cell-requires c).In-Some)
 
 pub bounds-t-at : goal.bounds-t-at
 bounds-t-at c = front (goal.at.bounds-t-at c).After-record_at-at live (omega arith)
@@ -87,7 +86,7 @@ flow_at-flows-requires c =
 pub returns : goal.returns
 returns c =
     let known = c.requires.0.known in let place = c.record_at-at.ensures.0 in let home = c.record_at-mine.ensures.0 in
-    seen c.requires.0 c.requires.1.matrix _ _ c.name_of-x.ensures (cell-is known _ _ c.requires.1.told
-    (slot-in (goal.at.returns c).Else-not-x) c.cell_in-cell.ensures) (see known _ _ _ place refl) (see known _ _ _ place refl) (see known _ _ _ place refl)
+    seen c.requires.0 c.requires.1.matrix _ _ (sym c.name_of.ensures ∙ c.in-Some.is) (cell-is known _ _ c.requires.1.told
+    (slot-in (goal.at.returns c).In-Some) c.cell_in-cell.ensures) (see known _ _ _ place refl) (see known _ _ _ place refl) (see known _ _ _ place refl)
     (see known _ _ _ place refl) c.bits_word-bits_at.ensures (see known _ _ _ place refl) (see known _ _ _ home refl)
-    (see known _ _ _ home refl) c.flow_at-flows.ensures c.rights-rights.ensures (passed _ c.if-not-x.false)
+    (see known _ _ _ home refl) c.flow_at-flows.ensures c.rights-rights.ensures

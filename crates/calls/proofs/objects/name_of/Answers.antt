@@ -1,12 +1,16 @@
 -- `objects::name_of` meets its contract, kind by kind.
+use Rattle.calls.specs.Seen.{named_of}
 use mathlib.Core.Path.{◌∙◌}
 use Rattle.calls.proofs.objects.name_of.Goals as goal
 
 pub returns-in-Process : goal.returns-in-Process
-returns-in-Process c = c.as_process.ensures ∙ rw c.in-Process.is
+unfolding named_of
+returns-in-Process c = c.name_as.ensures ∙ rw c.in-Process.is
 
 pub returns-in-Segment : goal.returns-in-Segment
-returns-in-Segment c = c.as_segment.ensures ∙ rw c.in-Segment.is
+unfolding named_of
+returns-in-Segment c = c.name_as-in-Segment.ensures ∙ rw c.in-Segment.is
 
 pub returns-in-File : goal.returns-in-File
-returns-in-File c = c.as_file.ensures ∙ rw c.in-File.is
+unfolding named_of
+returns-in-File c = c.name_as-in-File.ensures ∙ rw c.in-File.is

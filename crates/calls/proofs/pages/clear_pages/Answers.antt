@@ -7,14 +7,8 @@ use Rattle.calls.specs.World.{words_of}
 use Rattle.calls.proofs.MapLaws.{cleared-is}
 use Rattle.calls.proofs.pages.clear_pages.Goals as goal
 
-pub returns-in-Process : goal.returns-in-Process
-returns-in-Process c = rw c.in-Process.is
-
 pub returns-in-Segment : goal.returns-in-Segment
 returns-in-Segment c =
     rw c.in-Segment.is (c.set_pages.ensures ∙ ap (λ (ws : List Word). write (configuration
     c.args.t.now) c.args.t.now ws) (cleared-is (words_of c.args.t.now) c.args.p c.args.d
     c.map_of-m.ensures c.left.ensures))
-
-pub returns-in-File : goal.returns-in-File
-returns-in-File c = rw c.in-File.is

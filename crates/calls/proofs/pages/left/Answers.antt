@@ -1,19 +1,7 @@
 -- `pages::left` meets its contract: of the pages passed, those that held the designator are free.
-use mathlib.Core.Path.{◌∙◌}
 use native.Mathlib.Omega.{arith}
-use Rattle.laws.proofs.Tab.{filled_none, filled_more, filled-all}
-use borrow.Author.Rules.{rules}
+use Rattle.laws.proofs.Tab.{filled-all}
 use Rattle.calls.proofs.pages.left.Goals as goal
 
-pub loop-g-init : goal.loop-g-init
-loop-g-init c = (search rules, filled_none _ _ _ _ (search rules))
-
-pub loop-g-preserved : goal.loop-g-preserved
-loop-g-preserved c = (
-  omega arith,
-  filled_more _ _ _ _ _ _ (omega arith) c.loop-g.invariant.1
-      (c.first.ensures ∙ rw (c.wide.ensures, c.wide-in-loop-g.ensures)),
-)
-
 pub returns : goal.returns
-returns c = filled-all _ _ _ _ _ (omega arith) c.loop-g.invariant.1
+returns c = filled-all _ _ _ _ _ (omega arith) c.loop-g.invariant

@@ -1,5 +1,5 @@
 -- `pages::left` meets its contract: of the pages passed, those that held the designator are free.
-use Prim.Native.Nat.{◌+◌, ◌-◌, ◌≤◌}
+use Prim.Native.Nat.{◌+◌}
 use mathlib.Core.Bool.{cond}
 use lib.Dec.{eqb}
 use Rattle.rules.specs.Layout.{pages}
@@ -8,7 +8,4 @@ use Rattle.calls.specs.Map.{held}
 use Rattle.calls.proofs.pages.left.Given as goal
 
 abbrev pub invariant-loop-g : goal.invariant-loop-g
-invariant-loop-g l = (l.g ≤ pages) × Filled 0 (λ g. cond (eqb (held l.m g) (l.d + 1)) 0 (held l.m g)) pages l.g l.rest
-
-abbrev pub decreases-loop-g : goal.decreases-loop-g
-decreases-loop-g l = pages - l.g
+invariant-loop-g l = Filled 0 (λ g. cond (eqb (held l.m g) (l.d + 1)) 0 (held l.m g)) pages l.g l.rest

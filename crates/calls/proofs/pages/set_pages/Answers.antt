@@ -1,27 +1,17 @@
 -- `pages::set_pages` meets its contract: the pages passed are written.
-use mathlib.Core.Path.{◌≡◌, ap, ◌∙◌}
+use mathlib.Core.Path.{◌≡◌}
 use native.Mathlib.Omega.{arith}
-use lib.ListN.{length}
 use Rattle.rules.specs.Layout.{pages}
 use Rattle.rules.specs.Find.{pages_set}
-use Rattle.laws.proofs.Written.{length-write}
 use Rattle.calls.proofs.MapLaws.{pages-none, pages-more}
-use borrow.Author.Rules.{rules}
 use Rattle.calls.proofs.pages.set_pages.Goals as goal
 
 pub loop-g-init : goal.loop-g-init
-loop-g-init c = (search rules, pages-none _ _ _ _)
+loop-g-init c = pages-none _ _ _ _
 
 pub loop-g-preserved : goal.loop-g-preserved
-loop-g-preserved c = (
-  omega arith,
-  pages-more c.requires _ _ _
-      c.loop-g.invariant.1 c.write.ensures,
-)
-
-pub shape_of-t : goal.shape_of-t
-shape_of-t c = ap length c.loop-g.invariant.1 ∙ simp length-write
+loop-g-preserved c = pages-more c.requires _ _ _ c.loop-g.invariant c.write.ensures
 
 pub returns : goal.returns
 unfolding pages_set
-returns c = let e : c.loop-g.g ≡ pages = omega arith in rw e at c.loop-g.invariant.1
+returns c = let e : c.loop-g.g ≡ pages = omega arith in rw e at c.loop-g.invariant

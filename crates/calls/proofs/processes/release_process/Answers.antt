@@ -14,14 +14,14 @@ use Rattle.calls.specs.declared.Caller.{Caller}
 use Rattle.calls.specs.declared.objects.Seen.{Seen}
 use Rattle.calls.specs.World.{Sound, words_of, holdable}
 use Rattle.calls.specs.Left.{rule_at}
+use Rattle.calls.specs.Refusing.{found}
 use Rattle.calls.specs.Seen.{named_of, seen_of, own_tests}
 use Rattle.calls.specs.Holding.{Holding}
 use Rattle.laws.proofs.Refusals.{clear}
-use Rattle.calls.proofs.Refusals.{refusing-first}
 use Rattle.calls.proofs.Looks.{slot_is, own_is, slot-in, own_first, form-past}
-use Rattle.calls.proofs.Leaves.{left-refused, left-done}
+use Rattle.calls.proofs.Leaves.{left-stopped, left-told}
 use Rattle.calls.proofs.ProcessesLaws.{then-segments, released-is}
-use Rattle.calls.proofs.processes.release_process.Goals.{After-own-e, Else-e-ne-XOK}
+use Rattle.calls.proofs.processes.release_process.Goals.{After-own, In_ok-own}
 use Rattle.calls.proofs.processes.release_process.Goals as goal
 
 -- s is the seid that a stands for, g what is seen of it
@@ -59,34 +59,30 @@ module _ {t : List ℕ} {n : Header} {c : Caller} (sound : Sound t n c) (a : ℕ
     unfolding release_process
     words buffer done = done ∙ rw (slot_is sound.known c.slot process s seen form, self)
 
-found : (c : After-own-e) → c.own-e.result ≡ first_refusal (own_tests c.look-q.result process)
-found c = c.own-e.ensures ∙ refusing-first (own_tests c.look-q.result process) refl
+-- what the code finds is the rule's first refusal
+counted : (c : After-own) (buffer : List ℕ)
+    → found c.own.result ≡ first_refusal (rule_at c.args.t.now (λ h r. release_process h r c.args.c.slot c.args.a buffer)).refusals
+counted c buffer = c.own.ensures ∙ number c.requires.0 c.args.a c.or_self-s.ensures c.look-q.ensures buffer
 
-counted : (c : After-own-e) (buffer : List ℕ) → c.own-e.result ≡ first_refusal (rule_at c.args.t.now (λ h r. release_process h r
-    c.args.c.slot c.args.a buffer)).refusals
-counted c buffer =
-    found c ∙ number c.requires.0 c.args.a c.or_self-s.ensures c.look-q.ensures buffer
+held : (c : In_ok-own) (k : Kind) → holdable k ≡ true → Holding c.args.t.now c.args.n c.args.c k c.look-q.result.slot
+held c = holding c.requires.0 c.args.a c.or_self-s.ensures c.look-q.ensures (sym c.in_ok-own.ensures)
 
-held : (c : Else-e-ne-XOK) (k : Kind) → holdable k ≡ true → Holding c.args.t.now c.args.n c.args.c k c.look-q.result.slot
-held c =
-    holding c.requires.0 c.args.a c.or_self-s.ensures c.look-q.ensures (sym (found (goal.at.Else-e-ne-XOK c).After-own-e) ∙
-    c.if-e-ne-XOK.false)
-
-pub returns-then-e-ne-XOK : goal.returns-then-e-ne-XOK
-returns-then-e-ne-XOK c = λ buffer. left-refused _ _ (counted (goal.at.returns-then-e-ne-XOK c).After-own-e buffer) c.if-e-ne-XOK.true c.refused.ensures
+pub returns-in_err-own : goal.returns-in_err-own
+returns-in_err-own c =
+    λ buffer. left-stopped _ _ _ _ (c.in_err-own.ensures ∙ sym c.own.ensures ∙ counted (goal.at.returns-in_err-own c).After-own buffer)
+    c.from_residual.ensures.0 c.from_residual.ensures.1
 
 pub drop_entries-requires : goal.drop_entries-requires
-drop_entries-requires c = held (goal.at.drop_entries-requires c).Else-e-ne-XOK file refl
+drop_entries-requires c = held (goal.at.drop_entries-requires c).In_ok-own file refl
 
 pub drop_entries-requires-2 : goal.drop_entries-requires-2
 drop_entries-requires-2 c =
-    then-segments _ (held (goal.at.drop_entries-requires-2 c).Else-e-ne-XOK file refl) c.drop_entries.ensures
+    then-segments _ (held (goal.at.drop_entries-requires-2 c).In_ok-own file refl) c.drop_entries.ensures
 
 pub returns : goal.returns
 unfolding release_process
 returns c =
-    λ buffer. left-done _ (λ h r. release_process h r _ c.args.a buffer) (counted (goal.at.returns c).After-own-e buffer) c.if-e-ne-XOK.false
-    c.answered.ensures (words c.requires.0 c.args.a
-    c.or_self-s.ensures c.look-q.ensures (sym (found
-    (goal.at.returns c).After-own-e) ∙ c.if-e-ne-XOK.false) buffer (released-is _ (held (goal.at.returns c).Else-e-ne-XOK file refl) c.drop_entries.ensures c.drop_entries-2.ensures
-    c.record_at.ensures.0 c.free_record.ensures))
+    let x = goal.at.returns c in
+    λ buffer. left-told _ (λ h r. release_process h r _ c.args.a buffer) (c.in_ok-own.ensures ∙ sym c.own.ensures ∙ counted x.After-own buffer) refl refl
+    (words c.requires.0 c.args.a c.or_self-s.ensures c.look-q.ensures (sym c.in_ok-own.ensures) buffer
+    (released-is _ (held x.In_ok-own file refl) c.drop_entries.ensures c.drop_entries-2.ensures c.record_at.ensures.0 c.free_record.ensures))

@@ -1,4 +1,10 @@
--- `quick::carry_out_by` meets its contract: where the call has succeeded, the slice follows it.
+-- `quick::carry_out_by` meets its contract: where a slice is lent and the call has succeeded, the slice follows it.
+use mathlib.Core.Path.{refl}
+use native.Mathlib.Omega.{arith}
+use Prim.Native.Nat.{◌<◌}
+use lib.ListN.{length}
+use Rattle.calls.proofs.Leaves.{refusal-some}
+use Rattle.calls.proofs.Named.{number-low, number-high}
 use Rattle.calls.proofs.QuickSteps.{ready-after, right-after, right-still}
 use Rattle.calls.proofs.Whole.{sound-read}
 use Rattle.calls.proofs.quick.carry_out_by.Goals as goal
@@ -7,30 +13,20 @@ pub note-s-requires : goal.note-s-requires
 note-s-requires c =
     sound-read c.header_of-n.ensures c.requires.0
 
-pub carry_out-r-requires : goal.carry_out-r-requires
-carry_out-r-requires c =
-    (c.requires.0, c.requires.1, c.requires.2, λ l. c.requires.5, c.requires.3, c.requires.4)
-
 pub follow-requires : goal.follow-requires
 follow-requires c =
-    ready-after _ c.requires.0 c.requires.2 _ _ _ _ c.requires.3 c.requires.4 c.requires.6 _
-    c.carry_out-r.ensures c.if-r-eq-XOK.true c.header_of-n.ensures c.requires.1.told c.note-s.ensures
+    let pre = c.requires in let code = c.args.code in
+    ready-after _ pre.0 pre.2 _ _ _ _ (number-low code) (number-high code) pre.4 _
+    c.in_ok-x.ensures refl c.header_of-n.ensures pre.1.told c.note-s.ensures
 
-pub returns-then-r-eq-XOK : goal.returns-then-r-eq-XOK
-returns-then-r-eq-XOK c =
-    let right =
-    right-after _ c.requires.0 c.requires.2 _ _ _ _ c.requires.3 c.requires.4 c.requires.6 _
-    c.carry_out-r.ensures c.if-r-eq-XOK.true c.note-s.ensures c.requires.5 c.follow.ensures in
-    record {
-      through = c.carry_out-r.ensures;
-      right = right;
-    }
+pub returns-in_err-x-clause-right : goal.returns-in_err-x-clause-right
+returns-in_err-x-clause-right c =
+    let pre = c.requires in let code = c.args.code in
+    λ l. right-still _ pre.0 pre.2 _ _ _ _ (number-low code) (number-high code) pre.4 _
+    c.in_err-x.ensures (refusal-some c.in_err-x.field-0.0) (pre.3 l)
 
-pub returns-else-r-eq-XOK : goal.returns-else-r-eq-XOK
-returns-else-r-eq-XOK c =
-    let right =
-    right-still _ c.requires.0 c.requires.2 _ _ _ _ c.requires.3 c.requires.4 c.requires.6 _
-    c.carry_out-r.ensures c.if-r-eq-XOK.false c.requires.5 in record {
-      through = c.carry_out-r.ensures;
-      right = right;
-    }
+pub returns-clause-right : goal.returns-clause-right
+returns-clause-right c =
+    let pre = c.requires in let code = c.args.code in
+    λ l. right-after _ pre.0 pre.2 _ _ _ _ (number-low code) (number-high code) pre.4 _
+    c.in_ok-x.ensures refl c.note-s.ensures (pre.3 (omega (arith, l, c.follow.auto.w))) c.follow.ensures

@@ -1,4 +1,9 @@
--- `quick::follow` meets its contract: by the code.
+-- `quick::follow` meets its contract: by the call.
+use mathlib.Core.Path.{◌≡◌, ap}
+use Rattle.calls.specs.declared.code.Code.{Code}
+use Rattle.calls.specs.declared.code.Code.TheVariants.{Spawn, ReleaseProcess, BuildSegment, ReleaseSegment, Create, Open, Close, Unlink, Regrade}
+use Rattle.calls.specs.Codes.{code_number}
+use Rattle.calls.proofs.Named.{same-call}
 use Rattle.calls.proofs.QuickSteps.{followed-1, followed-2, followed-3, followed-5, followed-7, followed-8, followed-9, followed-11, followed-21, followed-other}
 use Rattle.calls.proofs.Searches.{home-in}
 use Rattle.calls.proofs.Worlds.{cells_is, slots-is}
@@ -12,62 +17,65 @@ take_slot-requires c =
 
 pub after_release-requires : goal.after_release-requires
 after_release-requires c =
-    let near = c.requires.2.released c.in-2.is in (
+    let near = c.requires.2.released (ap code_number c.in-ReleaseProcess.is) in (
       c.requires.0.known,
       home-in c.requires.0,
       omega (arith, near.in-range, c.index_of.ensures, slots-is c.requires.0.known process),
       rw c.index_of.ensures near.in_cell,
     )
 
-pub take_slot-requires-in-3 : goal.take_slot-requires-in-3
-take_slot-requires-in-3 c =
+pub take_slot-requires-in-BuildSegment : goal.take_slot-requires-in-BuildSegment
+take_slot-requires-in-BuildSegment c =
     (c.requires.0.known, home-in c.requires.0)
 
-pub take_slot-requires-in-7 : goal.take_slot-requires-in-7
-take_slot-requires-in-7 c =
+pub take_slot-requires-in-Create : goal.take_slot-requires-in-Create
+take_slot-requires-in-Create c =
     (c.requires.0.known, home-in c.requires.0)
 
-pub take_slot-requires-in-21 : goal.take_slot-requires-in-21
-take_slot-requires-in-21 c =
-    (c.requires.0.known, omega (arith, c.requires.2.copied c.in-21.is, cells_is c.requires.0.known))
+pub take_slot-requires-in-Regrade : goal.take_slot-requires-in-Regrade
+take_slot-requires-in-Regrade c =
+    (c.requires.0.known, omega (arith, c.requires.2.copied (ap code_number c.in-Regrade.is), cells_is c.requires.0.known))
 
-pub returns-in-1 : goal.returns-in-1
-returns-in-1 c =
-    followed-1 _ _ _ _ _ _ _ _ _ c.requires.0.home c.in-1.is c.take_slot.ensures
+pub returns-in-Spawn : goal.returns-in-Spawn
+returns-in-Spawn c =
+    followed-1 _ _ _ _ _ _ _ _ _ c.requires.0.home (ap code_number c.in-Spawn.is) c.take_slot.ensures
 
-pub returns-in-2 : goal.returns-in-2
-returns-in-2 c =
-    followed-2 _ _ _ _ _ _ _ _ _ c.requires.0.home c.in-2.is c.index_of.ensures c.after_release.ensures
+pub returns-in-ReleaseProcess : goal.returns-in-ReleaseProcess
+returns-in-ReleaseProcess c =
+    followed-2 _ _ _ _ _ _ _ _ _ c.requires.0.home (ap code_number c.in-ReleaseProcess.is) c.index_of.ensures c.after_release.ensures
 
-pub returns-in-3 : goal.returns-in-3
-returns-in-3 c =
-    followed-3 _ _ _ _ _ _ _ _ _ c.requires.0.home c.in-3.is c.take_slot-in-3.ensures
+pub returns-in-BuildSegment : goal.returns-in-BuildSegment
+returns-in-BuildSegment c =
+    followed-3 _ _ _ _ _ _ _ _ _ c.requires.0.home (ap code_number c.in-BuildSegment.is) c.take_slot-in-BuildSegment.ensures
 
-pub returns-in-5 : goal.returns-in-5
-returns-in-5 c =
-    followed-5 _ _ _ _ _ _ _ _ _ c.requires.0.home c.in-5.is c.give_slot.ensures
+pub returns-in-ReleaseSegment : goal.returns-in-ReleaseSegment
+returns-in-ReleaseSegment c =
+    followed-5 _ _ _ _ _ _ _ _ _ c.requires.0.home (ap code_number c.in-ReleaseSegment.is) c.give_slot.ensures
 
-pub returns-in-7 : goal.returns-in-7
-returns-in-7 c =
-    followed-7 _ _ _ _ _ _ _ _ _ c.requires.0.home c.in-7.is c.take_slot-in-7.ensures c.remark.ensures
+pub returns-in-Create : goal.returns-in-Create
+returns-in-Create c =
+    followed-7 _ _ _ _ _ _ _ _ _ c.requires.0.home (ap code_number c.in-Create.is) c.take_slot-in-Create.ensures c.remark.ensures
 
-pub returns-in-8 : goal.returns-in-8
-returns-in-8 c =
-    followed-8 _ _ _ _ _ _ _ _ _ c.requires.0.home c.in-8.is c.remark-in-8.ensures
+pub returns-in-Open : goal.returns-in-Open
+returns-in-Open c =
+    followed-8 _ _ _ _ _ _ _ _ _ c.requires.0.home (ap code_number c.in-Open.is) c.remark-in-Open.ensures
 
-pub returns-in-9 : goal.returns-in-9
-returns-in-9 c =
-    followed-9 _ _ _ _ _ _ _ _ _ c.requires.0.home c.in-9.is c.remark-in-9.ensures c.give_slot-in-9.ensures
+pub returns-in-Close : goal.returns-in-Close
+returns-in-Close c =
+    followed-9 _ _ _ _ _ _ _ _ _ c.requires.0.home (ap code_number c.in-Close.is) c.remark-in-Close.ensures c.give_slot-in-Close.ensures
 
-pub returns-in-11 : goal.returns-in-11
-returns-in-11 c =
-    followed-11 _ _ _ _ _ _ _ _ _ c.requires.0.home c.in-11.is c.give_slot-in-11.ensures
+pub returns-in-Unlink : goal.returns-in-Unlink
+returns-in-Unlink c =
+    followed-11 _ _ _ _ _ _ _ _ _ c.requires.0.home (ap code_number c.in-Unlink.is) c.give_slot-in-Unlink.ensures
 
-pub returns-in-21 : goal.returns-in-21
-returns-in-21 c =
-    followed-21 _ _ _ _ _ _ _ _ _ c.requires.0.home c.in-21.is c.take_slot-in-21.ensures
+pub returns-in-Regrade : goal.returns-in-Regrade
+returns-in-Regrade c =
+    followed-21 _ _ _ _ _ _ _ _ _ c.requires.0.home (ap code_number c.in-Regrade.is) c.take_slot-in-Regrade.ensures
 
 pub returns-in_default : goal.returns-in_default
-returns-in_default c = let rest = c.in_default.in_default-own.rest in
-    followed-other _ _ _ _ _ _ _ _ _ rest.0.0.0.0.0.0.0.0.1 rest.0.0.0.0.0.0.0.1 rest.0.0.0.0.0.0.1 rest.0.0.0.0.0.1
-    rest.0.0.0.0.1 rest.0.0.0.1 rest.0.0.1 rest.0.1 rest.1
+returns-in_default c =
+    let other = λ (j : Code) (n : c.args.code ≡ j → ⊥) (e : code_number c.args.code ≡ code_number j). n (same-call c.args.code j e) in
+    let rest = c.in_default in
+    followed-other _ _ _ _ _ _ _ _ _ (other Spawn rest.not-Spawn) (other ReleaseProcess rest.not-ReleaseProcess) (other BuildSegment rest.not-BuildSegment)
+    (other ReleaseSegment rest.not-ReleaseSegment) (other Create rest.not-Create) (other Open rest.not-Open) (other Close rest.not-Close)
+    (other Unlink rest.not-Unlink) (other Regrade rest.not-Regrade)

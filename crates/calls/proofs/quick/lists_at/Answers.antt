@@ -1,9 +1,11 @@
--- `quick::lists_at` meets its contract, kind by kind.
+-- `quick::lists_at` meets its contract: the lists of a small table begin at a place that fits.
+use Rattle.layout.specs.Kinds.{kind_of}
+use Rattle.calls.proofs.QuickPlaces.{lists-few}
 use native.Mathlib.Omega.{arith}
 use Rattle.calls.proofs.quick.lists_at.Goals as goal
 
-pub returns-in-Segment : goal.returns-in-Segment
-returns-in-Segment c = rw c.in-Segment.is (omega arith, omega arith)
+pub overflow_cast-result : goal.overflow_cast-result
+overflow_cast-result c = record { fits = omega (arith, c.lists_at.ensures.0, lists-few c.requires (kind_of c.args.kind)) }
 
-pub returns-in-File : goal.returns-in-File
-returns-in-File c = rw c.in-File.is (omega arith, omega arith)
+pub returns : goal.returns
+returns c = (c.lists_at.ensures.0, omega (arith, c.lists_at.ensures.0, lists-few c.requires (kind_of c.args.kind)))

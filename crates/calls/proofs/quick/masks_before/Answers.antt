@@ -5,13 +5,7 @@ use native.Mathlib.Omega.{arith}
 use Rattle.calls.proofs.quick.masks_before.Goals as goal
 
 pub loop-i-init : goal.loop-i-init
-loop-i-init c = (omega arith, rows_none _)
-
-pub in_cell-requires : goal.in_cell-requires
-in_cell-requires c = (c.requires.0, omega arith, omega arith)
-
-pub in_cell-requires-in-loop-i : goal.in_cell-requires-in-loop-i
-in_cell-requires-in-loop-i c = (c.requires.0, omega arith, omega arith)
+loop-i-init c = rows_none _
 
 pub overflow_mul-words : goal.overflow_mul-words
 overflow_mul-words c =
@@ -23,17 +17,17 @@ pub overflow_add-words : goal.overflow_add-words
 overflow_add-words c =
     omega (
       arith,
+      c.loop-i.invariant,
       row_fits c.requires.0 c.loop-i.i (omega arith) c.in_cell.ensures c.in_cell-in-loop-i.ensures,
       rows_fit c.requires.0 c.loop-i.i (omega arith),
     )
 
 pub loop-i-preserved : goal.loop-i-preserved
-loop-i-preserved c =
-    (omega arith, rw (c.loop-i.invariant.1, c.in_cell.ensures, c.in_cell-in-loop-i.ensures) (rows_more _ _))
+loop-i-preserved c = rw (c.loop-i.invariant, c.in_cell.ensures, c.in_cell-in-loop-i.ensures) (rows_more _ _)
 
 pub returns : goal.returns
 returns c =
     let e : c.loop-i.i ≡ c.args.c = omega arith in (
-      rw e at c.loop-i.invariant.1,
-      omega (arith, c.loop-i.invariant.1, rows_fit c.requires.0 c.loop-i.i (omega arith)),
+      rw e at c.loop-i.invariant,
+      omega (arith, c.loop-i.invariant, rows_fit c.requires.0 c.loop-i.i (omega arith)),
     )

@@ -1,5 +1,5 @@
 -- `segments::access_of` meets its contract: the rule's refusals in order, and the stored access limited by today's bits.
-use mathlib.Core.Path.{◌≡◌, refl, sym, ap, ◌∙◌}
+use mathlib.Core.Path.{◌≡◌, refl, sym, ◌∙◌}
 use mathlib.Core.Bool.{not}
 use mathlib.Core.List.{List, [], ◌∷◌}
 use Prim.Native.Nat.{ℕ}
@@ -17,12 +17,12 @@ use Rattle.rules.specs.Seid.{present}
 use Rattle.rules.specs.Errors.{XnSgDes, XbSgDes, XbSgSd}
 use Rattle.rules.specs.Rule.{Refusal, ◌⇒◌, first_refusal}
 use Rattle.rules.specs.Call18.{limited, access_of}
-use Rattle.calls.specs.Left.{said, rule_at}
+use Rattle.calls.specs.Refusing.{found}
+use Rattle.calls.specs.Left.{rule_at}
 use Rattle.laws.proofs.Refusals.{clear}
-use Rattle.calls.proofs.Refusals.{refusing-first}
-use Rattle.calls.proofs.Leaves.{left-refused, left-done}
+use Rattle.calls.proofs.Leaves.{left-stopped, left-told}
 use Rattle.calls.proofs.SegmentsLaws.{after, entry-formed, entry_named}
-use Rattle.calls.proofs.segments.access_of.Goals.{After-access, After-or_refuse-e-3}
+use Rattle.calls.proofs.segments.access_of.Goals.{After-access, After-refuse}
 use Rattle.calls.proofs.segments.access_of.Goals as goal
 
 -- the code's tests, of entry a and what is seen of what it holds
@@ -46,25 +46,17 @@ module _ {t : List ℕ} {n : Header} {c : Caller} (sound : Sound t n c) (a : ℕ
       let none = clear (tests a d g) refl z in
       rw (seen, entry) (rw (entry_named sound a none.0 (rw entry at none.1.0)))
 
-found : (c : After-or_refuse-e-3) → c.or_refuse-e-3.result ≡ first_refusal (tests c.args.a
-    c.entry_of-d.result
-    c.look-g.result)
-found c =
-    rw (
-      c.or_refuse-e-3.ensures,
-      c.or_refuse-e-2.ensures,
-      c.or_refuse-e.ensures,
-      c.wide.ensures,
-    ) (refusing-first (tests
-    c.args.a c.entry_of-d.result c.look-g.result) refl)
-
-counted : (c : After-or_refuse-e-3) (buffer : List ℕ) → c.or_refuse-e-3.result ≡ first_refusal (rule_at c.args.t.now
+-- what the code finds is the rule's first refusal
+counted : (c : After-refuse) (buffer : List ℕ) → found c.refuse.result ≡ first_refusal (rule_at c.args.t.now
     (λ h q. access_of h q c.args.c.slot c.args.a buffer)).refusals
-counted c buffer = found c ∙ number c.requires.0 _ buffer c.entry_of-d.ensures c.look-g.ensures
+counted c buffer = c.refuse.ensures ∙ number c.requires.0 c.args.a buffer c.entry_of-d.ensures c.look-g.ensures
 
-limits : (c : After-access) → c.access.result ≡ limited
-    c.entry_of-d.result.used
-    c.look-g.result.rights
+pub returns-in_err-refuse : goal.returns-in_err-refuse
+returns-in_err-refuse c =
+    λ buffer. left-stopped _ _ _ _ (c.in_err-refuse.ensures ∙ sym c.refuse.ensures ∙ counted (goal.at.returns-in_err-refuse c).After-refuse buffer)
+    c.from_residual.ensures.0 c.from_residual.ensures.1
+
+limits : (c : After-access) → c.access.result ≡ limited c.entry_of-d.result.used c.look-g.result.rights
 unfolding limited
 limits c =
     rw (
@@ -75,16 +67,9 @@ limits c =
       c.asks_read.ensures,
     )
 
-answer : (c : After-access) (buffer : List ℕ) → c.access.result ≡ (rule_at c.args.t.now (λ h q. access_of h q
-    c.args.c.slot c.args.a buffer)).effects.first
-answer c buffer =
-    limits c ∙ result c.requires.0 _ buffer c.entry_of-d.ensures c.look-g.ensures (sym (found (goal.at.After-access c).After-or_refuse-e-3) ∙ c.if-e-ne-XOK.false)
-
-pub returns-then-e-ne-XOK : goal.returns-then-e-ne-XOK
-returns-then-e-ne-XOK c = λ buffer. left-refused _ _ (counted (goal.at.returns-then-e-ne-XOK c).After-or_refuse-e-3 buffer) c.if-e-ne-XOK.true c.refused.ensures
-
 pub returns : goal.returns
 unfolding access_of
 returns c =
-    λ buffer. left-done _ (λ h q. access_of h q _ _ buffer) (counted (goal.at.returns c).After-or_refuse-e-3 buffer)
-    c.if-e-ne-XOK.false (c.answered.ensures ∙ ap (λ (x : ℕ). said 0 x 0) (answer (goal.at.returns c).After-access buffer)) refl
+    λ buffer. left-told _ (λ h q. access_of h q _ _ buffer) (c.in_ok-refuse.ensures ∙ sym c.refuse.ensures ∙ counted (goal.at.returns c).After-refuse buffer)
+    (limits (goal.at.returns c).After-access ∙ result c.requires.0 c.args.a buffer c.entry_of-d.ensures c.look-g.ensures (sym c.in_ok-refuse.ensures))
+    refl refl

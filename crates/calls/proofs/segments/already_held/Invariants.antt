@@ -1,20 +1,11 @@
--- `segments::already_held` meets its contract: the designators passed are looked at.
+-- `segments::already_held` meets its contract: no designator passed holds the seid.
 use mathlib.Core.Path.{◌≡◌}
-use mathlib.Core.Bool.{Bool}
-use mathlib.Core.List.{List}
-use Prim.Native.Nat.{ℕ, ◌-◌, ◌≤◌}
+use mathlib.Core.Bool.{false}
+use Prim.Native.Nat.{ℕ, ◌<◌}
 use lib.Dec.{eqb}
-use Rattle.rules.specs.Words.{some_below}
-use Rattle.rules.specs.Layout.{process, segment, at, entries, held_at}
+use Rattle.rules.specs.Layout.{process, segment, at, held_at}
 use Rattle.calls.specs.World.{words_of}
 use Rattle.calls.proofs.segments.already_held.Given as goal
 
--- one of the first n designators of process p holds s
-abbrev pub held_below : List ℕ → ℕ → ℕ → ℕ → Bool
-held_below t p s n = some_below n (λ d. eqb (words_of t (at process p (held_at segment d))) s)
-
-abbrev pub invariant-loop-n : goal.invariant-loop-n
-invariant-loop-n l = (l.d ≤ entries) × (l.held ≡ held_below l.t l.c.slot l.s l.d)
-
-abbrev pub decreases-loop-n : goal.decreases-loop-n
-decreases-loop-n l = entries - l.d
+abbrev pub invariant-loop-d : goal.invariant-loop-d
+invariant-loop-d l = (k : ℕ) → k < l.d → eqb (words_of l.t (at process l.c.slot (held_at segment k))) l.s ≡ false

@@ -1,133 +1,138 @@
 -- `segments::build_segment` meets its contract: the rule's refusals in order, the new segment and its designator.
-use mathlib.Core.Path.{◌≡◌, refl, sym, ap, ◌∙◌}
-use mathlib.Core.Bool.{false, ◌||◌, not}
-use mathlib.Core.List.{List, [], ◌∷◌}
+use mathlib.Core.Path.{◌≡◌, refl, sym, ◌∙◌}
+use Rattle.std.specs.Prelude.{Some, None}
+use mathlib.Core.Bool.{◌||◌, not}
+use mathlib.Core.List.{List, [], ◌∷◌, ◌++◌}
 use Prim.Native.Nat.{ℕ, ◌+◌}
 use native.Mathlib.Omega.{arith}
-use lib.Dec.{ltb, leb}
+use lib.Dec.{ltb}
 use lib.ListN.{set}
-use Rattle.rules.specs.Layout.{max_bits, process, segment, configuration, cell_of, at, offset, entries, held_at, serial, owner, group}
+use Rattle.rules.specs.Layout.{max_bits, process, segment, configuration, cell_of, at, offset, held_at, serial, owner, group}
 use Rattle.rules.specs.Seid.{class}
 use Rattle.rules.specs.WellFormed.{segment_size}
 use Rattle.rules.specs.Errors.{XbParam, XbSgSz, XodSpace, XnoSpace}
 use Rattle.rules.specs.Rule.{Refusal, ◌⇒◌, first_refusal, write}
-use Rattle.rules.specs.Find.{free_slot, free_entry, entered}
+use Rattle.rules.specs.Find.{free_slot, no_slot, free_entry, no_entry, entered}
 use Rattle.rules.specs.Call03.{build_segment}
 use Rattle.ids.specs.Seid.{seid_of}
 use Rattle.layout.specs.declared.Header.{Header}
 use Rattle.layout.specs.Header.{record_of}
 use Rattle.calls.specs.declared.Caller.{Caller}
-use Rattle.calls.specs.declared.room.Slot.{Slot}
+use Rattle.calls.specs.declared.error.Error.{Error}
+use Rattle.calls.specs.Refusing.{number_of}
 use Rattle.calls.specs.World.{Known, Sound, words_of}
-use Rattle.calls.specs.Left.{said, rule_at}
-use Rattle.calls.specs.Seen.{slot_found}
+use Rattle.calls.specs.Left.{rule_at}
+use Rattle.calls.specs.Seen.{slot_found, entry_found}
 use Rattle.calls.specs.Entries.{made_at}
 use Rattle.calls.specs.Calls.{owner_access}
 use Rattle.calls.proofs.Worlds.{spot}
-use Rattle.laws.proofs.Refusals.{clear}
-use Rattle.calls.proofs.Refusals.{refusing-first}
-use Rattle.calls.proofs.Leaves.{left-refused, left-done}
+use Rattle.calls.proofs.Refused.{stopped, later}
+use Rattle.calls.proofs.Leaves.{error-named, left-stopped, left-told}
 use Rattle.calls.proofs.Given.{begins}
 use Rattle.calls.proofs.Holders.{made-is, entered-is}
-use Rattle.calls.proofs.Searches.{serial-rises, new-seid}
-use Rattle.calls.proofs.segments.build_segment.Goals.{After-or_refuse-e-4, Else-e-ne-XOK}
+use Rattle.calls.proofs.Searches.{entry-none, entry-some, slot-none, slot-some, serial-rises, new-seid}
 use Rattle.calls.proofs.segments.build_segment.Goals as goal
 
--- the code's tests: d is the empty designator, g the slot found
-abbrev tests : ℕ → ℕ → ℕ → ℕ → Slot → List Refusal
-tests a b c d g = (ltb max_bits b || ltb 1 c ⇒ XbParam) ∷ (not (segment_size a) ⇒ XbSgSz) ∷ (leb entries d ⇒ XodSpace) ∷ (g.none ⇒ XnoSpace) ∷ []
+module _ {t : List ℕ} {n : Header} {p : Caller} (sound : Sound t n p) (a b c : ℕ) (buffer : List ℕ) where
+  -- the refusals stage by stage
+  abbrev args : List Refusal
+  args = (ltb max_bits b || ltb 1 c ⇒ XbParam) ∷ (not (segment_size a) ⇒ XbSgSz) ∷ []
 
-module _ {t : List ℕ} {n : Header} {p : Caller} (sound : Sound t n p) (a b c : ℕ) (buffer : List ℕ) {d : ℕ} {g : Slot}
-    (empty : d ≡ free_entry (words_of t) segment p.slot) (slot : g ≡ slot_found (configuration t) (words_of t) segment p.cell) where
-  -- the first of the code's refusals is the rule's
-  number : first_refusal (tests a b c d g) ≡ first_refusal (rule_at t (λ h q. build_segment h q p.slot a b c buffer)).refusals
+  abbrev slot_tests : List Refusal
+  slot_tests = (no_slot (configuration t) (words_of t) segment p.cell ⇒ XnoSpace) ∷ []
+
+  abbrev room_tests : List Refusal
+  room_tests = (no_entry (words_of t) segment p.slot ⇒ XodSpace) ∷ slot_tests
+
+  number : first_refusal (args ++ room_tests) ≡ first_refusal (rule_at t (λ h q. build_segment h q p.slot a b c buffer)).refusals
   unfolding build_segment
-  number = rw (slot, empty, sound.home)
+  number = rw sound.home
 
-  index : g.index ≡ free_slot (configuration t) (words_of t) segment (cell_of (configuration t) process p.slot)
-  index = ap (λ (x : Slot). x.index) slot ∙ rw sound.home
+  judged : (e : Error) → number_of e ≡ first_refusal args → number_of e ≡ first_refusal (rule_at t (λ h q. build_segment h q p.slot a b c buffer)).refusals
+  judged e found = stopped args room_tests e found ∙ number
 
-  -- where there is none, the answer and the words written are the rule's; x is the slot's serial, s the seid made
-  module _ (room : g.none ≡ false) {x s : ℕ} (old : x ≡ words_of t (at segment g.index serial))
-      (made : s ≡ seid_of (class segment) g.index (x + 1)) where
-    result : said 0 s d ≡ said 0 (rule_at t (λ h q. build_segment h q p.slot a b c buffer)).effects.first
-        (rule_at t (λ h q. build_segment h q p.slot a b c buffer)).effects.second
+  module _ (z : 0 ≡ first_refusal args) where
+    no-designator : None ≡ entry_found (words_of t) segment p.slot → XodSpace ≡ first_refusal (rule_at t (λ h q. build_segment h q p.slot a b c buffer)).refusals
+    no-designator none = later args room_tests refl z (entry-none (words_of t) segment p.slot slot_tests none) ∙ number
+
+    module _ {d : ℕ} (empty : Some d ≡ entry_found (words_of t) segment p.slot) where
+      past-entry : {e : ℕ} → e ≡ first_refusal slot_tests → e ≡ first_refusal (rule_at t (λ h q. build_segment h q p.slot a b c buffer)).refusals
+      past-entry found = later args room_tests refl z (found ∙ (entry-some (words_of t) segment p.slot d slot_tests empty).1) ∙ number
+
+      full : None ≡ slot_found (configuration t) (words_of t) segment p.cell
+          → XnoSpace ≡ first_refusal (rule_at t (λ h q. build_segment h q p.slot a b c buffer)).refusals
+      full none = past-entry (slot-none (configuration t) (words_of t) segment p.cell XnoSpace none)
+
+      passed : {i : ℕ} → Some i ≡ slot_found (configuration t) (words_of t) segment p.cell
+          → 0 ≡ first_refusal (rule_at t (λ h q. build_segment h q p.slot a b c buffer)).refusals
+      passed {i} some = past-entry (slot-some (configuration t) (words_of t) segment p.cell i XnoSpace some).1
+
+  -- the answer and the words written are the rule's: d is the designator and i the slot found, x the slot's serial, s the seid made
+  module _ {d i x s : ℕ} (empty : Some d ≡ entry_found (words_of t) segment p.slot) (slot : Some i ≡ slot_found (configuration t) (words_of t) segment p.cell)
+      (old : x ≡ words_of t (at segment i serial)) (made : s ≡ seid_of (class segment) i (x + 1)) where
+    index : i ≡ free_slot (configuration t) (words_of t) segment (cell_of (configuration t) process p.slot)
+    index = (slot-some (configuration t) (words_of t) segment p.cell i XnoSpace slot).0 ∙ rw sound.home
+
+    designator : d ≡ free_entry (words_of t) segment p.slot
+    designator = (entry-some (words_of t) segment p.slot d [] empty).0
+
+    result : (s ≡ (rule_at t (λ h q. build_segment h q p.slot a b c buffer)).effects.first)
+        × (d ≡ (rule_at t (λ h q. build_segment h q p.slot a b c buffer)).effects.second)
     unfolding build_segment
-    result = rw (← index, ← empty) (ap (λ (y : ℕ). said 0 y d) (new-seid sound segment slot room old made))
+    result = (rw (← index) (new-seid sound segment slot old made), designator)
 
     words : {u v place entry access : ℕ} {t₁ t₂ : List ℕ} → u ≡ words_of t (at process p.slot owner) → v ≡ words_of t (at process p.slot group)
-        → place ≡ record_of n segment g.index → t₁ ≡ made_at t place (x + 1) u v b c a 1 → entry ≡ record_of n process p.slot + held_at segment d
+        → place ≡ record_of n segment i → t₁ ≡ made_at t place (x + 1) u v b c a 1 → entry ≡ record_of n process p.slot + held_at segment d
         → access ≡ owner_access b → t₂ ≡ set (set t₁ entry s) (entry + 1) access
         → t₂ ≡ write (configuration t) t (rule_at t (λ h q. build_segment h q p.slot a b c buffer)).effects.words
     unfolding build_segment
     words {u} {v} {place} {entry} {access} {t₁} {t₂} mine ours begin record-made at_entry_lem used filled =
         let h : List ℕ = configuration t in
         let known : Known t n = sound.known in
-        let seid-is = new-seid sound segment slot room old made in
-        let made_at_is : t₁ ≡ made_at t (offset h (at segment g.index 0)) (x + 1) u v b c a 1 = record-made ∙ rw (begin, begins known segment g.index) in
+        let seid-is = new-seid sound segment slot old made in
+        let made_at_is : t₁ ≡ made_at t (offset h (at segment i 0)) (x + 1) u v b c a 1 = record-made ∙ rw (begin, begins known segment i) in
         let entry-is : entry ≡ offset h (at process p.slot (held_at segment d)) = at_entry_lem ∙ spot known (at process p.slot (held_at segment d)) in
         let entered_at : t₂ ≡ write h t₁ (entered segment p.slot d s access) =
         filled ∙ rw entry-is (sym (entered-is h t₁ segment p.slot d s access [] refl)) in
-        rw (← index, ← empty, ← seid-is, ← old, ← used, ← mine, ← ours)
-        (entered_at ∙ rw made_at_is (sym (made-is h t segment g.index (x + 1) u v b c a 1 (entered segment p.slot d s access))))
+        rw (← index, ← designator, ← seid-is, ← old, ← used, ← mine, ← ours)
+        (entered_at ∙ rw made_at_is (sym (made-is h t segment i (x + 1) u v b c a 1 (entered segment p.slot d s access))))
 
-found : (c : After-or_refuse-e-4) → c.or_refuse-e-4.result ≡ first_refusal (tests
-    c.args.size
-    c.args.bits
-    c.args.sharable
-    c.free_entry-d.result
-    c.args.g)
-found c = rw (
-  c.or_refuse-e-4.ensures,
-  c.or_refuse-e-3.ensures,
-  c.or_refuse-e-2.ensures,
-  c.or_refuse-e.ensures,
-  c.wide.ensures,
-  c.is_size.ensures,
-) (refusing-first (tests
-    c.args.size
-    c.args.bits
-    c.args.sharable
-    c.free_entry-d.result
-    c.args.g) refl)
+pub returns-in_err-refuse : goal.returns-in_err-refuse
+returns-in_err-refuse c =
+    λ buffer. left-stopped _ (λ h q. build_segment h q _ _ _ _ buffer) _ _
+    (judged c.requires.0 _ _ _ buffer _ (rw c.is_size.ensures at c.in_err-refuse.ensures))
+    c.from_residual.ensures.0 c.from_residual.ensures.1
 
-counted : (c : After-or_refuse-e-4) (buffer : List ℕ) → c.or_refuse-e-4.result ≡ first_refusal (rule_at c.args.t.now
-    (λ h q. build_segment h q c.args.c.slot c.args.size c.args.bits c.args.sharable buffer)).refusals
-counted c buffer =
-    found c ∙ number c.requires.0 _ _ _ buffer c.free_entry-d.ensures c.requires.1
+pub returns-in_err-d : goal.returns-in_err-d
+returns-in_err-d c =
+    λ buffer. left-stopped _ (λ h q. build_segment h q _ _ _ _ buffer) _ _
+    (error-named _ _ _ c.in_err-d.ensures.value
+    ∙ no-designator c.requires.0 c.args.size c.args.bits c.args.sharable buffer (rw c.is_size.ensures at c.in_ok-refuse.ensures)
+    (sym c.in_err-d.ensures.ok_part ∙ c.free_entry.ensures))
+    c.from_residual-in_err-d.ensures.0 c.from_residual-in_err-d.ensures.1
 
-passed : (c : Else-e-ne-XOK) → first_refusal (tests c.args.size c.args.bits c.args.sharable
-    c.free_entry-d.result c.args.g) ≡ 0
-passed c = sym (found (goal.at.Else-e-ne-XOK c).After-or_refuse-e-4) ∙ c.if-e-ne-XOK.false
-
-room : (c : Else-e-ne-XOK) → c.args.g.none ≡ false
-room c =
-    (clear (tests c.args.size c.args.bits c.args.sharable
-    c.free_entry-d.result c.args.g) refl (passed c)).1.1.1.0
-
-pub returns-then-e-ne-XOK : goal.returns-then-e-ne-XOK
-returns-then-e-ne-XOK c = λ buffer. left-refused _ _ (counted (goal.at.returns-then-e-ne-XOK c).After-or_refuse-e-4 buffer) c.if-e-ne-XOK.true c.refused.ensures
+pub returns-in_err-i : goal.returns-in_err-i
+returns-in_err-i c =
+    λ buffer. left-stopped _ (λ h q. build_segment h q _ _ _ _ buffer) _ _
+    (error-named _ _ _ c.in_err-i.ensures.value
+    ∙ full c.requires.0 c.args.size c.args.bits c.args.sharable buffer (rw c.is_size.ensures at c.in_ok-refuse.ensures)
+    (sym c.in_ok-d.ensures.ok_part ∙ c.free_entry.ensures) (sym c.in_err-i.ensures.ok_part ∙ c.requires.1))
+    c.from_residual-in_err-i.ensures.0 c.from_residual-in_err-i.ensures.1
 
 pub overflow_add-serial : goal.overflow_add-serial
-overflow_add-serial c = record {
-  fits = omega (
-    arith,
-    serial-rises c.requires.0 segment c.requires.1 (room (goal.at.overflow_add-serial c).Else-e-ne-XOK) c.read-serial.ensures,
-  );
-}
+overflow_add-serial c =
+    record { fits = omega (arith, serial-rises c.requires.0 segment (sym c.in_ok-i.ensures.ok_part ∙ c.requires.1) c.read-serial.ensures) }
 
 pub enter-requires : goal.enter-requires
 enter-requires c = c.entry_at.ensures.1
 
 pub returns : goal.returns
-unfolding build_segment
 returns c =
-    λ buffer. left-done _ (λ h q. build_segment h q _ _ _ _ buffer) (counted (goal.at.returns c).After-or_refuse-e-4 buffer)
-    c.if-e-ne-XOK.false (c.answered.ensures ∙ result c.requires.0 c.args.size c.args.bits c.args.sharable buffer c.free_entry-d.ensures c.requires.1
-    (room (goal.at.returns c).Else-e-ne-XOK)
-    c.read-serial.ensures
-    c.seid-s.ensures) (words c.requires.0 c.args.size c.args.bits c.args.sharable buffer c.free_entry-d.ensures c.requires.1 (room (goal.at.returns c).Else-e-ne-XOK)
-    c.read-serial.ensures
-    c.seid-s.ensures c.read-owner.ensures
-    c.read-group.ensures c.record_at.ensures.0 c.make.ensures
-    c.entry_at.ensures.0 c.owner_access.ensures c.enter.ensures)
+    let slot = sym c.in_ok-i.ensures.ok_part ∙ c.requires.1 in
+    let empty = sym c.in_ok-d.ensures.ok_part ∙ c.free_entry.ensures in
+    λ buffer. left-told _ (λ h q. build_segment h q _ _ _ _ buffer)
+    (passed c.requires.0 c.args.size c.args.bits c.args.sharable buffer (rw c.is_size.ensures at c.in_ok-refuse.ensures) empty slot)
+    (result c.requires.0 c.args.size c.args.bits c.args.sharable buffer empty slot c.read-serial.ensures c.seid-s.ensures).0
+    (result c.requires.0 c.args.size c.args.bits c.args.sharable buffer empty slot c.read-serial.ensures c.seid-s.ensures).1
+    (words c.requires.0 _ _ _ buffer empty slot c.read-serial.ensures c.seid-s.ensures c.read-owner.ensures c.read-group.ensures
+    c.record_at.ensures.0 c.make.ensures c.entry_at.ensures.0 c.owner_access.ensures c.enter.ensures)

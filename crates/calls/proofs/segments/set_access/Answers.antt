@@ -1,6 +1,6 @@
 -- `segments::set_access` meets its contract: the rule's refusals in order, and the access stored.
-use mathlib.Core.Path.{◌≡◌, refl, ap, ◌∙◌}
-use mathlib.Core.Bool.{Bool, ◌&&◌, not}
+use mathlib.Core.Path.{◌≡◌, refl, sym, ap, ◌∙◌}
+use mathlib.Core.Bool.{◌&&◌, not}
 use mathlib.Core.List.{List, [], ◌∷◌}
 use Prim.Native.Nat.{ℕ, ◌+◌}
 use lib.Dec.{leb, eqb}
@@ -14,7 +14,7 @@ use Rattle.calls.specs.Seen.{named_of, seen_of}
 use native.Mathlib.Omega.{arith}
 use lib.ListN.{set}
 use Rattle.layout.specs.Header.{record_of}
-use Rattle.calls.specs.Refusing.{or_refuse}
+use Rattle.calls.specs.Refusing.{found}
 use borrow.Author.Tests.{leb-false, eqb-false}
 use Rattle.rules.specs.Layout.{used_at, process, segment, configuration, at, entries, held_at}
 use Rattle.rules.specs.Rule.{◌≔◌, write, Refusal, ◌⇒◌, first_refusal}
@@ -23,11 +23,10 @@ use Rattle.rules.specs.Rights.{lacks, asks_read, asks_write, valid_access}
 use Rattle.rules.specs.Errors.{XbParam, XnSgDes, XbSgDes, XbSgSd, XnoAcc, XdapViol}
 use Rattle.rules.specs.Call06.{set_access}
 use Rattle.calls.specs.Left.{rule_at}
-use Rattle.calls.proofs.Refusals.{refusing-first}
-use Rattle.calls.proofs.Leaves.{left-refused, left-done}
+use Rattle.calls.proofs.Leaves.{left-stopped, left-told}
 use Rattle.calls.proofs.SegmentsLaws.{after, entry-formed, entry_named}
 use Rattle.calls.proofs.Worlds.{spot}
-use Rattle.calls.proofs.segments.set_access.Goals.{After-or_refuse-e-6}
+use Rattle.calls.proofs.segments.set_access.Goals.{After-refuse}
 use Rattle.calls.proofs.segments.set_access.Goals as goal
 
 -- the code's tests, of entry a and what is seen of what it holds
@@ -48,36 +47,27 @@ module _ {t : List ℕ} {n : Header} {c : Caller} (sound : Sound t n c) (a b : �
       (λ l. after (eqb (words_of t (at process c.slot (held_at segment a))) 0) XbSgDes
       (λ s. rw (entry_named sound a l s, entry-formed sound c.slot a sound.caller (leb-false entries a l) (eqb-false _ 0 s))))))
 
--- what the code finds, test after test
-chained : (a b : ℕ) (d : Entry) (g : Seen) {w e₁ e₂ e₃ e₄ e₅ e : ℕ} {may asks reads writes lacking : Bool} → may ≡ valid_access b → w ≡ a → asks ≡ asks_write b
-    → reads ≡ asks_read b → writes ≡ asks_write b → lacking ≡ lacks g.rights reads writes → e₁ ≡ or_refuse 0 (not may) XbParam
-    → e₂ ≡ or_refuse e₁ (leb entries w) XnSgDes → e₃ ≡ or_refuse e₂ (eqb d.held 0) XbSgDes → e₄ ≡ or_refuse e₃ (not g.present) XbSgSd
-    → e₅ ≡ or_refuse e₄ (asks && not g.own) XnoAcc → e ≡ or_refuse e₅ lacking XdapViol → e ≡ first_refusal (tests a b d g)
-chained a b d g me we ae re re' le f₁ f₂ f₃ f₄ f₅ f₆ = rw (f₆, f₅, f₄, f₃, f₂, f₁, le, re', re, ae, we, me) (refusing-first (tests a b d g) refl)
-
 -- the word written is the rule's
 stored : {t : List ℕ} {n : Header} → Known t n → (p a b : ℕ) {x : ℕ} → x ≡ record_of n process p + held_at segment a
     → set t (x + 1) b ≡ write (configuration t) t ((at process p (used_at segment a) ≔ b) ∷ [])
 stored {t} known p a b place = ap (λ (i : ℕ). set t i b) (omega (arith, spot known (at process p (used_at segment a))))
 
-found : (c : After-or_refuse-e-6) → c.or_refuse-e-6.result ≡ first_refusal (tests c.args.a c.args.b c.entry_of-d.result c.look-g.result)
-found c =
-    chained _ _ c.entry_of-d.result c.look-g.result
-    c.valid_access.ensures c.wide.ensures
-    c.asks_write.ensures c.asks_read.ensures c.asks_write-2.ensures c.lacks.ensures
-    c.or_refuse-e.ensures c.or_refuse-e-2.ensures c.or_refuse-e-3.ensures
-    c.or_refuse-e-4.ensures c.or_refuse-e-5.ensures c.or_refuse-e-6.ensures
-
-counted : (c : After-or_refuse-e-6) (buffer : List ℕ) → c.or_refuse-e-6.result ≡ first_refusal (rule_at c.args.t.now
+-- what the code finds is the rule's first refusal
+counted : (c : After-refuse) (buffer : List ℕ) → found c.refuse.result ≡ first_refusal (rule_at c.args.t.now
     (λ h q. set_access h q c.args.c.slot c.args.a c.args.b buffer)).refusals
-counted c buffer = found c ∙ number c.requires.0 _ _ buffer c.entry_of-d.ensures c.look-g.ensures
+counted c buffer =
+    c.refuse.ensures
+    ∙ rw (c.valid_access.ensures, c.asks_write.ensures, c.lacks.ensures, c.asks_read.ensures, c.asks_write-2.ensures)
+    (number c.requires.0 _ _ buffer c.entry_of-d.ensures c.look-g.ensures)
 
-pub returns-then-e-ne-XOK : goal.returns-then-e-ne-XOK
-returns-then-e-ne-XOK c = λ buffer. left-refused _ _ (counted (goal.at.returns-then-e-ne-XOK c).After-or_refuse-e-6 buffer) c.if-e-ne-XOK.true c.refused.ensures
+pub returns-in_err-refuse : goal.returns-in_err-refuse
+returns-in_err-refuse c =
+    λ buffer. left-stopped _ _ _ _ (c.in_err-refuse.ensures ∙ sym c.refuse.ensures ∙ counted (goal.at.returns-in_err-refuse c).After-refuse buffer)
+    c.from_residual.ensures.0 c.from_residual.ensures.1
 
 pub returns : goal.returns
 unfolding set_access
 returns c =
-    λ buffer. left-done _ (λ h q. set_access h q _ _ _ buffer) (counted (goal.at.returns c).After-or_refuse-e-6 buffer)
-    c.if-e-ne-XOK.false c.answered.ensures (c.put.ensures ∙ stored c.requires.0.known _ _ _
+    λ buffer. left-told _ (λ h q. set_access h q _ _ _ buffer) (c.in_ok-refuse.ensures ∙ sym c.refuse.ensures ∙ counted (goal.at.returns c).After-refuse buffer)
+    refl refl (c.put.ensures ∙ stored c.requires.0.known _ _ _
     c.entry_at.ensures.0)

@@ -1,20 +1,14 @@
--- `outside` meets its contract: the caller's refusal, the code's, or the part's.
-use Rattle.calls.proofs.TrayLaws.{outside-caller, outside-code, outside-part}
+-- `outside` meets its contract: what refuses before the call's own list, or the part's refusal.
+use mathlib.Core.Path.{◌∙◌, ap}
+use Rattle.calls.specs.Left.{told}
+use Rattle.calls.proofs.Leaves.{ended-so}
+use Rattle.calls.proofs.TrayLaws.{outside-unasked, outside-asked}
 use Rattle.calls.proofs.trays.outside.Goals as goal
 
-pub bad_caller-requires : goal.bad_caller-requires
-bad_caller-requires c = c.requires
-
-pub returns-then-bad_caller : goal.returns-then-bad_caller
-returns-then-bad_caller c =
-    outside-caller c.args.t.now c.args.r c.bad_caller.ensures c.if-bad_caller.true c.refused.ensures
-
-pub returns-then-bad_code : goal.returns-then-bad_code
-returns-then-bad_code c =
-    outside-code c.args.t.now c.args.r c.bad_caller.ensures c.bad_code.ensures
-    c.if-bad_caller.false c.if-bad_code.true c.refused-then-bad_code.ensures
+pub returns-in_err-asked : goal.returns-in_err-asked
+returns-in_err-asked c =
+    ap told (ended-so _ _ c.from_residual.ensures.0 c.from_residual.ensures.1)
+    ∙ outside-unasked c.args.t.now c.args.r _ c.in_err-asked.ensures
 
 pub returns : goal.returns
-returns c =
-    outside-part c.args.t.now c.args.r c.bad_caller.ensures c.bad_code.ensures
-    c.if-bad_caller.false c.if-bad_code.false c.refused-2.ensures
+returns c = outside-asked c.args.t.now c.args.r _ c.in_ok-asked.ensures

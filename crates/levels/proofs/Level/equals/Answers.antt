@@ -1,4 +1,4 @@
--- `Level::equals` meets its contract: the code's tests are the rule's.
+-- `Level::equals` meets its contract: the derived equality of the three words is the rule's.
 use borrow.Author.Rules.{rules}
 use Rattle.rules.specs.Level.{equals}
 use Rattle.levels.proofs.Level.equals.Goals as goal

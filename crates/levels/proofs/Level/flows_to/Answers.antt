@@ -4,4 +4,4 @@ use Rattle.levels.proofs.Flow.{by-words}
 use Rattle.levels.proofs.Level.flows_to.Goals as goal
 
 pub returns : goal.returns
-returns c = by-words _ _ (omega (arith, c.struct_known-7-1.given))
+returns c = by-words _ _ (omega arith)

@@ -1,6 +1,7 @@
 -- `hall::flow_bytes` meets its contract: the rows passed are there, and of this row the entries passed.
-use Rattle.std.proofs.Common.{arith, rules}
+use Rattle.std.proofs.Common.{◌∙◌, arith, rules}
 use Rattle.table.proofs.Told.{entries_none, entries-more, entries-same, entries-all}
+use Rattle.table.proofs.Listed.{bool-number}
 use Rattle.table.proofs.hall.flow_bytes.Goals as goal
 
 pub loop-c-init : goal.loop-c-init
@@ -13,7 +14,7 @@ pub loop-d-preserved : goal.loop-d-preserved
 loop-d-preserved c =
     let in-matrix = c.loop-c-test.true in
     let in_row = c.loop-d-test.true in
-    (search rules, entries-more _ _ _ _ _ in-matrix in_row c.loop-d.invariant.1 c.flag.ensures)
+    (search rules, entries-more _ _ _ _ _ in-matrix in_row c.loop-d.invariant.1 (c.from.ensures ∙ bool-number _))
 
 pub loop-c-preserved : goal.loop-c-preserved
 loop-c-preserved c =

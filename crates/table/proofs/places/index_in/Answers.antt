@@ -11,6 +11,5 @@ overflow_mul-class c = omega (arith, c.class.ensures, class_low (kind_of c.args.
 
 pub returns : goal.returns
 returns c =
-    indexed (class (kind_of c.args.kind)) c.args.s c.class.result c.wrapping_sub_u32.result _
-    (class_low (kind_of c.args.kind)) c.ranges.s.fits c.class.ensures c.wrapping_sub_u32.ensures.value
-    c.wrapping_sub_u32.type_inv c.wide.ensures
+    let k = kind_of c.args.kind in
+    indexed (class k) c.args.s c.class.result _ (class_low k) c.ranges.s.fits c.class.ensures c.wide.ensures

@@ -20,11 +20,11 @@ lengths_exact-requires c =
 pub returns-then-not-lengths_exact : goal.returns-then-not-lengths_exact
 returns-then-not-lengths_exact c = sym (wrong-lengths _ _ (sym c.lengths_exact.ensures ∙ c.if-not-lengths_exact.true))
 
-pub configuration_right-requires : goal.configuration_right-requires
-configuration_right-requires c =
+pub invariant_of-configuration_right : goal.invariant_of-configuration_right
+invariant_of-configuration_right c =
     let is = header_read _ _ c.header_of-n.ensures in
-    framed_of _ _ is _ (small_of _ _ is (sym c.header_ok.ensures ∙ c.if-not-header_ok.false)) (sym
-    c.lengths_exact.ensures ∙ c.if-not-lengths_exact.false)
+    let small = small_of _ _ is (sym c.header_ok.ensures ∙ c.if-not-header_ok.false) in
+    record { framed = framed_of _ _ is _ small (sym c.lengths_exact.ensures ∙ c.if-not-lengths_exact.false) }
 
 pub returns : goal.returns
 returns c =

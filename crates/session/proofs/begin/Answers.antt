@@ -1,7 +1,0 @@
--- `session::begin` meets its contract.
-use Rattle.session.proofs.Ways.{begun}
-use Rattle.session.proofs.begin.Goals as goal
-
-pub returns : goal.returns
-returns c =
-    begun _ _ _ _ _ _ _ _ _ _ _ c.prepare-y.ensures c.put_opening-end.ensures

@@ -1,5 +1,0 @@
--- `session::start` meets its contract.
-use Rattle.session.proofs.start.Goals as goal
-
-pub returns : goal.returns
-returns c = (rw c.new-reader.ensures, rw c.put.ensures)

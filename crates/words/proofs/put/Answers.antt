@@ -1,7 +1,0 @@
--- `words::put` meets its contract: past the end a store changes nothing.
-use mathlib.Core.Path.{sym}
-use lib.Seq.{set_out}
-use Rattle.words.proofs.put.Goals as goal
-
-pub returns-else-i-t : goal.returns-else-i-t
-returns-else-i-t c = sym (set_out c.args.t.now c.args.i c.args.v c.if-i-t.false)

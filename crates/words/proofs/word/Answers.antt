@@ -1,7 +1,0 @@
--- `words::word` meets its contract: past the end the list reads as 0.
-use mathlib.Core.Path.{sym}
-use lib.ListN.{get_or-eq_default}
-use Rattle.words.proofs.word.Goals as goal
-
-pub returns-else-i-t : goal.returns-else-i-t
-returns-else-i-t c = sym (get_or-eq_default c.args.t.now 0 c.if-i-t.false)

@@ -1,9 +1,0 @@
--- `lists_at` meets its contract, kind by kind.
-use native.Mathlib.Omega.{arith}
-use Rattle.work.proofs.lists_at.Goals as goal
-
-pub returns-in-Segment : goal.returns-in-Segment
-returns-in-Segment c = rw c.in-Segment.is (omega arith)
-
-pub returns-in-File : goal.returns-in-File
-returns-in-File c = rw c.in-File.is (omega arith)
