@@ -131,15 +131,12 @@ module _ {t : List ℕ} {n : Header} {c : Caller} {a : ℕ} {d : Entry} {f : See
         ≡ first_refusal (rule_tests (configuration t) (words_of t) c.slot a d.held held number read write ys)
     same_number = by-entry (leb entries a) (eqb d.held 0) refl refl
 
-  pub stretch-fits : {x : ℕ} → x ≡ n.blocks → x * block_bytes < 2 ^ 64
-  stretch-fits xe = omega (arith, xe, blocks_is u.sound.known, (shape u.sound.known).few-blocks)
-
   module _ (formed-so : formed (configuration t) file d.held ≡ true) where
     pub at_slot : f.slot ≡ index_of d.held
     at_slot = slot_is u.sound.known c.slot file d.held u.seen formed-so
 
     -- the file's stretch is within the store, and its size within the stretch, also where the record is free
-    pub stretch-of : (m : ℕ) → m ≡ store_bytes (configuration t) → {v x : ℕ} → x ≡ n.blocks → v ≡ f.slot → v * (x * block_bytes) + x * block_bytes ≤ m
+    stretch-of : (m : ℕ) → m ≡ store_bytes (configuration t) → {v x : ℕ} → x ≡ n.blocks → v ≡ f.slot → v * (x * block_bytes) + x * block_bytes ≤ m
     stretch-of m long xe ve = stretch-in u.sound.known (slot-in u.sound.known c.slot file d.held u.seen formed-so) m long xe ve
 
     pub size_of : z ≤ blocks (configuration t)
@@ -212,7 +209,7 @@ module _ {t : List ℕ} {n : Header} {c : Caller} {a : ℕ} {d : Entry} {f : See
 abbrev length_test : List ℕ → List Refusal
 length_test buf = (not (eqb (length buf) block_bytes) ⇒ XbSz) ∷ []
 
-pub right-length : (buf : List ℕ) → 0 ≡ first_refusal (length_test buf) → length buf ≡ block_bytes
+right-length : (buf : List ℕ) → 0 ≡ first_refusal (length_test buf) → length buf ≡ block_bytes
 right-length buf long = eqb-true (length buf) block_bytes (passed (eqb (length buf) block_bytes) (clear (length_test buf) refl (sym long)).0)
 
 -- a read: past the test of the buffer's length, what refuses the block or its place

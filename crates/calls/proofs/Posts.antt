@@ -2,7 +2,7 @@
 use mathlib.Core.Path.{◌≡◌, refl, sym, ◌∙◌}
 use mathlib.Core.Bool.{Bool, true, false, ◌&&◌, not}
 use mathlib.Core.List.{List, []}
-use Prim.Native.Nat.{ℕ, ◌+◌, ◌*◌, ◌<◌}
+use Prim.Native.Nat.{ℕ, ◌+◌, ◌*◌}
 use native.Mathlib.Omega.{arith}
 use lib.Dec.{ltb, leb}
 use lib.ListN.{length, get_or, set}
@@ -14,7 +14,7 @@ use Rattle.rules.specs.Seid.{index_of, formed, present, seid_at, or_self}
 use Rattle.rules.specs.Rule.{write, first_refusal}
 use Rattle.rules.specs.Rights.{may_write}
 use Rattle.rules.specs.Call15.{queued, may_post, post}
-use Rattle.laws.proofs.Tests.{passed, failed, and_right}
+use Rattle.laws.proofs.Tests.{passed}
 use Rattle.levels.proofs.Cells.{matrix-any}
 use Rattle.layout.specs.declared.Header.{Header}
 use Rattle.layout.specs.Header.{record_of, place_of}
@@ -53,9 +53,6 @@ room-is m n = by (leb m n) refl
     by : (b : Bool) → leb m n ≡ b → not b ≡ ltb n m
     by true e = sym (le-ltb n m (leb-true m n e))
     by false e = sym (lt-ltb n m (leb-false m n e))
-
-pub room-told : (here allowed : Bool) (n : ℕ) → here && (allowed && not (leb messages n)) ≡ true → n < messages
-room-told here allowed n test = leb-false messages n (failed (leb messages n) (and_right allowed _ (and_right here _ test)))
 
 self-zero : (r : Addr → ℕ) (p : ℕ) → or_self r p 0 ≡ seid_at r process p
 unfolding or_self

@@ -7,7 +7,7 @@ use native.Mathlib.Omega.{arith}
 use native.Mathlib.Numerals.{add-one}
 use lib.Dec.{eqb}
 use lib.ListN.{length, get_or, set, drop, length-set, length-drop, replicate}
-use lib.Seq.{sets, length-sets, sets-eq, drop-length, get_or-drop, get_or-set_other, paste, paste-zero, paste-suc}
+use lib.Seq.{sets, sets-eq, drop-length, get_or-drop, get_or-set_other, paste, paste-zero, paste-suc}
 use borrow.Author.Tests.{eqb-true}
 use Rattle.std.specs.Prelude.{Result, Ok, IsErr, IsErrAnd}
 use Rattle.rules.specs.Words.{tab_from, bytes4}
@@ -27,7 +27,7 @@ use Rattle.calls.specs.Left.{told, rule_at, buffer_of, Left}
 use Rattle.calls.specs.declared.error.Error.{Error}
 use Rattle.calls.specs.Refusing.{number_of}
 use Rattle.calls.specs.Mail.{shown_at}
-use Rattle.calls.proofs.Worlds.{shape, spot}
+use Rattle.calls.proofs.Worlds.{spot, shape}
 use Rattle.calls.proofs.Given.{zeros-is}
 use Rattle.laws.proofs.Refusals.{clear}
 use Rattle.calls.proofs.Leaves.{refusal-some, left-stopped, left-told, buffer-refused, buffer-done}
@@ -37,11 +37,6 @@ use Rattle.calls.proofs.Leaves.{refusal-some, left-stopped, left-told, buffer-re
 pub shown-more : (t : List ℕ) (from : ℕ) (b : List ℕ) (n : ℕ) → shown_at t from b (n + 1) ≡ sets (shown_at t from b n) (4 * n) (bytes4 (get_or t (from + n) 0))
 unfolding shown_at
 shown-more t from b n = rw add-one
-
-pub length-shown : (t : List ℕ) (from : ℕ) (b : List ℕ) (n : ℕ) → length (shown_at t from b n) ≡ length b
-unfolding shown_at
-length-shown t from b zero = refl
-length-shown t from b (suc n) = length-sets (shown_at t from b n) (4 * n) (bytes4 (get_or t (from + n) 0)) ∙ length-shown t from b n
 
 -- as many bytes as there is room for
 pub sets-all : (l xs : List ℕ) → length xs ≡ length l → sets l 0 xs ≡ xs
@@ -82,12 +77,6 @@ pub messages-within : {t u : List ℕ} {n : Header} {c : Caller} → Sound t n c
 messages-within {t} {c = c} s i v xe ue =
     let e = spot s.known (at process c.slot messages_at) in
     rw (ue, length-set t i v, s.words) (omega (arith, xe, e, s.caller))
-
--- and begin at a small place
-pub messages-near : {t : List ℕ} {n : Header} {c : Caller} → Sound t n c → {x : ℕ} → x ≡ record_of n process c.slot → x + messages_at < 2 ^ 44
-messages-near {t} {c = c} s xe =
-    let h = shape s.known in
-    omega (arith, xe, spot s.known (at process c.slot messages_at), h.few-cells, h.few-subtypes, h.few process, s.caller)
 
 -- t is the table that is read, u the one that is written: they agree at the words to be moved
 moved-is : (h t u : List ℕ) (p n : ℕ)
@@ -175,3 +164,9 @@ module _ (t : List ℕ) (p : ℕ) (b : List ℕ) {waiting : ℕ} (queued : waiti
       left-told t (λ h q. receive h q p b) (receive-number none) refl refl (receive-words me ue fits ke ve ze),
       ye ∙ receive-buffer sixteen ∙ buffer-done (rule_at t (λ h q. receive h q p b)) (receive-number none) b refl,
     )
+
+-- the messages begin near enough that a place in them fits
+pub messages-near : {t : List ℕ} {n : Header} {c : Caller} → Sound t n c → {x : ℕ} → x ≡ record_of n process c.slot → x + messages_at < 2 ^ 44
+messages-near {t} {c = c} s xe =
+    let h = shape s.known in
+    omega (arith, xe, spot s.known (at process c.slot messages_at), h.few-cells, h.few-subtypes, h.few process, s.caller)

@@ -62,7 +62,7 @@ pasted l from to n ke source target =
 
 module _ {st : List ℕ} {blocks f g size : ℕ} (r : Copyable st blocks f g size) where
   -- both stretches are within the store
-  pub copy-ready : (f * (blocks * block_bytes) + size * block_bytes ≤ length st) × (g * (blocks * block_bytes) + size * block_bytes ≤ length st)
+  copy-ready : (f * (blocks * block_bytes) + size * block_bytes ≤ length st) × (g * (blocks * block_bytes) + size * block_bytes ≤ length st)
   copy-ready = (omega (arith, r.source, r.within), omega (arith, r.target, r.within))
 
   pub blocks-copied : {st' : List ℕ}

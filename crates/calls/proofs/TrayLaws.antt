@@ -12,7 +12,7 @@ use Rattle.rules.specs.Words.{part}
 use Rattle.rules.specs.Claim.{Holds, test}
 use Rattle.rules.specs.Layout.{cells, level_of, flows, configuration, flow_matrix}
 use Rattle.rules.specs.WellFormed.{well_formed}
-use Rattle.rules.specs.Errors.{XOK, XbTab, XbPrSd, XbdKcl, XbParam, XbSz}
+use Rattle.rules.specs.Errors.{XOK, XbTab, XbParam}
 use Rattle.rules.specs.Step.{Outcome, bad_caller, bad_code, step}
 use Rattle.rules.specs.Tray as rules
 use Rattle.rules.specs.Tray.{inside, record_step, with_answer, most_records, tray_answer}

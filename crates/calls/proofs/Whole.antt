@@ -13,7 +13,7 @@ use Rattle.rules.specs.WellFormed.{well_formed, lengths_exact}
 use Rattle.rules.specs.Step.{bad_caller, bad_code, last_code, step}
 use Rattle.std.specs.Prelude.{Ok, Err}
 use Rattle.calls.proofs.Leaves.{refusal-some}
-use Rattle.laws.proofs.Tests.{split, or_left, or_right, cond-true}
+use Rattle.laws.proofs.Tests.{split, or_left, cond-true}
 use Rattle.laws.proofs.Claims.{holds}
 use Rattle.laws.proofs.Places.{conf-word, conf-cells, conf-slots, conf-subtypes, conf-blocks}
 use Rattle.layout.specs.declared.Header.{Header}

@@ -1,5 +1,5 @@
 -- The calls by their names, with the numbers that 01 and 02 give them, and what is found of a call before its own list.
-use Rattle.std.specs.Prelude.{◌≡◌, Bool, true, false, List, [], ◌∷◌, ℕ, Result, Ok, Err}
+use Rattle.std.specs.Prelude.{◌≡◌, Bool, true, false, [], ◌∷◌, ℕ, Result, Ok, Err}
 use Rattle.rules.specs.Errors as rules
 use Rattle.rules.specs.Rule.{◌⇒◌, first_refusal}
 use Rattle.rules.specs.Step.{bad_code}

@@ -9,6 +9,8 @@ use Rattle.layout.specs.declared.Header.{Header}
 use Rattle.layout.specs.Header.{header_of}
 use Rattle.lists.specs.Free.{free_test, serial_at}
 use Rattle.calls.specs.declared.Caller.{Caller}
+use Rattle.calls.specs.declared.Footing.{Footing}
+use Rattle.layout.specs.Hall.{hall_of}
 use Rattle.calls.specs.Handed.{Handed}
 
 -- what a table holds at each word of its records
@@ -28,6 +30,16 @@ pub record Sound (t : List ℕ) (n : Header) (c : Caller) : Type 0 where
   pub records : Holds (records_ok (configuration t) (words_of t))
   pub caller : c.slot < slots (configuration t) process
   pub home : c.cell ≡ cell_of (configuration t) process c.slot
+
+-- the same of what a call on a judged table goes by, with the cells of the slots that the check handed on
+pub record StandsIn (t : List ℕ) (on : Footing) : Type 0 where
+  pub sound : Sound t on.n on.me
+  pub told : on.hall.now ≡ hall_of (configuration t)
+
+-- and with the flow matrix
+pub record Stands (t : List ℕ) (on : Footing) (m : List (List Bool)) : Type 0 where
+  pub sound : Sound t on.n on.me
+  pub handed : Handed (configuration t) m on.hall.now
 
 -- objects that entries hold: segments and files
 abbrev pub holdable : Kind → Bool

@@ -17,7 +17,8 @@ use words::{put, word};
 // How a call ends: with its two words, or refused.
 pub(crate) type Ended = Result<(u32, u32), Error>;
 
-// "Refusals in order": the first whose test holds.
+// "Refusals in order": the first whose test holds. It is compiled where it is called: there the list is no array, but tests one after the other.
+#[inline(always)]
 pub(crate) fn refuse<const N: usize>(refusals: [(bool, Error); N]) -> Result<(), Error>
     ensures { found result ≡ first_refusal (listed refusals.entry) }
 {

@@ -2,12 +2,11 @@
 ghost use Rattle.std.specs.Prelude.{◌≡◌, ◌+◌, ◌-◌, ◌*◌, ◌≤◌, ◌<◌, ◌^◌, length, replicate};
 ghost use Rattle.std.proofs.lemmas.List.Edits.{sets};
 ghost use Rattle.rules.specs.Layout.{block_bytes, configuration, store_bytes};
-ghost use Rattle.calls.specs.World.{Sound};
+ghost use Rattle.calls.specs.World.{Stands, Sound};
 ghost use Rattle.calls.specs.Handed.{Handed};
 ghost use Rattle.rules.specs.Rule.{first_refusal};
 ghost use Rattle.calls.specs.Left.{told};
 ghost use Rattle.calls.specs.Refusing.{found, number_of};
-ghost use Rattle.calls.specs.Calls.{use_tests};
 ghost use Rattle.calls.specs.Blocks.{held_for, unheld_for, tests_for, ReadLeft, WriteLeft};
 ghost use Rattle.calls.specs.View.{ShownBy, part_of};
 
@@ -15,12 +14,12 @@ use crate::base::{Ended, read, refuse, write};
 use crate::entries::{Entry, entry_of};
 use crate::error::Error;
 use crate::objects::{Seen, look};
-use crate::{Caller, Part};
-use layout::{HALL_BYTES, Header, Kind};
+use crate::{Caller, Footing, Part};
+use layout::Kind;
 use modes::{reads, writes};
 use rights::lacks;
-use rules::{BLOCK_BYTES, ENTRIES, MAX_CELLS, SIZE, XBAD_OD, XDAP_VIOL, XNO_OBJ, XNOT_READABLE};
-use words::{put_bytes, put_zeros, wide};
+use rules::{BLOCK_BYTES, ENTRIES, MAX_CELLS, SIZE};
+use words::{put_bytes, put_zeros};
 
 // What a file's blocks are to be used for.
 #[derive(Clone, Copy, PartialEq, Eq)]
@@ -117,26 +116,24 @@ fn block_place(bytes: usize, n: usize, f: usize, b: usize) -> usize
 // Where block b of the file at entry a stands, for a caller that may read it: what refuses a read and a view alike.
 pub(crate) fn shown(
     t: &[u32],
-    n: Header,
+    on: Footing<'_>,
     m: [[bool; MAX_CELLS]; MAX_CELLS],
-    hall: &[u8; HALL_BYTES],
-    c: Caller,
     store: &[u8],
     a: u32,
     b: u32,
 ) -> Result<usize, Error>
-    requires { Sound t.now n c × Handed (configuration t.now) m hall.now × (length store.now ≡ store_bytes (configuration t.now)) }
-    ensures { ShownBy t.now store.now c.slot a b result }
+    requires { Stands t.now on m × (length store.now ≡ store_bytes (configuration t.now)) }
+    ensures { ShownBy t.now store.now on.entry.me.slot a b result }
 {
-    let d = entry_of(t, n, Kind::File, c.slot, a);
-    let f = look(t, n, &m, hall, c, Kind::File, d.held);
-    let size = read(t, n, Kind::File, f.slot, SIZE);
+    let d = entry_of(t, on.n, Kind::File, on.me.slot, a);
+    let f = look(t, on, &m, Kind::File, d.held);
+    let size = read(t, on.n, Kind::File, f.slot, SIZE);
     may_use(Purpose::Read, a, d, f)?;
     refuse([
-        (n.blocks <= b, Error::XbadBlockNo),
+        (on.n.blocks <= b, Error::XbadBlockNo),
         (size <= b, Error::XendOfFile),
     ])?;
-    let stretch = n.blocks as usize * BLOCK_BYTES;
+    let stretch = on.n.blocks as usize * BLOCK_BYTES;
     let file = f.slot as usize;
     Ok(block_place(store.len(), stretch, file, b as usize))
 }
@@ -144,20 +141,18 @@ pub(crate) fn shown(
 // 13. Read block.
 pub(crate) fn read_block(
     t: &[u32],
-    n: Header,
+    on: Footing<'_>,
     m: [[bool; MAX_CELLS]; MAX_CELLS],
-    hall: &[u8; HALL_BYTES],
-    c: Caller,
     store: &[u8],
     a: u32,
     b: u32,
     buffer: &mut [u8],
 ) -> Ended
-    requires { Sound t.now n c × Handed (configuration t.now) m hall.now × (length store.now ≡ store_bytes (configuration t.now)) }
-    ensures { ReadLeft t.now store.now c.slot a b buffer.old (told result) buffer.new }
+    requires { Stands t.now on m × (length store.now ≡ store_bytes (configuration t.now)) }
+    ensures { ReadLeft t.now store.now on.entry.me.slot a b buffer.old (told result) buffer.new }
 {
     refuse([(buffer.len() != BLOCK_BYTES, Error::XbSz)])?;
-    let from = shown(t, n, m, hall, c, store, a, b)?;
+    let from = shown(t, on, m, store, a, b)?;
     buffer.copy_from_slice(&store[from..from + BLOCK_BYTES]);
     Ok((0, 0))
 }
@@ -165,25 +160,23 @@ pub(crate) fn read_block(
 // 14. Write block.
 pub(crate) fn write_block(
     t: &mut [u32],
-    n: Header,
+    on: Footing<'_>,
     m: [[bool; MAX_CELLS]; MAX_CELLS],
-    hall: &[u8; HALL_BYTES],
-    c: Caller,
     store: &mut [u8],
     a: u32,
     b: u32,
     buffer: &[u8],
 ) -> Ended
-    requires { Sound t.old n c × Handed (configuration t.old) m hall.now × (length store.old ≡ store_bytes (configuration t.old)) }
-    ensures { WriteLeft t.old store.old c.slot a b buffer.now (told result) t.new store.new }
+    requires { Stands t.old on m × (length store.old ≡ store_bytes (configuration t.old)) }
+    ensures { WriteLeft t.old store.old on.entry.me.slot a b buffer.now (told result) t.new store.new }
 {
-    let d = entry_of(t, n, Kind::File, c.slot, a);
-    let f = look(t, n, &m, hall, c, Kind::File, d.held);
-    let size = read(t, n, Kind::File, f.slot, SIZE);
+    let d = entry_of(t, on.n, Kind::File, on.me.slot, a);
+    let f = look(t, on, &m, Kind::File, d.held);
+    let size = read(t, on.n, Kind::File, f.slot, SIZE);
     refuse([(buffer.len() != BLOCK_BYTES, Error::XbSz)])?;
     may_use(Purpose::Write, a, d, f)?;
-    refuse([(n.blocks <= b, Error::XbadBlockNo)])?;
-    let stretch = n.blocks as usize * BLOCK_BYTES;
+    refuse([(on.n.blocks <= b, Error::XbadBlockNo)])?;
+    let stretch = on.n.blocks as usize * BLOCK_BYTES;
     write_store(
         store,
         stretch,
@@ -192,6 +185,6 @@ pub(crate) fn write_block(
         b as usize,
         buffer,
     );
-    write(t, n, Kind::File, f.slot, SIZE, size.max(b + 1));
+    write(t, on.n, Kind::File, f.slot, SIZE, size.max(b + 1));
     Ok((0, 0))
 }

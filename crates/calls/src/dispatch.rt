@@ -9,7 +9,6 @@ ghost use Rattle.calls.specs.Codes.{code_number};
 ghost use Rattle.calls.specs.Did.{Through, rule_in};
 ghost use Rattle.calls.specs.Quick.{OwnIfLent};
 
-use crate::Caller;
 use crate::base::Ended;
 use crate::blocks::{read_block, write_block};
 use crate::code::Code;
@@ -23,6 +22,7 @@ use crate::quick::{foretold, slot_made};
 use crate::regrade::regrade;
 use crate::segments::{access_of, build_segment, rendezvous, set_access};
 use crate::status::status;
+use crate::{Caller, Footing};
 use layout::{HALL_BYTES, Kind, header_of};
 use rules::MAX_CELLS;
 
@@ -44,32 +44,33 @@ pub(crate) fn carry_out(
     ensures { Through t.old store.old buffer.old (rule_in t.old store.old me.slot (code_number code) a b c buffer.old) (told result) t.new store.new buffer.new }
 {
     let n = header_of(t);
-    let q = slot_made(t, n, w, me, code, b);
+    let on = Footing { n, hall, me };
+    let q = slot_made(t, on, w, code, b);
     match code {
-        Code::Spawn => spawn(t, n, me, q, a, b, c),
-        Code::ReleaseProcess => release_process(t, n, *m, hall, me, a),
-        Code::BuildSegment => build_segment(t, n, me, q, a, b, c),
-        Code::Rendezvous => rendezvous(t, n, *m, hall, me, a, b),
-        Code::ReleaseSegment => give_up(t, n, me, Kind::Segment, a, Error::XnSgDes, Error::XbSgDes),
-        Code::SetAccess => set_access(t, n, *m, hall, me, a, b),
-        Code::Create => create(t, n, me, q, a, b, c),
+        Code::Spawn => spawn(t, on, q, a, b, c),
+        Code::ReleaseProcess => release_process(t, on, *m, a),
+        Code::BuildSegment => build_segment(t, on, q, a, b, c),
+        Code::Rendezvous => rendezvous(t, on, *m, a, b),
+        Code::ReleaseSegment => give_up(t, on, Kind::Segment, a, Error::XnSgDes, Error::XbSgDes),
+        Code::SetAccess => set_access(t, on, *m, a, b),
+        Code::Create => create(t, on, q, a, b, c),
         Code::Open => {
-            let s = or_self(t, n, me, a);
-            let x = foretold(t, n, hall, w, me, s, b);
-            open(t, n, *m, hall, me, a, b, c, x)
+            let s = or_self(t, on, a);
+            let x = foretold(t, on, w, s, b);
+            open(t, on, *m, a, b, c, x)
         }
-        Code::Close => give_up(t, n, me, Kind::File, a, Error::XbadOd, Error::XbadOd),
-        Code::Link => link(t, n, *m, hall, me, a),
-        Code::Unlink => unlink(t, n, *m, hall, me, a),
-        Code::SetBits => set_bits(t, n, *m, hall, me, a, b),
-        Code::ReadBlock => read_block(t, n, *m, hall, me, store, a, b, buffer),
-        Code::WriteBlock => write_block(t, n, *m, hall, me, store, a, b, buffer),
-        Code::Post => post(t, n, *m, hall, me, a, buffer),
-        Code::Receive => receive(t, n, me, buffer),
-        Code::Status => status(t, n, *m, hall, me, a, buffer),
-        Code::Access => access_of(t, n, *m, hall, me, a),
-        Code::Remap => remap(t, n, *m, hall, me, a, b, c),
-        Code::PageAccess => page_access(t, n, *m, hall, me, a),
-        Code::Regrade => regrade(t, store, n, *m, hall, me, q, a, b, c, buffer),
+        Code::Close => give_up(t, on, Kind::File, a, Error::XbadOd, Error::XbadOd),
+        Code::Link => link(t, on, *m, a),
+        Code::Unlink => unlink(t, on, *m, a),
+        Code::SetBits => set_bits(t, on, *m, a, b),
+        Code::ReadBlock => read_block(t, on, *m, store, a, b, buffer),
+        Code::WriteBlock => write_block(t, on, *m, store, a, b, buffer),
+        Code::Post => post(t, on, *m, a, buffer),
+        Code::Receive => receive(t, on, buffer),
+        Code::Status => status(t, on, *m, a, buffer),
+        Code::Access => access_of(t, on, *m, a),
+        Code::Remap => remap(t, on, *m, a, b, c),
+        Code::PageAccess => page_access(t, on, *m, a),
+        Code::Regrade => regrade(t, store, on, *m, q, a, b, c, buffer),
     }
 }

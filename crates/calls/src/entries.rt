@@ -8,7 +8,7 @@ ghost use Rattle.layout.specs.Kinds.{kind_of};
 ghost use Rattle.calls.specs.World.{Known, words_of, holdable};
 ghost use Rattle.calls.specs.Entries.{entry_of, entry_from, freed_at, less_at, given_up_at, taken_up_at, four_at, made_at};
 
-use crate::Caller;
+use crate::Footing;
 use crate::base::read;
 use crate::pages::clear_pages;
 use crate::room::cell_of;
@@ -101,18 +101,18 @@ fn is_kept(t: &[u32], n: Header, kind: Kind, i: u32) -> bool
 
 // Entry d of process p, of the caller's cell, which holds s, is given up, and with it the pages that name it. What is known of the object is read first. A descriptor that
 // holds a subtype, which has the form of no file's identifier, counts for none.
-pub(crate) fn give_up_entry(t: &mut [u32], n: Header, c: Caller, kind: Kind, p: u32, d: u32, s: u32)
-    requires { Known t.old n × (c.cell ≡ cell_of (configuration t.old) process p) × (holdable (kind_of kind) ≡ true) }
+pub(crate) fn give_up_entry(t: &mut [u32], on: Footing<'_>, kind: Kind, p: u32, d: u32, s: u32)
+    requires { Known t.old on.n × (on.me.cell ≡ cell_of (configuration t.old) process p) × (holdable (kind_of kind) ≡ true) }
     ensures { t.new ≡ write (configuration t.old) t.old (given_up (configuration t.old) (words_of t.old) (kind_of kind) p d s) }
 {
     let i = index_of(s);
-    let formed = is_seid(kind.class(), n.slots(kind), s);
-    let own = formed & (cell_of(t, n, kind, i) == c.cell);
-    let kept = is_kept(t, n, kind, i);
-    let entry = n.entry_at(kind, p, d);
-    let object = n.record_at(kind, i);
-    let holders = read(t, n, kind, i, kind.holders_word());
-    clear_pages(t, n, kind, p, d);
+    let formed = is_seid(kind.class(), on.n.slots(kind), s);
+    let own = formed & (cell_of(t, on.n, kind, i) == on.me.cell);
+    let kept = is_kept(t, on.n, kind, i);
+    let entry = on.n.entry_at(kind, p, d);
+    let object = on.n.record_at(kind, i);
+    let holders = read(t, on.n, kind, i, kind.holders_word());
+    clear_pages(t, on.n, kind, p, d);
     give_up(t, kind, entry, object, holders, own, kept);
 }
 

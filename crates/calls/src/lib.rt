@@ -81,6 +81,15 @@ pub(crate) struct Caller {
     pub cell: u32,
 }
 
+// What a call on a judged table goes by: the header's numbers, the cells of the slots, which the check handed on, and the calling process. (The flow matrix is handed round
+// beside it: document 01 has it by value in the call functions.)
+#[derive(Clone, Copy)]
+pub(crate) struct Footing<'a> {
+    pub n: Header,
+    pub hall: &'a [u8; HALL_BYTES],
+    pub me: Caller,
+}
+
 // "2 caller out of range or not live"
 pub(crate) fn bad_caller(t: &[u32], n: Header, p: u32) -> bool
     requires { Known t.now n }
@@ -92,6 +101,7 @@ pub(crate) fn bad_caller(t: &[u32], n: Header, p: u32) -> bool
 
 // One call on a judged table: the caller, then the code, then the call's own list. A working slice is right before and after; one without words is none. It reads the header
 // from the table: handed on by value, it would be written to memory and read back in wider pieces at each call of a tray.
+#[inline(always)]
 pub(crate) fn call_judged(
     t: &mut [u32],
     store: &mut [u8],
@@ -155,8 +165,9 @@ pub fn view_part(table: &[u32], store: &[u8], caller: u32, a: u32, b: u32) -> Pa
     }
     let cell = cell_in(&hall, Kind::Process, caller);
     let me = Caller { slot: caller, cell };
+    let on = Footing { n, hall: &hall, me };
     let m = matrix_in(&hall);
-    match shown(table, n, m, &hall, me, store, a, b) {
+    match shown(table, on, m, store, a, b) {
         Ok(from) => Part {
             error: XOK,
             from,

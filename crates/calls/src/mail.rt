@@ -5,19 +5,19 @@ ghost use Rattle.rules.specs.Layout.{configuration, messages, message_words};
 ghost use Rattle.rules.specs.Rule.{first_refusal, write};
 ghost use Rattle.rules.specs.Call15.{queued, post};
 ghost use Rattle.rules.specs.Call16.{receive};
-ghost use Rattle.calls.specs.World.{Known, Sound};
+ghost use Rattle.calls.specs.World.{Stands, Known, Sound};
 ghost use Rattle.calls.specs.Handed.{Handed};
 ghost use Rattle.calls.specs.Left.{Left, told, rule_at, buffer_of};
 ghost use Rattle.calls.specs.Refusing.{found};
 ghost use Rattle.calls.specs.Calls.{post_tests};
 ghost use Rattle.calls.specs.Mail.{shown_at};
 
-use crate::Caller;
+use crate::Footing;
 use crate::base::{Ended, read, refuse, write};
 use crate::entries::{clear, put_four};
 use crate::error::Error;
 use crate::objects::{Seen, flow_at, look, or_self};
-use layout::{HALL_BYTES, Header, Kind};
+use layout::{Header, Kind};
 use rights::may_write;
 use rules::{MAX_CELLS, MESSAGE_WORDS, MESSAGES, MESSAGES_AT, QUEUE};
 use words::{byte, put_bytes, word};
@@ -40,19 +40,19 @@ fn show(t: &[u32], from: usize, b: &mut [u8])
 }
 
 // 16. Receive.
-pub(crate) fn receive(t: &mut [u32], n: Header, c: Caller, buffer: &mut [u8]) -> Ended
-    requires { Sound t.old n c }
-    ensures { Left t.old (λ h q. receive h q c.slot buffer.old) (told result) t.new × (buffer.new ≡ buffer_of buffer.old (rule_at t.old (λ h q. receive h q c.slot buffer.old))) }
+pub(crate) fn receive(t: &mut [u32], on: Footing<'_>, buffer: &mut [u8]) -> Ended
+    requires { Sound t.old on.n on.me }
+    ensures { Left t.old (λ h q. receive h q on.entry.me.slot buffer.old) (told result) t.new × (buffer.new ≡ buffer_of buffer.old (rule_at t.old (λ h q. receive h q on.entry.me.slot buffer.old))) }
 {
-    let me = c.slot;
-    let waiting = read(t, n, Kind::Process, me, QUEUE);
+    let me = on.me.slot;
+    let waiting = read(t, on.n, Kind::Process, me, QUEUE);
     refuse([
         (buffer.len() != MESSAGE_BYTES, Error::XbSz),
         (waiting == 0, Error::XbNoMes),
     ])?;
-    let from = n.record_at(Kind::Process, me) + MESSAGES_AT;
+    let from = on.n.record_at(Kind::Process, me) + MESSAGES_AT;
     show(t, from, buffer);
-    write(t, n, Kind::Process, me, QUEUE, waiting.saturating_sub(1));
+    write(t, on.n, Kind::Process, me, QUEUE, waiting.saturating_sub(1));
     let moved = MESSAGE_WORDS * (MESSAGES - 1);
     let next = from + MESSAGE_WORDS;
     t.copy_within(next..next + moved, from);
@@ -95,26 +95,24 @@ fn may_post(to: Seen, bytes: usize, flows: bool, allowed: bool, full: bool) -> R
 // 15. Post.
 pub(crate) fn post(
     t: &mut [u32],
-    n: Header,
+    on: Footing<'_>,
     m: [[bool; MAX_CELLS]; MAX_CELLS],
-    hall: &[u8; HALL_BYTES],
-    c: Caller,
     a: u32,
     buffer: &[u8],
 ) -> Ended
-    requires { Sound t.old n c × Handed (configuration t.old) m hall.now }
-    ensures { Left t.old (λ h q. post h q c.slot a buffer.now) (told result) t.new }
+    requires { Stands t.old on m }
+    ensures { Left t.old (λ h q. post h q on.entry.me.slot a buffer.now) (told result) t.new }
 {
-    let s = or_self(t, n, c, a);
-    let to = look(t, n, &m, hall, c, Kind::Process, s);
-    let waiting = read(t, n, Kind::Process, to.slot, QUEUE);
+    let s = or_self(t, on, a);
+    let to = look(t, on, &m, Kind::Process, s);
+    let waiting = read(t, on.n, Kind::Process, to.slot, QUEUE);
     let full = MESSAGES <= waiting as usize;
     let allowed = may_write(to.rights);
-    let flows = flow_at(&m, c.cell, to.cell);
+    let flows = flow_at(&m, on.me.cell, to.cell);
     may_post(to, buffer.len(), flows, allowed, full)?;
-    let me = or_self(t, n, c, 0);
+    let me = or_self(t, on, 0);
     if to.present & (allowed & !full) {
-        deliver(t, n, to.slot, me, waiting, buffer);
+        deliver(t, on.n, to.slot, me, waiting, buffer);
     }
     Ok((0, 0))
 }

@@ -4,20 +4,20 @@ ghost use Rattle.rules.specs.Layout.{segment, size, at, configuration};
 ghost use Rattle.rules.specs.Rule.{first_refusal};
 ghost use Rattle.rules.specs.Call19.{is_mapped, conflict, remap};
 ghost use Rattle.rules.specs.Call20.{page_access};
-ghost use Rattle.calls.specs.World.{Known, Sound, words_of};
+ghost use Rattle.calls.specs.World.{Stands, Known, Sound, words_of};
 ghost use Rattle.calls.specs.Handed.{Handed};
 ghost use Rattle.calls.specs.Left.{Left, told};
 ghost use Rattle.calls.specs.Refusing.{found};
 ghost use Rattle.calls.specs.Map.{held, taken_by, run_of, remap_tests};
 
-use crate::Caller;
+use crate::Footing;
 use crate::base::{Ended, read, refuse};
 use crate::entries::entry_of;
 use crate::error::Error;
 use crate::objects::look;
 use crate::pages::{left, map_of, set_pages};
 use crate::segments::access_of;
-use layout::{HALL_BYTES, Header, Kind};
+use layout::{Header, Kind};
 use rules::{ENTRIES, MAX_CELLS, PAGE_BYTES, PAGES, PAGES_AT, SIZE};
 
 // Some page holds designator d.
@@ -87,45 +87,46 @@ fn may_remap(
 // 19. Remap. The outgoing segment leaves first: the incoming one is judged by the rest of the map, and comes into it.
 pub(crate) fn remap(
     t: &mut [u32],
-    n: Header,
+    on: Footing<'_>,
     m: [[bool; MAX_CELLS]; MAX_CELLS],
-    hall: &[u8; HALL_BYTES],
-    c: Caller,
     incoming: u32,
     b: u32,
     outgoing: u32,
 ) -> Ended
-    requires { Sound t.old n c × Handed (configuration t.old) m hall.now }
-    ensures { (buffer : List ℕ) → Left t.old (λ h q. remap h q c.slot incoming b outgoing buffer) (told result) t.new }
+    requires { Stands t.old on m }
+    ensures { (buffer : List ℕ) → Left t.old (λ h q. remap h q on.entry.me.slot incoming b outgoing buffer) (told result) t.new }
 {
-    let s = entry_of(t, n, Kind::Segment, c.slot, incoming).held;
-    let u = entry_of(t, n, Kind::Segment, c.slot, outgoing).held;
-    let g = look(t, n, &m, hall, c, Kind::Segment, s);
-    let run = run_of(t, n, g.slot);
-    let map = map_of(t, n, c.slot);
+    let s = entry_of(t, on.n, Kind::Segment, on.me.slot, incoming).held;
+    let u = entry_of(t, on.n, Kind::Segment, on.me.slot, outgoing).held;
+    let g = look(t, on, &m, Kind::Segment, s);
+    let run = run_of(t, on.n, g.slot);
+    let map = map_of(t, on.n, on.me.slot);
     let rest = left(map, outgoing);
     may_remap(incoming, b, outgoing, s, u, g.present, run, map, rest)?;
     let comes = (incoming as usize) < ENTRIES;
-    set_pages(t, n, c.slot, taken(rest, comes, incoming + 1, b, run));
+    set_pages(
+        t,
+        on.n,
+        on.me.slot,
+        taken(rest, comes, incoming + 1, b, run),
+    );
     Ok((0, 0))
 }
 
 // 20. Access of a page: as 18 for the designator that it holds.
 pub(crate) fn page_access(
     t: &[u32],
-    n: Header,
+    on: Footing<'_>,
     m: [[bool; MAX_CELLS]; MAX_CELLS],
-    hall: &[u8; HALL_BYTES],
-    c: Caller,
     a: u32,
 ) -> Ended
-    requires { Sound t.now n c × Handed (configuration t.now) m hall.now }
-    ensures { (buffer : List ℕ) → Left t.now (λ h q. page_access h q c.slot a buffer) (told result) t.now }
+    requires { Stands t.now on m }
+    ensures { (buffer : List ℕ) → Left t.now (λ h q. page_access h q on.entry.me.slot a buffer) (told result) t.now }
 {
-    let w = read(t, n, Kind::Process, c.slot, PAGES_AT + a as usize);
+    let w = read(t, on.n, Kind::Process, on.me.slot, PAGES_AT + a as usize);
     refuse([
         (PAGES <= a as usize, Error::XbParam),
         (w == 0, Error::XbSgDes),
     ])?;
-    access_of(t, n, m, hall, c, w.saturating_sub(1))
+    access_of(t, on, m, w.saturating_sub(1))
 }

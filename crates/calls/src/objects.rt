@@ -6,13 +6,13 @@ ghost use Rattle.rules.specs.Find.{absent};
 ghost use Rattle.ids.specs.Seid.{identifier};
 ghost use Rattle.layout.specs.Kinds.{kind_of};
 ghost use Rattle.layout.specs.Hall.{cells_at};
-ghost use Rattle.calls.specs.World.{Sound, words_of};
+ghost use Rattle.calls.specs.World.{Stands, Sound, words_of};
 ghost use Rattle.calls.specs.Handed.{Handed};
 ghost use Rattle.rules.specs.Rule.{first_refusal};
 ghost use Rattle.calls.specs.Refusing.{found, number_of};
 ghost use Rattle.calls.specs.Seen.{name_of, named_of, kind_by, Sixteen, unseen, seen_of, find_tests, own_tests};
 
-use crate::Caller;
+use crate::Footing;
 use crate::base::{read, refuse};
 use crate::error::Error;
 use ids::{FileId, Identifier, ProcessId, SegmentId, seid};
@@ -21,12 +21,12 @@ use rules::{GROUP, LIVE, MAX_CELLS, OWNER, PROCESS_CLASS, SEGMENT_CLASS, SERIAL}
 use words::{first, wide};
 
 // "Seid 0 means the calling process."
-pub(crate) fn or_self(t: &[u32], n: Header, c: Caller, a: u32) -> u32
-    requires { Sound t.now n c }
-    ensures { result ≡ or_self (words_of t.now) c.slot a }
+pub(crate) fn or_self(t: &[u32], on: Footing<'_>, a: u32) -> u32
+    requires { Sound t.now on.n on.me }
+    ensures { result ≡ or_self (words_of t.now) on.entry.me.slot a }
 {
-    let me = c.slot;
-    let serial = read(t, n, Kind::Process, me, SERIAL);
+    let me = on.me.slot;
+    let serial = read(t, on.n, Kind::Process, me, SERIAL);
     first(a == 0, seid(PROCESS_CLASS, me, serial), a)
 }
 
@@ -122,39 +122,37 @@ pub(crate) fn unseen() -> Seen
 
 pub(crate) fn look(
     t: &[u32],
-    n: Header,
+    on: Footing<'_>,
     m: &[[bool; MAX_CELLS]; MAX_CELLS],
-    hall: &[u8; HALL_BYTES],
-    c: Caller,
     kind: Kind,
     s: u32,
 ) -> Seen
-    requires { Sound t.now n c × Handed (configuration t.now) m.now hall.now }
-    ensures { result ≡ seen_of (configuration t.now) (words_of t.now) c.slot (kind_of kind) (named_of n (kind_of kind) s) }
+    requires { Stands t.now on m.now }
+    ensures { result ≡ seen_of (configuration t.now) (words_of t.now) on.entry.me.slot (kind_of kind) (named_of on.entry.n (kind_of kind) s) }
 {
-    let Some(x) = name_of(n, kind, s) else {
+    let Some(x) = name_of(on.n, kind, s) else {
         return unseen();
     };
     let slot = x.slot;
-    let me = c.slot;
-    let cell = cell_in(hall, kind, slot);
-    let at = n.record_at(kind, slot);
+    let me = on.me.slot;
+    let cell = cell_in(on.hall, kind, slot);
+    let at = on.n.record_at(kind, slot);
     let live = t[at + LIVE];
     let serial = t[at + SERIAL];
     let owner = t[at + OWNER];
     let group = t[at + GROUP];
     let bits_at = kind.bits_word();
     let bits = t[at + bits_at];
-    let mine = n.record_at(Kind::Process, me);
+    let mine = on.n.record_at(Kind::Process, me);
     let my_owner = t[mine + OWNER];
     let my_group = t[mine + GROUP];
-    let flows = flow_at(m, cell, c.cell);
+    let flows = flow_at(m, cell, on.me.cell);
     let rights = rights::rights(my_owner, my_group, owner, group, bits);
     Seen {
         formed: true,
         slot,
         cell,
-        own: cell == c.cell,
+        own: cell == on.me.cell,
         flows,
         present: (live == 1) & (serial == x.serial),
         mine: owner == my_owner,

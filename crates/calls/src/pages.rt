@@ -43,8 +43,8 @@ pub(crate) fn set_pages(t: &mut [u32], n: Header, p: u32, m: [u32; PAGES])
     requires { Known t.old n }
     ensures { t.new ≡ write (configuration t.old) t.old (pages_set p (held m)) }
 {
-    for g in 0..PAGES {
-        write(t, n, Kind::Process, p, PAGES_AT + g, m[g]);
+    for (g, held) in m.iter().enumerate() {
+        write(t, n, Kind::Process, p, PAGES_AT + g, *held);
     }
 }
 

@@ -8,7 +8,7 @@ ghost use Rattle.layout.specs.Hall.{hall_of};
 ghost use Rattle.table.specs.Shape.{Small};
 ghost use Rattle.follow.specs.Right.{Right, list_at, rows_to, mark_at, mark_of};
 ghost use Rattle.follow.specs.Followed.{noted, here, taken_in, marked_by, unmarked_by, given_back, listed_anew, masked_anew, after_release, followed};
-ghost use Rattle.calls.specs.World.{Known, Sound, words_of};
+ghost use Rattle.calls.specs.World.{StandsIn, Known, Sound, words_of};
 ghost use Rattle.calls.specs.Handed.{Handed};
 ghost use Rattle.rules.specs.Step.{regrade_code};
 ghost use Rattle.calls.specs.Codes.{code_number};
@@ -18,13 +18,13 @@ ghost use Rattle.calls.specs.Seen.{slot_found};
 ghost use Rattle.work.specs.Parts.{lists_at, rows_at};
 ghost use Rattle.calls.specs.Quick.{RightIn, OwnIfLent, kind_made, Made, Tells, Near, Followable};
 
-use crate::Caller;
 use crate::base::{Ended, read};
 use crate::code::Code;
 use crate::dispatch::carry_out;
 use crate::entries::entry_of;
 use crate::objects::{cell_in, or_self};
 use crate::room::{free_slot, in_cell, run_of};
+use crate::{Caller, Footing};
 use layout::{HALL_BYTES, Header, Kind, header_of, index_of, is_seid};
 use lists::SERIAL_UNIT;
 use modes::valid;
@@ -81,13 +81,13 @@ fn mark_in(t: &[u32], n: Header, c: u32, f: u32, i: u32) -> u32
 }
 
 // Where the mask of a process of the caller's cell is, for a file of that cell.
-fn mark_of(t: &[u32], n: Header, me: Caller, p: u32, f: u32) -> u32
-    requires { Known t.now n × (me.cell < n.cells) × Near t.now me process p × Near t.now me file f }
+fn mark_of(t: &[u32], on: Footing<'_>, p: u32, f: u32) -> u32
+    requires { Known t.now on.n × (on.me.cell < on.n.cells) × Near t.now on.me process p × Near t.now on.me file f }
     ensures { result ≡ mark_of (configuration t.now) p f }
 {
-    let processes = run_of(t, n, Kind::Process, me.cell);
-    let files = run_of(t, n, Kind::File, me.cell);
-    mark_in(t, n, me.cell, f - files.from, p - processes.from)
+    let processes = run_of(t, on.n, Kind::Process, on.me.cell);
+    let files = run_of(t, on.n, Kind::File, on.me.cell);
+    mark_in(t, on.n, on.me.cell, f - files.from, p - processes.from)
 }
 
 // ---- what a call asks of it
@@ -139,59 +139,44 @@ fn cell_made(me: Caller, code: Code, b: u32) -> u32
 
 // The slot for what a call makes, if any: in the caller's cell, and for a copy in cell b; a cell that the table does not have has none. Of all calls it is asked for in
 // this one place, so that the compiler lays the search into the dispatch.
-pub(crate) fn slot_made(
-    t: &[u32],
-    n: Header,
-    w: &[u32],
-    me: Caller,
-    code: Code,
-    b: u32,
-) -> Option<u32>
-    requires { Sound t.now n me × OwnIfLent t.now w.now }
-    ensures { Made t.now me (code_number code) b result }
+pub(crate) fn slot_made(t: &[u32], on: Footing<'_>, w: &[u32], code: Code, b: u32) -> Option<u32>
+    requires { Sound t.now on.n on.me × OwnIfLent t.now w.now }
+    ensures { Made t.now on.entry.me (code_number code) b result }
 {
     let kind = kind_made(code)?;
-    let cell = cell_made(me, code, b);
-    if n.cells <= cell {
+    let cell = cell_made(on.me, code, b);
+    if on.n.cells <= cell {
         return None;
     }
-    slot_for(t, n, w, kind, cell)
+    slot_for(t, on.n, w, kind, cell)
 }
 
 // Whether a word names a slot of the caller's cell.
-fn is_here(t: &[u32], n: Header, hall: &[u8; HALL_BYTES], me: Caller, kind: Kind, s: u32) -> bool
-    requires { Sound t.now n me × (hall.now ≡ hall_of (configuration t.now)) }
-    ensures { result ≡ here (configuration t.now) me.slot (kind_of kind) s }
+fn is_here(t: &[u32], on: Footing<'_>, kind: Kind, s: u32) -> bool
+    requires { StandsIn t.now on }
+    ensures { result ≡ here (configuration t.now) on.entry.me.slot (kind_of kind) s }
 {
-    if is_seid(kind.class(), n.slots(kind), s) {
-        return cell_in(hall, kind, index_of(s)) == me.cell;
+    if is_seid(kind.class(), on.n.slots(kind), s) {
+        return cell_in(on.hall, kind, index_of(s)) == on.me.cell;
     }
     false
 }
 
 // Whether an open of a file of the caller's cell clashes, by the file's masks. Of another file, of modes that are not valid, and where no slice is lent, nothing is told.
-pub(crate) fn foretold(
-    t: &[u32],
-    n: Header,
-    hall: &[u8; HALL_BYTES],
-    w: &[u32],
-    me: Caller,
-    s: u32,
-    b: u32,
-) -> Option<bool>
-    requires { Sound t.now n me × (hall.now ≡ hall_of (configuration t.now)) × OwnIfLent t.now w.now }
-    ensures { Tells t.now me.cell s b result }
+pub(crate) fn foretold(t: &[u32], on: Footing<'_>, w: &[u32], s: u32, b: u32) -> Option<bool>
+    requires { StandsIn t.now on × OwnIfLent t.now w.now }
+    ensures { Tells t.now on.entry.me.cell s b result }
 {
     if w.len() == 0 {
         return None;
     }
-    if is_here(t, n, hall, me, Kind::File, s) & valid(b) {
-        let processes = run_of(t, n, Kind::Process, me.cell);
-        let files = run_of(t, n, Kind::File, me.cell);
-        let at = mark_in(t, n, me.cell, index_of(s) - files.from, 0);
+    if is_here(t, on, Kind::File, s) & valid(b) {
+        let processes = run_of(t, on.n, Kind::Process, on.me.cell);
+        let files = run_of(t, on.n, Kind::File, on.me.cell);
+        let at = mark_in(t, on.n, on.me.cell, index_of(s) - files.from, 0);
         return Some(marks::row_clash(
             t,
-            n,
+            on.n,
             processes.from,
             processes.count,
             w,
@@ -207,14 +192,14 @@ pub(crate) fn foretold(
 // ---- what a call does to it
 
 // What a call is about, as the table holds it before: calls 5 and 9 the object that is given up, the others what a names.
-fn note(t: &[u32], n: Header, me: Caller, code: Code, a: u32) -> u32
-    requires { Sound t.now n me }
-    ensures { result ≡ noted (words_of t.now) me.slot (code_number code) a }
+fn note(t: &[u32], on: Footing<'_>, code: Code, a: u32) -> u32
+    requires { Sound t.now on.n on.me }
+    ensures { result ≡ noted (words_of t.now) on.entry.me.slot (code_number code) a }
 {
     match code {
-        Code::ReleaseSegment => entry_of(t, n, Kind::Segment, me.slot, a).held,
-        Code::Close => entry_of(t, n, Kind::File, me.slot, a).held,
-        _ => or_self(t, n, me, a),
+        Code::ReleaseSegment => entry_of(t, on.n, Kind::Segment, on.me.slot, a).held,
+        Code::Close => entry_of(t, on.n, Kind::File, on.me.slot, a).held,
+        _ => or_self(t, on, a),
     }
 }
 
@@ -228,21 +213,12 @@ fn take_slot(t: &[u32], n: Header, kind: Kind, c: u32, w: &mut [u32])
 }
 
 // The caller's descriptor d has come to hold s, or has ceased to.
-fn remark(
-    t: &[u32],
-    n: Header,
-    hall: &[u8; HALL_BYTES],
-    me: Caller,
-    s: u32,
-    d: u32,
-    holds: bool,
-    w: &mut [u32],
-)
-    requires { Sound t.now n me × (hall.now ≡ hall_of (configuration t.now)) }
-    ensures { w.new ≡ cond holds (marked_by (configuration t.now) me.slot s d w.old) (unmarked_by (configuration t.now) me.slot s d w.old) }
+fn remark(t: &[u32], on: Footing<'_>, s: u32, d: u32, holds: bool, w: &mut [u32])
+    requires { StandsIn t.now on }
+    ensures { w.new ≡ cond holds (marked_by (configuration t.now) on.entry.me.slot s d w.old) (unmarked_by (configuration t.now) on.entry.me.slot s d w.old) }
 {
-    if is_here(t, n, hall, me, Kind::File, s) {
-        let at = mark_of(t, n, me, me.slot, index_of(s));
+    if is_here(t, on, Kind::File, s) {
+        let at = mark_of(t, on, on.me.slot, index_of(s));
         if holds {
             marks::mark(w, at, d);
         } else {
@@ -252,24 +228,16 @@ fn remark(
 }
 
 // The slot of s, if it can be taken now, is given back.
-fn give_slot(
-    t: &[u32],
-    n: Header,
-    hall: &[u8; HALL_BYTES],
-    me: Caller,
-    kind: Kind,
-    s: u32,
-    w: &mut [u32],
-)
-    requires { Sound t.now n me × (hall.now ≡ hall_of (configuration t.now)) }
-    ensures { w.new ≡ given_back (configuration t.now) (words_of t.now) me.slot (kind_of kind) s w.old }
+fn give_slot(t: &[u32], on: Footing<'_>, kind: Kind, s: u32, w: &mut [u32])
+    requires { StandsIn t.now on }
+    ensures { w.new ≡ given_back (configuration t.now) (words_of t.now) on.entry.me.slot (kind_of kind) s w.old }
 {
-    if is_here(t, n, hall, me, kind, s) {
+    if is_here(t, on, kind, s) {
         let i = index_of(s);
-        let live = read(t, n, kind, i, LIVE);
-        let serial = read(t, n, kind, i, SERIAL);
+        let live = read(t, on.n, kind, i, LIVE);
+        let serial = read(t, on.n, kind, i, SERIAL);
         if (live == 0) & (serial < MAX_SERIAL) {
-            let at = list_at(t, n, kind, me.cell);
+            let at = list_at(t, on.n, kind, on.me.cell);
             lists::give_back(w, at, serial * SERIAL_UNIT + i);
         }
     }
@@ -310,9 +278,7 @@ fn after_release(t: &[u32], n: Header, c: u32, i: u32, w: &mut [u32])
 // What a call that has succeeded does to the working slice: s is what it was about, x and y are its answer's words.
 fn follow(
     t: &[u32],
-    n: Header,
-    hall: &[u8; HALL_BYTES],
-    me: Caller,
+    on: Footing<'_>,
     s: u32,
     code: Code,
     a: u32,
@@ -321,30 +287,31 @@ fn follow(
     y: u32,
     w: &mut [u32],
 )
-    requires { Sound t.now n me × (hall.now ≡ hall_of (configuration t.now)) × Followable t.now me s (code_number code) b }
-    ensures { w.new ≡ followed (configuration t.now) (words_of t.now) me.slot s (code_number code) a b x y w.old }
+    requires { StandsIn t.now on × Followable t.now on.me s (code_number code) b }
+    ensures { w.new ≡ followed (configuration t.now) (words_of t.now) on.entry.me.slot s (code_number code) a b x y w.old }
 {
     match code {
-        Code::Spawn => take_slot(t, n, Kind::Process, me.cell, w),
-        Code::ReleaseProcess => after_release(t, n, me.cell, index_of(s), w),
-        Code::BuildSegment => take_slot(t, n, Kind::Segment, me.cell, w),
-        Code::ReleaseSegment => give_slot(t, n, hall, me, Kind::Segment, s, w),
+        Code::Spawn => take_slot(t, on.n, Kind::Process, on.me.cell, w),
+        Code::ReleaseProcess => after_release(t, on.n, on.me.cell, index_of(s), w),
+        Code::BuildSegment => take_slot(t, on.n, Kind::Segment, on.me.cell, w),
+        Code::ReleaseSegment => give_slot(t, on, Kind::Segment, s, w),
         Code::Create => {
-            take_slot(t, n, Kind::File, me.cell, w);
-            remark(t, n, hall, me, x, y, true, w);
+            take_slot(t, on.n, Kind::File, on.me.cell, w);
+            remark(t, on, x, y, true, w);
         }
-        Code::Open => remark(t, n, hall, me, s, x, true, w),
+        Code::Open => remark(t, on, s, x, true, w),
         Code::Close => {
-            remark(t, n, hall, me, s, a, false, w);
-            give_slot(t, n, hall, me, Kind::File, s, w);
+            remark(t, on, s, a, false, w);
+            give_slot(t, on, Kind::File, s, w);
         }
-        Code::Unlink => give_slot(t, n, hall, me, Kind::File, s, w),
-        Code::Regrade => take_slot(t, n, Kind::File, b, w),
+        Code::Unlink => give_slot(t, on, Kind::File, s, w),
+        Code::Regrade => take_slot(t, on.n, Kind::File, b, w),
         _ => {}
     }
 }
 
-// A call by its name, and the working slice after it, where one is lent.
+// A call by its name, and the working slice after it, where one is lent. The dispatch is called in this one place, so that the compiler lays it in here.
+#[inline(always)]
 pub(crate) fn carry_out_by(
     t: &mut [u32],
     store: &mut [u8],
@@ -362,12 +329,13 @@ pub(crate) fn carry_out_by(
     ensures through { Through t.old store.old buffer.old (rule_in t.old store.old me.slot (code_number code) a b c buffer.old) (told result) t.new store.new buffer.new }
     ensures right { 0 < length w.new → Right (configuration t.old) (rd (configuration t.old) t.new) w.new }
 {
-    if w.len() == 0 {
-        return carry_out(t, store, m, hall, w, me, code, a, b, c, buffer);
-    }
     let n = header_of(t);
-    let s = note(t, n, me, code, a);
+    let on = Footing { n, hall, me };
+    let lent = w.len() != 0;
+    let s = if lent { note(t, on, code, a) } else { 0 };
     let (x, y) = carry_out(t, store, m, hall, w, me, code, a, b, c, buffer)?;
-    follow(t, n, hall, me, s, code, a, b, x, y, w);
+    if lent {
+        follow(t, on, s, code, a, b, x, y, w);
+    }
     Ok((x, y))
 }

@@ -5,20 +5,20 @@ ghost use Rattle.rules.specs.Words.{part, word2};
 ghost use Rattle.rules.specs.Layout.{max_slots, max_serial, block_bytes, file, configuration, store_bytes, at, serial};
 ghost use Rattle.rules.specs.Seid.{class, seid};
 ghost use Rattle.layout.specs.Header.{record_of};
-ghost use Rattle.calls.specs.World.{Known, Sound, words_of};
+ghost use Rattle.calls.specs.World.{Stands, Known, Sound, words_of};
 ghost use Rattle.calls.specs.Handed.{Handed};
 ghost use Rattle.calls.specs.Entries.{made_at};
 ghost use Rattle.calls.specs.Left.{told};
 ghost use Rattle.calls.specs.Regrade.{Copyable, FoundIn, RegradeLeft};
 
-use crate::Caller;
+use crate::Footing;
 use crate::base::{Ended, read, refuse};
 use crate::blocks::{Purpose, may_use};
 use crate::entries::{entry_of, make};
 use crate::error::Error;
 use crate::objects::look;
 use ids::seid;
-use layout::{HALL_BYTES, Header, Kind};
+use layout::{Header, Kind};
 use rules::{BLOCK_BYTES, FILE_CLASS, MAX_BITS, MAX_CELLS, SERIAL, SIZE};
 use words::byte;
 
@@ -65,33 +65,31 @@ fn make_copy(t: &mut [u32], n: Header, i: u32, owner: u32, group: u32, bits: u32
 pub(crate) fn regrade(
     t: &mut [u32],
     store: &mut [u8],
-    n: Header,
+    on: Footing<'_>,
     m: [[bool; MAX_CELLS]; MAX_CELLS],
-    hall: &[u8; HALL_BYTES],
-    me: Caller,
     slot: Option<u32>,
     a: u32,
     b: u32,
     c: u32,
     buffer: &[u8],
 ) -> Ended
-    requires { Sound t.old n me × Handed (configuration t.old) m hall.now × (length store.old ≡ store_bytes (configuration t.old)) × FoundIn t.old b slot }
-    ensures { RegradeLeft t.old store.old me.slot a b c buffer.now (told result) t.new store.new }
+    requires { Stands t.old on m × (length store.old ≡ store_bytes (configuration t.old)) × FoundIn t.old b slot }
+    ensures { RegradeLeft t.old store.old on.entry.me.slot a b c buffer.now (told result) t.new store.new }
 {
-    let d = entry_of(t, n, Kind::File, me.slot, a);
-    let f = look(t, n, &m, hall, me, Kind::File, d.held);
-    let size = read(t, n, Kind::File, f.slot, SIZE);
-    let at_desk = n.guard == me.cell + 1;
+    let d = entry_of(t, on.n, Kind::File, on.me.slot, a);
+    let f = look(t, on, &m, Kind::File, d.held);
+    let size = read(t, on.n, Kind::File, f.slot, SIZE);
+    let at_desk = on.n.guard == on.me.cell + 1;
     refuse([
         (!at_desk, Error::XnoSPriv),
         (buffer.len() != BUFFER_BYTES, Error::XbSz),
-        ((n.cells <= b) | (MAX_BITS < c), Error::XbParam),
+        ((on.n.cells <= b) | (MAX_BITS < c), Error::XbParam),
     ])?;
     may_use(Purpose::Read, a, d, f)?;
     let i = slot.ok_or(Error::XnoSpace)?;
     let owner = two_bytes(buffer, OWNER_BYTES);
     let group = two_bytes(buffer, GROUP_BYTES);
-    let s = make_copy(t, n, i, owner, group, c, size);
-    copy_blocks(store, n.blocks, f.slot, i, size);
+    let s = make_copy(t, on.n, i, owner, group, c, size);
+    copy_blocks(store, on.n.blocks, f.slot, i, size);
     Ok((s, 0))
 }

@@ -5,16 +5,16 @@ ghost use Rattle.rules.specs.Layout.{cells, configuration};
 ghost use Rattle.rules.specs.WellFormed.{configured};
 ghost use Rattle.rules.specs.Call17.{status_of, status};
 ghost use Rattle.layout.specs.Kinds.{kind_of};
-ghost use Rattle.calls.specs.World.{Sound};
+ghost use Rattle.calls.specs.World.{Stands, Sound};
 ghost use Rattle.calls.specs.Handed.{Handed};
 ghost use Rattle.calls.specs.Left.{told, answer_of, buffer_of, rule_at};
 ghost use Rattle.calls.specs.Told.{told_at};
 
-use crate::Caller;
+use crate::Footing;
 use crate::base::{Ended, read, refuse};
 use crate::error::Error;
 use crate::objects::{find, kind_by, look, or_self};
-use layout::{HALL_BYTES, Header, Kind};
+use layout::Kind;
 use levels::level_at;
 use rules::{GROUP, MAX_CELLS, OWNER};
 
@@ -52,24 +52,22 @@ fn tell(t: &[u32], class: u32, cell: u32, owner: u32, group: u32, bits: u32) -> 
 
 fn status_of(
     t: &[u32],
-    n: Header,
+    on: Footing<'_>,
     m: [[bool; MAX_CELLS]; MAX_CELLS],
-    hall: &[u8; HALL_BYTES],
-    c: Caller,
     kind: Kind,
     s: u32,
     buffer: &mut [u8],
 ) -> Ended
-    requires { Sound t.now n c × Handed (configuration t.now) m hall.now }
-    ensures { (told result ≡ answer_of (rule_at t.now (λ h q. status_of h q c.slot s buffer.old (kind_of kind)))) × (buffer.new ≡ buffer_of buffer.old (rule_at t.now (λ h q. status_of h q c.slot s buffer.old (kind_of kind)))) }
+    requires { Stands t.now on m }
+    ensures { (told result ≡ answer_of (rule_at t.now (λ h q. status_of h q on.entry.me.slot s buffer.old (kind_of kind)))) × (buffer.new ≡ buffer_of buffer.old (rule_at t.now (λ h q. status_of h q on.entry.me.slot s buffer.old (kind_of kind)))) }
 {
-    let x = look(t, n, &m, hall, c, kind, s);
+    let x = look(t, on, &m, kind, s);
     refuse([(buffer.len() != STATUS_BYTES, Error::XbSz)])?;
     find(x, kind, !x.flows)?;
     let i = x.slot;
-    let owner = read(t, n, kind, i, OWNER);
-    let group = read(t, n, kind, i, GROUP);
-    let bits = read(t, n, kind, i, kind.bits_word());
+    let owner = read(t, on.n, kind, i, OWNER);
+    let group = read(t, on.n, kind, i, GROUP);
+    let bits = read(t, on.n, kind, i, kind.bits_word());
     let told = tell(t, kind.class(), x.cell, owner, group, bits);
     buffer.copy_from_slice(&told);
     Ok((0, 0))
@@ -78,17 +76,15 @@ fn status_of(
 // 17. Status, of the kind that the seid's class names.
 pub(crate) fn status(
     t: &[u32],
-    n: Header,
+    on: Footing<'_>,
     m: [[bool; MAX_CELLS]; MAX_CELLS],
-    hall: &[u8; HALL_BYTES],
-    c: Caller,
     a: u32,
     buffer: &mut [u8],
 ) -> Ended
-    requires { Sound t.now n c × Handed (configuration t.now) m hall.now }
-    ensures { (told result ≡ answer_of (rule_at t.now (λ h q. status h q c.slot a buffer.old))) × (buffer.new ≡ buffer_of buffer.old (rule_at t.now (λ h q. status h q c.slot a buffer.old))) }
+    requires { Stands t.now on m }
+    ensures { (told result ≡ answer_of (rule_at t.now (λ h q. status h q on.entry.me.slot a buffer.old))) × (buffer.new ≡ buffer_of buffer.old (rule_at t.now (λ h q. status h q on.entry.me.slot a buffer.old))) }
 {
-    let s = or_self(t, n, c, a);
+    let s = or_self(t, on, a);
     let kind = kind_by(s);
-    status_of(t, n, m, hall, c, kind, s, buffer)
+    status_of(t, on, m, kind, s, buffer)
 }

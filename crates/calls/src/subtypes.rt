@@ -8,7 +8,7 @@ ghost use Rattle.calls.specs.Refusing.{found};
 ghost use Rattle.calls.specs.Seen.{seen_subtype, capability_of};
 ghost use Rattle.calls.specs.Calls.{create_under, open_under};
 
-use crate::Caller;
+use crate::Footing;
 use crate::base::{read, refuse};
 use crate::entries::{Entry, entry_of};
 use crate::error::Error;
@@ -35,31 +35,30 @@ fn subtype_word(t: &[u32], n: Header, i: u32, k: usize) -> u32
 // What the caller sees of the subtype that s names: a subtype is there as long as the table is, with serial 1.
 pub(crate) fn look_subtype(
     t: &[u32],
-    n: Header,
+    on: Footing<'_>,
     m: &[[bool; MAX_CELLS]; MAX_CELLS],
-    c: Caller,
     s: u32,
 ) -> Seen
-    requires { Sound t.now n c × (m.now ≡ flow_matrix (configuration t.now)) }
-    ensures { result ≡ seen_subtype (configuration t.now) (words_of t.now) c.slot s }
+    requires { Sound t.now on.n on.me × (m.now ≡ flow_matrix (configuration t.now)) }
+    ensures { result ≡ seen_subtype (configuration t.now) (words_of t.now) on.entry.me.slot s }
 {
-    if !is_seid(SUBTYPE_CLASS, n.subtypes, s) {
+    if !is_seid(SUBTYPE_CLASS, on.n.subtypes, s) {
         return unseen();
     }
     let i = index_of(s);
-    let cell = subtype_word(t, n, i, SUBTYPE_CELL);
-    let owner = subtype_word(t, n, i, SUBTYPE_OWNER);
-    let group = subtype_word(t, n, i, SUBTYPE_GROUP);
-    let bits = subtype_word(t, n, i, SUBTYPE_BITS);
-    let my_owner = read(t, n, Kind::Process, c.slot, OWNER);
-    let my_group = read(t, n, Kind::Process, c.slot, GROUP);
-    let flows = flow_at(m, cell, c.cell);
+    let cell = subtype_word(t, on.n, i, SUBTYPE_CELL);
+    let owner = subtype_word(t, on.n, i, SUBTYPE_OWNER);
+    let group = subtype_word(t, on.n, i, SUBTYPE_GROUP);
+    let bits = subtype_word(t, on.n, i, SUBTYPE_BITS);
+    let my_owner = read(t, on.n, Kind::Process, on.me.slot, OWNER);
+    let my_group = read(t, on.n, Kind::Process, on.me.slot, GROUP);
+    let flows = flow_at(m, cell, on.me.cell);
     let rights = rights::rights(my_owner, my_group, owner, group, bits);
     Seen {
         formed: true,
         slot: i,
         cell,
-        own: cell == c.cell,
+        own: cell == on.me.cell,
         flows,
         present: serial_of(s) == SUBTYPE_SERIAL,
         mine: owner == my_owner,
@@ -84,17 +83,17 @@ pub(crate) fn held_by(t: &[u32], n: Header, p: u32, by: u32) -> Option<Entry>
 }
 
 // The new file's subtype, or 0; or what refuses a create under it. Create may name "a subtype of the caller's cell held for reading and writing".
-pub(crate) fn may_create_under(t: &[u32], n: Header, c: Caller, by: u32) -> Result<u32, Error>
-    requires { Sound t.now n c }
-    ensures refusals { found result ≡ first_refusal (create_under (configuration t.now) (words_of t.now) c.slot by) }
-    ensures subtype { IfOk result (λ s. s ≡ subtype_for (words_of t.now) c.slot by) }
+pub(crate) fn may_create_under(t: &[u32], on: Footing<'_>, by: u32) -> Result<u32, Error>
+    requires { Sound t.now on.n on.me }
+    ensures refusals { found result ≡ first_refusal (create_under (configuration t.now) (words_of t.now) on.entry.me.slot by) }
+    ensures subtype { IfOk result (λ s. s ≡ subtype_for (words_of t.now) on.entry.me.slot by) }
 {
     if by == 0 {
         return Ok(0);
     }
-    let x = held_by(t, n, c.slot, by).ok_or(Error::XbadStCap)?;
-    let cell = subtype_word(t, n, index_of(x.held), SUBTYPE_CELL);
-    let unfit = (cell != c.cell) | !(reads(x.used) & writes(x.used));
+    let x = held_by(t, on.n, on.me.slot, by).ok_or(Error::XbadStCap)?;
+    let cell = subtype_word(t, on.n, index_of(x.held), SUBTYPE_CELL);
+    let unfit = (cell != on.me.cell) | !(reads(x.used) & writes(x.used));
     refuse([(unfit, Error::XbadSubtypeMatch)])?;
     Ok(x.held)
 }

@@ -119,6 +119,7 @@ fn outside(t: &[u32], n: Header, r: Record) -> Ended
 }
 
 // One record on a judged table: it is taken apart, its call is run on its part of the bytes, and its answer is stored in it. A working slice is right before and after.
+#[inline(always)]
 pub(crate) fn run(
     t: &mut [u32],
     store: &mut [u8],

@@ -53,7 +53,8 @@ impl Row<'_> {
         true
     }
 
-    // Each entry against each before it.
+    // Each entry against each before it. This lies off the way that most rows go.
+    #[cold]
     fn all_fresh(self) -> bool
         ensures { result ≡ all_below entries (fresh (held_word self.entry.t.now self.entry.from)) }
     {

@@ -4,7 +4,7 @@ use Rattle.calls.proofs.Leaves.{ended-so}
 use Rattle.calls.proofs.Whole.{known, store_long, caller-few, sound, sound-conf, unasked, done-asked}
 use Rattle.calls.proofs.TrayLaws.{ready-judged}
 use Rattle.calls.proofs.QuickLaws.{caller-lives, right_there}
-use mathlib.Core.Path.{refl, sym}
+use mathlib.Core.Path.{refl}
 use Rattle.calls.proofs.call_judged.Goals.{After-header_of-n}
 use Rattle.calls.proofs.call_judged.Goals as goal
 

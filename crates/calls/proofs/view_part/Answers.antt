@@ -45,7 +45,7 @@ cell_in-cell-requires c =
 pub shown-requires : goal.shown-requires
 shown-requires c =
     let j = judged (goal.at.shown-requires c).Else-bad_caller c.matrix_in-m.ensures c.judge.ensures.hall_after in
-    (sound j _ c.bad_caller.ensures c.if-bad_caller.false c.cell_in-cell.ensures, j.handed, store_long j)
+    (record { sound = sound j _ c.bad_caller.ensures c.if-bad_caller.false c.cell_in-cell.ensures; handed = j.handed }, store_long j)
 
 pub returns-in-Ok : goal.returns-in-Ok
 returns-in-Ok c = record {

@@ -1,11 +1,11 @@
 -- `blocks::write_block` meets its contract: the rule's refusals in their order, the hole filled, the block and the size written.
-use Rattle.calls.proofs.BlocksLaws.{Used, stretch-fits, length-stops, use-stops, use-passes, write-within, next_small, write_bytes, write-words, write-refused, write_done}
+use Rattle.calls.proofs.BlocksLaws.{Used, length-stops, use-stops, use-passes, write-within, next_small, write_bytes, write-words, write-refused, write_done}
 use mathlib.Core.Path.{refl}
 use Rattle.calls.proofs.blocks.write_block.Goals.{After-read-size}
 use Rattle.calls.proofs.blocks.write_block.Goals as goal
 
-used : (c : After-read-size) → Used c.args.t.now c.args.n c.args.c c.args.a c.entry_of-d.result c.look-f.result c.read-size.result
-used c = record { sound = c.requires.0; entry = c.entry_of-d.ensures; seen = c.look-f.ensures; sized = c.read-size.ensures }
+used : (c : After-read-size) → Used c.args.t.now c.args.on.n c.args.on.me c.args.a c.entry_of-d.result c.look-f.result c.read-size.result
+used c = record { sound = c.requires.0.sound; entry = c.entry_of-d.ensures; seen = c.look-f.ensures; sized = c.read-size.ensures }
 
 pub returns-in_err-refuse : goal.returns-in_err-refuse
 returns-in_err-refuse c =
@@ -25,13 +25,10 @@ returns-in_err-refuse-2 c =
     write-refused _ _ _ _ _ _ _ _ c.from_residual-in_err-refuse-2.ensures.0 c.from_residual-in_err-refuse-2.ensures.1
     (use-passes u c.args.store.now c.args.b c.args.buffer.now c.in_ok-refuse.ensures c.in_ok-may_use.ensures c.in_err-refuse-2.ensures)
 
-pub overflow_mul-stretch : goal.overflow_mul-stretch
-overflow_mul-stretch c = record { fits = stretch-fits (used (goal.at.overflow_mul-stretch c).After-read-size) refl }
-
 pub write_store-requires : goal.write_store-requires
 write_store-requires c =
     let u = used (goal.at.write_store-requires c).After-read-size in
-    write-within u c.args.store.now c.args.b c.args.buffer.now c.in_ok-refuse.ensures c.in_ok-may_use.ensures c.in_ok-refuse-2.ensures c.requires.2 refl
+    write-within u c.args.store.now c.args.b c.args.buffer.now c.in_ok-refuse.ensures c.in_ok-may_use.ensures c.in_ok-refuse-2.ensures c.requires.1 refl
 
 pub overflow_add-b : goal.overflow_add-b
 overflow_add-b c =

@@ -24,7 +24,7 @@ spawn-requires c =
 pub release_process-requires : goal.release_process-requires
 release_process-requires c =
     let pre = c.requires in
-    (sound-here (goal.at.release_process-requires c).After-header_of-n, pre.1)
+    record { sound = sound-here (goal.at.release_process-requires c).After-header_of-n; handed = pre.1 }
 
 pub build_segment-requires : goal.build_segment-requires
 build_segment-requires c =
@@ -34,7 +34,7 @@ build_segment-requires c =
 pub rendezvous-requires : goal.rendezvous-requires
 rendezvous-requires c =
     let pre = c.requires in
-    (sound-here (goal.at.rendezvous-requires c).After-header_of-n, pre.1)
+    record { sound = sound-here (goal.at.rendezvous-requires c).After-header_of-n; handed = pre.1 }
 
 pub give_up-requires : goal.give_up-requires
 give_up-requires c =
@@ -44,7 +44,7 @@ give_up-requires c =
 pub set_access-requires : goal.set_access-requires
 set_access-requires c =
     let pre = c.requires in
-    (sound-here (goal.at.set_access-requires c).After-header_of-n, pre.1)
+    record { sound = sound-here (goal.at.set_access-requires c).After-header_of-n; handed = pre.1 }
 
 pub create-requires : goal.create-requires
 create-requires c =
@@ -59,12 +59,12 @@ or_self-s-requires c =
 pub foretold-x-requires : goal.foretold-x-requires
 foretold-x-requires c =
     let pre = c.requires in
-    (sound-here (goal.at.foretold-x-requires c).After-header_of-n, pre.1.told, pre.3)
+    (record { sound = sound-here (goal.at.foretold-x-requires c).After-header_of-n; told = pre.1.told }, pre.3)
 
 pub open-requires : goal.open-requires
 open-requires c =
     let pre = c.requires in
-    (sound-here (goal.at.open-requires c).After-header_of-n, pre.1, rw c.or_self-s.ensures at c.foretold-x.ensures)
+    (record { sound = sound-here (goal.at.open-requires c).After-header_of-n; handed = pre.1 }, rw c.or_self-s.ensures at c.foretold-x.ensures)
 
 pub give_up-requires-in-Close : goal.give_up-requires-in-Close
 give_up-requires-in-Close c =
@@ -74,32 +74,32 @@ give_up-requires-in-Close c =
 pub link-requires : goal.link-requires
 link-requires c =
     let pre = c.requires in
-    (sound-here (goal.at.link-requires c).After-header_of-n, pre.1)
+    record { sound = sound-here (goal.at.link-requires c).After-header_of-n; handed = pre.1 }
 
 pub unlink-requires : goal.unlink-requires
 unlink-requires c =
     let pre = c.requires in
-    (sound-here (goal.at.unlink-requires c).After-header_of-n, pre.1)
+    record { sound = sound-here (goal.at.unlink-requires c).After-header_of-n; handed = pre.1 }
 
 pub set_bits-requires : goal.set_bits-requires
 set_bits-requires c =
     let pre = c.requires in
-    (sound-here (goal.at.set_bits-requires c).After-header_of-n, pre.1)
+    record { sound = sound-here (goal.at.set_bits-requires c).After-header_of-n; handed = pre.1 }
 
 pub read_block-requires : goal.read_block-requires
 read_block-requires c =
     let pre = c.requires in
-    (sound-here (goal.at.read_block-requires c).After-header_of-n, pre.1, pre.2)
+    (record { sound = sound-here (goal.at.read_block-requires c).After-header_of-n; handed = pre.1 }, pre.2)
 
 pub write_block-requires : goal.write_block-requires
 write_block-requires c =
     let pre = c.requires in
-    (sound-here (goal.at.write_block-requires c).After-header_of-n, pre.1, pre.2)
+    (record { sound = sound-here (goal.at.write_block-requires c).After-header_of-n; handed = pre.1 }, pre.2)
 
 pub post-requires : goal.post-requires
 post-requires c =
     let pre = c.requires in
-    (sound-here (goal.at.post-requires c).After-header_of-n, pre.1)
+    record { sound = sound-here (goal.at.post-requires c).After-header_of-n; handed = pre.1 }
 
 pub receive-requires : goal.receive-requires
 receive-requires c =
@@ -109,27 +109,27 @@ receive-requires c =
 pub status-requires : goal.status-requires
 status-requires c =
     let pre = c.requires in
-    (sound-here (goal.at.status-requires c).After-header_of-n, pre.1)
+    record { sound = sound-here (goal.at.status-requires c).After-header_of-n; handed = pre.1 }
 
 pub access_of-requires : goal.access_of-requires
 access_of-requires c =
     let pre = c.requires in
-    (sound-here (goal.at.access_of-requires c).After-header_of-n, pre.1)
+    record { sound = sound-here (goal.at.access_of-requires c).After-header_of-n; handed = pre.1 }
 
 pub remap-requires : goal.remap-requires
 remap-requires c =
     let pre = c.requires in
-    (sound-here (goal.at.remap-requires c).After-header_of-n, pre.1)
+    record { sound = sound-here (goal.at.remap-requires c).After-header_of-n; handed = pre.1 }
 
 pub page_access-requires : goal.page_access-requires
 page_access-requires c =
     let pre = c.requires in
-    (sound-here (goal.at.page_access-requires c).After-header_of-n, pre.1)
+    record { sound = sound-here (goal.at.page_access-requires c).After-header_of-n; handed = pre.1 }
 
 pub regrade-requires : goal.regrade-requires
 regrade-requires c =
     let pre = c.requires in
-    (sound-here (goal.at.regrade-requires c).After-header_of-n, pre.1, pre.2, c.slot_made-q.ensures.copied (ap code_number c.in-Regrade.is))
+    (record { sound = sound-here (goal.at.regrade-requires c).After-header_of-n; handed = pre.1 }, pre.2, c.slot_made-q.ensures.copied (ap code_number c.in-Regrade.is))
 
 pub returns-in-Spawn : goal.returns-in-Spawn
 returns-in-Spawn c = plain-through _ _ (plain-1 _ _ _ _ _ _ (ap code_number c.in-Spawn.is) c.spawn.ensures _ _)

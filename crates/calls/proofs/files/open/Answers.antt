@@ -4,7 +4,7 @@ use borrow.Author.Tests.{eq-eqb, ne_eqb}
 use Rattle.calls.proofs.files.open.Goals as goal
 
 pub open_subtype-requires : goal.open_subtype-requires
-open_subtype-requires c = (c.requires.0, c.requires.1.matrix)
+open_subtype-requires c = (c.requires.0.sound, c.requires.0.handed.matrix)
 
 pub returns-then-class_of-eq-SUBTYPE_CLASS : goal.returns-then-class_of-eq-SUBTYPE_CLASS
 returns-then-class_of-eq-SUBTYPE_CLASS c =
@@ -13,7 +13,7 @@ returns-then-class_of-eq-SUBTYPE_CLASS c =
 
 pub open_file-requires : goal.open_file-requires
 open_file-requires c =
-    (c.requires.0, c.requires.1, rw c.or_self-s.ensures c.requires.2)
+    (c.requires.0, rw c.or_self-s.ensures c.requires.1)
 
 pub returns : goal.returns
 returns c =

@@ -1,35 +1,25 @@
 -- `mail::post` meets its contract: refused, delivered, or dropped without a word.
-use Rattle.calls.proofs.Posts.{room-told, Posted, posted, post-refused, post-delivered, post-dropped, post-done}
+use Rattle.calls.proofs.Posts.{Posted, posted, post-refused, post-delivered, post-dropped, post-done}
 use mathlib.Core.Path.{◌≡◌, sym, ◌∙◌}
 use Rattle.calls.specs.Refusing.{found}
 use Rattle.calls.proofs.Names.{sixteen}
 use Rattle.calls.proofs.mail.post.Goals.{After-may_post, In_ok-may_post}
 use Rattle.calls.proofs.mail.post.Goals as goal
 
-judged : (c : After-may_post) → Posted c.args.t.now c.args.n c.args.c c.args.a c.args.buffer.now
+judged : (c : After-may_post) → Posted c.args.t.now c.args.on.n c.args.on.me c.args.a c.args.buffer.now
     c.look-to.result c.read-waiting.result (found c.may_post.result)
 judged c =
-    posted c.requires.0 c.requires.1.matrix _ _ c.or_self-s.ensures c.look-to.ensures c.read-waiting.ensures
+    posted c.requires.sound c.requires.handed.matrix _ _ c.or_self-s.ensures c.look-to.ensures c.read-waiting.ensures
     c.may_write-allowed.ensures c.flow_at-flows.ensures c.may_post.ensures
 
 pub flow_at-flows-requires : goal.flow_at-flows-requires
 flow_at-flows-requires c =
-    sixteen _ c.requires.1.matrix
+    sixteen _ c.requires.handed.matrix
 
 pub returns-in_err-may_post : goal.returns-in_err-may_post
 returns-in_err-may_post c =
     post-refused (judged (goal.at.returns-in_err-may_post c).After-may_post) _ _ (c.in_err-may_post.ensures ∙ sym c.may_post.ensures)
     c.from_residual.ensures.0 c.from_residual.ensures.1
-
-pub or_self-me-requires : goal.or_self-me-requires
-or_self-me-requires c =
-    c.requires.0
-
-pub deliver-requires : goal.deliver-requires
-deliver-requires c = (
-  c.requires.0.known,
-  room-told c.look-to.result.present c.may_write-allowed.result c.read-waiting.result c.if-to-allowed.true,
-)
 
 none-found : (c : In_ok-may_post) → found c.may_post.result ≡ 0
 none-found c = c.may_post.ensures ∙ sym c.in_ok-may_post.ensures

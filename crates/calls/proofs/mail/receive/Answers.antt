@@ -1,5 +1,5 @@
 -- `mail::receive` meets its contract: the message is shown before the queue moves up.
-use Rattle.calls.proofs.Queues.{messages-within, receive-refused, receive-done}
+use Rattle.calls.proofs.Queues.{messages-near, messages-within, receive-refused, receive-done}
 use native.Mathlib.Omega.{arith}
 use Rattle.calls.proofs.mail.receive.Goals as goal
 
@@ -7,10 +7,8 @@ pub returns-in_err-refuse : goal.returns-in_err-refuse
 returns-in_err-refuse c =
     receive-refused _ _ _ c.read-waiting.ensures _ _ c.in_err-refuse.ensures c.from_residual.ensures.0 c.from_residual.ensures.1
 
-pub copy_within-requires : goal.copy_within-requires
-copy_within-requires c =
-    let within = messages-within c.requires _ _ c.record_at-from.ensures.0 c.write.ensures in
-    record { start_le_end = omega arith; in_bounds = omega (arith, within); dest_in_bounds = omega (arith, within); not_exhausted = tt }
+pub show-requires : goal.show-requires
+show-requires c = omega (arith, messages-near c.requires c.record_at-from.ensures.0)
 
 pub returns : goal.returns
 returns c =

@@ -95,25 +95,25 @@ module _ {t : List ℕ} {n : Header} {c : Caller} (sound : Sound t n c) (a b d :
 
 -- what the laws above say of the places where the code has judged it
 module _ (c : After-may_remap) (buffer : List ℕ) where
-  counted : found c.may_remap.result ≡ first_refusal (rule_at c.args.t.now (λ h q. remap h q c.args.c.slot
+  counted : found c.may_remap.result ≡ first_refusal (rule_at c.args.t.now (λ h q. remap h q c.args.on.me.slot
       c.args.incoming c.args.b c.args.outgoing buffer)).refusals
-  counted = c.may_remap.ensures ∙ number c.requires.0 _ _ _ buffer c.entry_of-s.ensures
+  counted = c.may_remap.ensures ∙ number c.requires.sound _ _ _ buffer c.entry_of-s.ensures
       c.entry_of-u.ensures c.look-g.ensures c.run_of-run.ensures
       c.map_of-map.ensures c.left-rest.ensures
 
   clear-low : found c.may_remap.result ≡ 0 → c.args.incoming ≤ entries
-  clear-low z = low c.requires.0 _ _ _ buffer c.entry_of-s.ensures
+  clear-low z = low c.requires.sound _ _ _ buffer c.entry_of-s.ensures
       c.entry_of-u.ensures c.look-g.ensures c.run_of-run.ensures
       c.map_of-map.ensures c.left-rest.ensures (sym c.may_remap.ensures ∙ z)
 
   written : found c.may_remap.result ≡ 0 → {to t' : List ℕ}
       → to ≡ taken_by c.left-rest.result (ltb c.args.incoming entries) (c.args.incoming + 1) c.args.b
       c.run_of-run.result
-      → t' ≡ write (configuration c.args.t.now) c.args.t.now (pages_set c.args.c.slot (held to))
+      → t' ≡ write (configuration c.args.t.now) c.args.t.now (pages_set c.args.on.me.slot (held to))
       → t' ≡ write (configuration c.args.t.now) c.args.t.now (rule_at c.args.t.now
-      (λ h q. remap h q c.args.c.slot c.args.incoming c.args.b c.args.outgoing buffer)
+      (λ h q. remap h q c.args.on.me.slot c.args.incoming c.args.b c.args.outgoing buffer)
       ).effects.words
-  written z = done c.requires.0 _ _ _ buffer c.entry_of-s.ensures
+  written z = done c.requires.sound _ _ _ buffer c.entry_of-s.ensures
       c.entry_of-u.ensures c.look-g.ensures c.run_of-run.ensures
       c.map_of-map.ensures c.left-rest.ensures (sym c.may_remap.ensures ∙ z) refl
 
@@ -126,10 +126,6 @@ returns-in_err-may_remap c =
 pub overflow_add-incoming : goal.overflow_add-incoming
 overflow_add-incoming c =
     record { fits = omega (arith, clear-low (goal.at.overflow_add-incoming c).After-may_remap [] (c.may_remap.ensures ∙ sym c.in_ok-may_remap.ensures)) }
-
-pub set_pages-requires : goal.set_pages-requires
-set_pages-requires c =
-    c.requires.0.known
 
 pub returns : goal.returns
 unfolding remap

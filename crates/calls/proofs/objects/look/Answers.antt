@@ -16,13 +16,13 @@ use Rattle.calls.proofs.objects.look.Goals as goal
 slot-in : (c : In-Some) → c.in-Some.x.slot < slots (configuration c.args.t.now)
     (kind_of c.args.kind)
 slot-in c =
-    named_in c.requires.0.known _ _ (sym c.name_of.ensures ∙ c.in-Some.is)
+    named_in c.requires.sound.known _ _ (sym c.name_of.ensures ∙ c.in-Some.is)
 
 -- past the form the object's record is there, and the caller's is
 there : (c : After-record_at-at) (j : ℕ) → let args = c.args in j < record_words (kind_of
     args.kind) → c.record_at-at.result + j < length args.t.now
 there c j l =
-    record-there c.requires.0 _ _ j (slot-in (goal.at.After-record_at-at c).In-Some) l c.record_at-at.ensures.0
+    record-there c.requires.sound _ _ j (slot-in (goal.at.After-record_at-at c).In-Some) l c.record_at-at.ensures.0
 
 -- as far as the words that every record has
 front : (c : After-record_at-at) (j : ℕ) → j ≤ group → c.record_at-at.result + j < length c.args.t.now
@@ -31,7 +31,7 @@ front c j l =
 
 home-there : (c : After-record_at-mine) (j : ℕ) → j ≤ group → c.record_at-mine.result + j < length c.args.t.now
 home-there c j l =
-    let sound = c.requires.0 in
+    let sound = c.requires.sound in
     record-there sound _ _ j sound.caller (omega (arith, l)) c.record_at-mine.ensures.0
 
 near : (c : After-bits_word-bits_at) → c.record_at-at.result + c.bits_word-bits_at.result < 2 ^ 45
@@ -42,12 +42,12 @@ near c =
 pub returns-in_default : goal.returns-in_default
 returns-in_default c =
     let args = c.args in
-    not_seen (configuration args.t.now) (words_of args.t.now) args.n args.c.slot (kind_of args.kind) args.s
+    not_seen (configuration args.t.now) (words_of args.t.now) args.on.n args.on.me.slot (kind_of args.kind) args.s
     (sym c.name_of.ensures ∙ c.in_default.is) c.unseen.ensures
 
 pub cell_in-cell-requires : goal.cell_in-cell-requires
 cell_in-cell-requires c =
-    slot-few c.requires.0.known _ _ (slot-in (goal.at.cell_in-cell-requires c).In-Some)
+    slot-few c.requires.sound.known _ _ (slot-in (goal.at.cell_in-cell-requires c).In-Some)
 
 pub bounds-t-at : goal.bounds-t-at
 bounds-t-at c = front (goal.at.bounds-t-at c).After-record_at-at live (omega arith)
@@ -81,12 +81,12 @@ bounds-t-mine-2 c = home-there (goal.at.bounds-t-mine-2 c).After-record_at-mine 
 
 pub flow_at-flows-requires : goal.flow_at-flows-requires
 flow_at-flows-requires c =
-    sixteen _ c.requires.1.matrix
+    sixteen _ c.requires.handed.matrix
 
 pub returns : goal.returns
 returns c =
-    let known = c.requires.0.known in let place = c.record_at-at.ensures.0 in let home = c.record_at-mine.ensures.0 in
-    seen c.requires.0 c.requires.1.matrix _ _ (sym c.name_of.ensures ∙ c.in-Some.is) (cell-is known _ _ c.requires.1.told
+    let known = c.requires.sound.known in let place = c.record_at-at.ensures.0 in let home = c.record_at-mine.ensures.0 in
+    seen c.requires.sound c.requires.handed.matrix _ _ (sym c.name_of.ensures ∙ c.in-Some.is) (cell-is known _ _ c.requires.handed.told
     (slot-in (goal.at.returns c).In-Some) c.cell_in-cell.ensures) (see known _ _ _ place refl) (see known _ _ _ place refl) (see known _ _ _ place refl)
     (see known _ _ _ place refl) c.bits_word-bits_at.ensures (see known _ _ _ place refl) (see known _ _ _ home refl)
     (see known _ _ _ home refl) c.flow_at-flows.ensures c.rights-rights.ensures

@@ -7,4 +7,4 @@ use Rattle.calls.proofs.MapLaws.{pages_to}
 use Rattle.calls.proofs.pages.set_pages.Given as goal
 
 abbrev pub invariant-loop-g : goal.invariant-loop-g
-invariant-loop-g l = l.t ≡ write (configuration l.initial.t) l.initial.t (pages_to l.p (held l.m) l.g)
+invariant-loop-g l = l.t ≡ write (configuration l.initial.t) l.initial.t (pages_to l.p (held l.fn.m) l.g)

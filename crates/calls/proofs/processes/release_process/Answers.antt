@@ -61,11 +61,11 @@ module _ {t : List ℕ} {n : Header} {c : Caller} (sound : Sound t n c) (a : ℕ
 
 -- what the code finds is the rule's first refusal
 counted : (c : After-own) (buffer : List ℕ)
-    → found c.own.result ≡ first_refusal (rule_at c.args.t.now (λ h r. release_process h r c.args.c.slot c.args.a buffer)).refusals
-counted c buffer = c.own.ensures ∙ number c.requires.0 c.args.a c.or_self-s.ensures c.look-q.ensures buffer
+    → found c.own.result ≡ first_refusal (rule_at c.args.t.now (λ h r. release_process h r c.args.on.me.slot c.args.a buffer)).refusals
+counted c buffer = c.own.ensures ∙ number c.requires.sound c.args.a c.or_self-s.ensures c.look-q.ensures buffer
 
-held : (c : In_ok-own) (k : Kind) → holdable k ≡ true → Holding c.args.t.now c.args.n c.args.c k c.look-q.result.slot
-held c = holding c.requires.0 c.args.a c.or_self-s.ensures c.look-q.ensures (sym c.in_ok-own.ensures)
+held : (c : In_ok-own) (k : Kind) → holdable k ≡ true → Holding c.args.t.now c.args.on.n c.args.on.me k c.look-q.result.slot
+held c = holding c.requires.sound c.args.a c.or_self-s.ensures c.look-q.ensures (sym c.in_ok-own.ensures)
 
 pub returns-in_err-own : goal.returns-in_err-own
 returns-in_err-own c =
@@ -84,5 +84,5 @@ unfolding release_process
 returns c =
     let x = goal.at.returns c in
     λ buffer. left-told _ (λ h r. release_process h r _ c.args.a buffer) (c.in_ok-own.ensures ∙ sym c.own.ensures ∙ counted x.After-own buffer) refl refl
-    (words c.requires.0 c.args.a c.or_self-s.ensures c.look-q.ensures (sym c.in_ok-own.ensures) buffer
+    (words c.requires.sound c.args.a c.or_self-s.ensures c.look-q.ensures (sym c.in_ok-own.ensures) buffer
     (released-is _ (held x.In_ok-own file refl) c.drop_entries.ensures c.drop_entries-2.ensures c.record_at.ensures.0 c.free_record.ensures))

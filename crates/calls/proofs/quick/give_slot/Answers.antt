@@ -7,13 +7,13 @@ use Rattle.calls.proofs.quick.give_slot.Goals as goal
 
 pub list_at-at-requires : goal.list_at-at-requires
 list_at-at-requires c =
-    (c.requires.0.known, home-in c.requires.0)
+    (c.requires.sound.known, home-in c.requires.sound)
 
 pub overflow_mul-serial : goal.overflow_mul-serial
 overflow_mul-serial c =
     omega (
       arith,
-      give-small c.requires.0 (kind_of c.args.kind) c.args.s c.read-live.result c.read-serial.result
+      give-small c.requires.sound (kind_of c.args.kind) c.args.s c.read-live.result c.read-serial.result
           c.is_here.ensures c.if-is_here.true c.index_of-i.ensures c.if-live-serial.true,
     )
 
@@ -21,14 +21,14 @@ pub overflow_add-serial : goal.overflow_add-serial
 overflow_add-serial c =
     omega (
       arith,
-      give-small c.requires.0 (kind_of c.args.kind) c.args.s c.read-live.result c.read-serial.result
+      give-small c.requires.sound (kind_of c.args.kind) c.args.s c.read-live.result c.read-serial.result
           c.is_here.ensures c.if-is_here.true c.index_of-i.ensures c.if-live-serial.true,
     )
 
 pub returns-then-live-serial : goal.returns-then-live-serial
 returns-then-live-serial c =
     give-told _ _ _ _ _ _ c.is_here.ensures c.if-is_here.true c.index_of-i.ensures c.read-live.ensures c.read-serial.ensures
-    c.if-live-serial.true c.requires.0.home c.list_at-at.ensures c.give_back.ensures
+    c.if-live-serial.true c.requires.sound.home c.list_at-at.ensures c.give_back.ensures
 
 pub returns-else-live-serial : goal.returns-else-live-serial
 returns-else-live-serial c =

@@ -12,10 +12,10 @@ cell_in-requires c =
 
 pub returns-then-is_seid : goal.returns-then-is_seid
 returns-then-is_seid c =
-    here-told c.requires.0 (kind_of c.args.kind) c.args.s c.class.ensures c.slots.ensures c.requires.1
+    here-told c.requires.sound (kind_of c.args.kind) c.args.s c.class.ensures c.slots.ensures c.requires.told
     (sym c.is_seid.ensures ∙ c.if-is_seid.true) c.index_of.ensures c.cell_in.ensures
 
 pub returns : goal.returns
 returns c =
-    not-here c.requires.0 (kind_of c.args.kind) c.args.s c.class.ensures c.slots.ensures
+    not-here c.requires.sound (kind_of c.args.kind) c.args.s c.class.ensures c.slots.ensures
     (sym c.is_seid.ensures ∙ c.if-is_seid.false)

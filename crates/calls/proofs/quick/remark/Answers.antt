@@ -8,10 +8,10 @@ use Rattle.calls.proofs.quick.remark.Goals as goal
 
 pub mark_of-at-requires : goal.mark_of-at-requires
 mark_of-at-requires c = (
-  c.requires.0.known,
-  home-in c.requires.0,
-  near-self c.requires.0,
-  near-told c.requires.0 file _ c.is_here.ensures c.if-is_here.true c.index_of.ensures,
+  c.requires.sound.known,
+  home-in c.requires.sound,
+  near-self c.requires.sound,
+  near-told c.requires.sound file _ c.is_here.ensures c.if-is_here.true c.index_of.ensures,
 )
 
 pub returns-then-holds : goal.returns-then-holds
@@ -27,4 +27,4 @@ returns-else-holds c =
 pub returns-else-is_here : goal.returns-else-is_here
 returns-else-is_here c =
     let args = c.args in
-    marks-none _ args.me.slot args.s args.d args.w.now c.is_here.ensures c.if-is_here.false args.holds
+    marks-none _ args.on.me.slot args.s args.d args.w.now c.is_here.ensures c.if-is_here.false args.holds

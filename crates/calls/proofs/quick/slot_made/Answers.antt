@@ -2,5 +2,5 @@
 use Rattle.calls.proofs.QuickPlaces.{made-nowhere}
 use Rattle.calls.proofs.quick.slot_made.Goals as goal
 
-pub returns-then-n-cell : goal.returns-then-n-cell
-returns-then-n-cell c = made-nowhere _ _ _ _ c.requires.0 c.cell_made-cell.ensures c.if-n-cell.true
+pub returns-then-on-cell : goal.returns-then-on-cell
+returns-then-on-cell c = made-nowhere _ _ _ _ c.requires.0 c.cell_made-cell.ensures c.if-on-cell.true

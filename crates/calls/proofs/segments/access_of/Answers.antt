@@ -48,8 +48,8 @@ module _ {t : List ℕ} {n : Header} {c : Caller} (sound : Sound t n c) (a : ℕ
 
 -- what the code finds is the rule's first refusal
 counted : (c : After-refuse) (buffer : List ℕ) → found c.refuse.result ≡ first_refusal (rule_at c.args.t.now
-    (λ h q. access_of h q c.args.c.slot c.args.a buffer)).refusals
-counted c buffer = c.refuse.ensures ∙ number c.requires.0 c.args.a buffer c.entry_of-d.ensures c.look-g.ensures
+    (λ h q. access_of h q c.args.on.me.slot c.args.a buffer)).refusals
+counted c buffer = c.refuse.ensures ∙ number c.requires.sound c.args.a buffer c.entry_of-d.ensures c.look-g.ensures
 
 pub returns-in_err-refuse : goal.returns-in_err-refuse
 returns-in_err-refuse c =
@@ -71,5 +71,5 @@ pub returns : goal.returns
 unfolding access_of
 returns c =
     λ buffer. left-told _ (λ h q. access_of h q _ _ buffer) (c.in_ok-refuse.ensures ∙ sym c.refuse.ensures ∙ counted (goal.at.returns c).After-refuse buffer)
-    (limits (goal.at.returns c).After-access ∙ result c.requires.0 c.args.a buffer c.entry_of-d.ensures c.look-g.ensures (sym c.in_ok-refuse.ensures))
+    (limits (goal.at.returns c).After-access ∙ result c.requires.sound c.args.a buffer c.entry_of-d.ensures c.look-g.ensures (sym c.in_ok-refuse.ensures))
     refl refl

@@ -13,11 +13,11 @@ pub returns-then-entry_of-s : goal.returns-then-entry_of-s
 unfolding already_held
 returns-then-entry_of-s c =
     let a = c.args in
-    sym (some_of entries (λ d. eqb (words_of a.t.now (at process a.c.slot (held_at segment d))) a.s) c.loop-d.d (omega arith)
+    sym (some_of entries (λ d. eqb (words_of a.t.now (at process a.on.me.slot (held_at segment d))) a.s) c.loop-d.d (omega arith)
     (eq-eqb _ a.s (ap (λ x. x.held) (sym c.entry_of.ensures) ∙ c.if-entry_of-s.true)))
 
 pub returns : goal.returns
 unfolding already_held
 returns c =
     let a = c.args in
-    sym (some-none entries (λ d. eqb (words_of a.t.now (at process a.c.slot (held_at segment d))) a.s) (λ k l. c.loop-d.invariant k (omega arith)))
+    sym (some-none entries (λ d. eqb (words_of a.t.now (at process a.on.me.slot (held_at segment d))) a.s) (λ k l. c.loop-d.invariant k (omega arith)))

@@ -8,4 +8,4 @@ use Rattle.calls.specs.World.{words_of}
 use Rattle.calls.proofs.segments.already_held.Given as goal
 
 abbrev pub invariant-loop-d : goal.invariant-loop-d
-invariant-loop-d l = (k : ℕ) → k < l.d → eqb (words_of l.t (at process l.c.slot (held_at segment k))) l.s ≡ false
+invariant-loop-d l = (k : ℕ) → k < l.d → eqb (words_of l.t (at process l.on.me.slot (held_at segment k))) l.s ≡ false

@@ -135,42 +135,42 @@ by-find c f = f ∙ c.find.ensures ∙ rw c.asks_write.ensures
 by-shared : (c : After-refuse-2) → {e : ℕ} → e ≡ found c.refuse-2.result → e ≡ first_refusal (shared (words_of c.args.t.now) c.args.b c.look-g.result)
 by-shared c f = f ∙ c.refuse-2.ensures ∙ rw (c.lacks.ensures, c.asks_read.ensures, c.asks_write-2.ensures, c.read-sharable.ensures)
 
-by-held : (c : After-refuse-3) → {e : ℕ} → e ≡ found c.refuse-3.result → e ≡ first_refusal (held (words_of c.args.t.now) c.args.c.slot c.or_self-s.result)
+by-held : (c : After-refuse-3) → {e : ℕ} → e ≡ found c.refuse-3.result → e ≡ first_refusal (held (words_of c.args.t.now) c.args.on.me.slot c.or_self-s.result)
 by-held c f = f ∙ c.refuse-3.ensures ∙ rw c.already_held.ensures
 
 -- the code's list is the rule's
 by-rule : (c : After-look-g) (buffer : List ℕ)
-    → first_refusal (tests (words_of c.args.t.now) c.args.c.slot c.or_self-s.result c.args.b c.look-g.result)
-    ≡ first_refusal (rule_at c.args.t.now (λ h q. rendezvous h q c.args.c.slot c.args.a c.args.b buffer)).refusals
-by-rule c buffer = number c.requires.0 c.args.a _ buffer c.or_self-s.ensures c.look-g.ensures
+    → first_refusal (tests (words_of c.args.t.now) c.args.on.me.slot c.or_self-s.result c.args.b c.look-g.result)
+    ≡ first_refusal (rule_at c.args.t.now (λ h q. rendezvous h q c.args.on.me.slot c.args.a c.args.b buffer)).refusals
+by-rule c buffer = number c.requires.sound c.args.a _ buffer c.or_self-s.ensures c.look-g.ensures
 
 -- past the last step none of the list holds
-none-found : (c : In_ok-d) → 0 ≡ first_refusal (tests (words_of c.args.t.now) c.args.c.slot c.or_self-s.result c.args.b c.look-g.result)
+none-found : (c : In_ok-d) → 0 ≡ first_refusal (tests (words_of c.args.t.now) c.args.on.me.slot c.or_self-s.result c.args.b c.look-g.result)
 none-found c =
     let x = goal.at.In_ok-d c in
-    past-held (words_of c.args.t.now) c.args.c.slot c.or_self-s.result c.args.b c.look-g.result (by-asked x.After-refuse (c.in_ok-refuse.ensures ∙ sym c.refuse.ensures))
+    past-held (words_of c.args.t.now) c.args.on.me.slot c.or_self-s.result c.args.b c.look-g.result (by-asked x.After-refuse (c.in_ok-refuse.ensures ∙ sym c.refuse.ensures))
     (by-find x.After-find (c.in_ok-find.ensures ∙ sym c.find.ensures))
     (by-shared x.After-refuse-2 (c.in_ok-refuse-2.ensures ∙ sym c.refuse-2.ensures))
     (by-held x.After-refuse-3 (c.in_ok-refuse-3.ensures ∙ sym c.refuse-3.ensures))
-    (entry-some (words_of c.args.t.now) segment c.args.c.slot _ [] (sym c.in_ok-d.ensures.ok_part ∙ c.free_entry.ensures)).1
+    (entry-some (words_of c.args.t.now) segment c.args.on.me.slot _ [] (sym c.in_ok-d.ensures.ok_part ∙ c.free_entry.ensures)).1
 
 pub returns-in_err-refuse : goal.returns-in_err-refuse
 returns-in_err-refuse c =
     let x = goal.at.returns-in_err-refuse c in
-    λ buffer. left-stopped _ _ _ _ (at-asked (words_of c.args.t.now) c.args.c.slot c.or_self-s.result c.args.b c.look-g.result _ (by-asked x.After-refuse (c.in_err-refuse.ensures ∙ sym c.refuse.ensures))
+    λ buffer. left-stopped _ _ _ _ (at-asked (words_of c.args.t.now) c.args.on.me.slot c.or_self-s.result c.args.b c.look-g.result _ (by-asked x.After-refuse (c.in_err-refuse.ensures ∙ sym c.refuse.ensures))
     ∙ by-rule x.After-look-g buffer) c.from_residual.ensures.0 c.from_residual.ensures.1
 
 pub returns-in_err-find : goal.returns-in_err-find
 returns-in_err-find c =
     let x = goal.at.returns-in_err-find c in
-    λ buffer. left-stopped _ _ _ _ (at-sought (words_of c.args.t.now) c.args.c.slot c.or_self-s.result c.args.b c.look-g.result (by-asked x.After-refuse (c.in_ok-refuse.ensures ∙ sym c.refuse.ensures)) _
+    λ buffer. left-stopped _ _ _ _ (at-sought (words_of c.args.t.now) c.args.on.me.slot c.or_self-s.result c.args.b c.look-g.result (by-asked x.After-refuse (c.in_ok-refuse.ensures ∙ sym c.refuse.ensures)) _
     (by-find x.After-find (c.in_err-find.ensures ∙ sym c.find.ensures))
     ∙ by-rule x.After-look-g buffer) c.from_residual-in_err-find.ensures.0 c.from_residual-in_err-find.ensures.1
 
 pub returns-in_err-refuse-2 : goal.returns-in_err-refuse-2
 returns-in_err-refuse-2 c =
     let x = goal.at.returns-in_err-refuse-2 c in
-    λ buffer. left-stopped _ _ _ _ (at-shared (words_of c.args.t.now) c.args.c.slot c.or_self-s.result c.args.b c.look-g.result (by-asked x.After-refuse (c.in_ok-refuse.ensures ∙ sym c.refuse.ensures))
+    λ buffer. left-stopped _ _ _ _ (at-shared (words_of c.args.t.now) c.args.on.me.slot c.or_self-s.result c.args.b c.look-g.result (by-asked x.After-refuse (c.in_ok-refuse.ensures ∙ sym c.refuse.ensures))
     (by-find x.After-find (c.in_ok-find.ensures ∙ sym c.find.ensures)) _
     (by-shared x.After-refuse-2 (c.in_err-refuse-2.ensures ∙ sym c.refuse-2.ensures))
     ∙ by-rule x.After-look-g buffer) c.from_residual-in_err-refuse-2.ensures.0 c.from_residual-in_err-refuse-2.ensures.1
@@ -178,7 +178,7 @@ returns-in_err-refuse-2 c =
 pub returns-in_err-refuse-3 : goal.returns-in_err-refuse-3
 returns-in_err-refuse-3 c =
     let x = goal.at.returns-in_err-refuse-3 c in
-    λ buffer. left-stopped _ _ _ _ (at-held (words_of c.args.t.now) c.args.c.slot c.or_self-s.result c.args.b c.look-g.result (by-asked x.After-refuse (c.in_ok-refuse.ensures ∙ sym c.refuse.ensures))
+    λ buffer. left-stopped _ _ _ _ (at-held (words_of c.args.t.now) c.args.on.me.slot c.or_self-s.result c.args.b c.look-g.result (by-asked x.After-refuse (c.in_ok-refuse.ensures ∙ sym c.refuse.ensures))
     (by-find x.After-find (c.in_ok-find.ensures ∙ sym c.find.ensures))
     (by-shared x.After-refuse-2 (c.in_ok-refuse-2.ensures ∙ sym c.refuse-2.ensures)) _
     (by-held x.After-refuse-3 (c.in_err-refuse-3.ensures ∙ sym c.refuse-3.ensures))
@@ -188,11 +188,11 @@ pub returns-in_err-d : goal.returns-in_err-d
 returns-in_err-d c =
     let x = goal.at.returns-in_err-d c in
     λ buffer. left-stopped _ _ _ _ (error-named _ _ _ c.in_err-d.ensures.value
-    ∙ past-held (words_of c.args.t.now) c.args.c.slot c.or_self-s.result c.args.b c.look-g.result (by-asked x.After-refuse (c.in_ok-refuse.ensures ∙ sym c.refuse.ensures))
+    ∙ past-held (words_of c.args.t.now) c.args.on.me.slot c.or_self-s.result c.args.b c.look-g.result (by-asked x.After-refuse (c.in_ok-refuse.ensures ∙ sym c.refuse.ensures))
     (by-find x.After-find (c.in_ok-find.ensures ∙ sym c.find.ensures))
     (by-shared x.After-refuse-2 (c.in_ok-refuse-2.ensures ∙ sym c.refuse-2.ensures))
     (by-held x.After-refuse-3 (c.in_ok-refuse-3.ensures ∙ sym c.refuse-3.ensures))
-    (entry-none (words_of c.args.t.now) segment c.args.c.slot [] (sym c.in_err-d.ensures.ok_part ∙ c.free_entry.ensures))
+    (entry-none (words_of c.args.t.now) segment c.args.on.me.slot [] (sym c.in_err-d.ensures.ok_part ∙ c.free_entry.ensures))
     ∙ by-rule x.After-look-g buffer) c.from_residual-in_err-d.ensures.0 c.from_residual-in_err-d.ensures.1
 
 pub take_up-requires : goal.take_up-requires
@@ -201,7 +201,7 @@ take_up-requires c = (
   c.record_at-object.ensures.1,
   omega (
     arith,
-    one-fits c.requires.0 segment c.look-g.result.slot refl (within c.requires.0 c.args.a c.args.b [] c.or_self-s.ensures c.look-g.ensures
+    one-fits c.requires.sound segment c.look-g.result.slot refl (within c.requires.sound c.args.a c.args.b [] c.or_self-s.ensures c.look-g.ensures
         (sym (none-found (goal.at.take_up-requires c).In_ok-d))) c.record_at-object.ensures.0,
   ),
 )
@@ -210,8 +210,8 @@ pub returns : goal.returns
 unfolding rendezvous
 returns c =
     let none = none-found (goal.at.returns c).In_ok-d in
-    let free = (entry-some (words_of c.args.t.now) segment c.args.c.slot _ [] (sym c.in_ok-d.ensures.ok_part ∙ c.free_entry.ensures)).0 in
+    let free = (entry-some (words_of c.args.t.now) segment c.args.on.me.slot _ [] (sym c.in_ok-d.ensures.ok_part ∙ c.free_entry.ensures)).0 in
     λ buffer. left-told _ (λ h q. rendezvous h q _ c.args.a c.args.b buffer) (none ∙ by-rule (goal.at.returns c).After-look-g buffer)
     free refl
-    (c.take_up.ensures ∙ words c.requires.0 c.args.a c.args.b buffer c.or_self-s.ensures c.look-g.ensures (sym none)
+    (c.take_up.ensures ∙ words c.requires.sound c.args.a c.args.b buffer c.or_self-s.ensures c.look-g.ensures (sym none)
     free c.entry_at-entry.ensures.0 c.record_at-object.ensures.0)

@@ -54,11 +54,11 @@ stored {t} known p a b place = ap (λ (i : ℕ). set t i b) (omega (arith, spot 
 
 -- what the code finds is the rule's first refusal
 counted : (c : After-refuse) (buffer : List ℕ) → found c.refuse.result ≡ first_refusal (rule_at c.args.t.now
-    (λ h q. set_access h q c.args.c.slot c.args.a c.args.b buffer)).refusals
+    (λ h q. set_access h q c.args.on.me.slot c.args.a c.args.b buffer)).refusals
 counted c buffer =
     c.refuse.ensures
     ∙ rw (c.valid_access.ensures, c.asks_write.ensures, c.lacks.ensures, c.asks_read.ensures, c.asks_write-2.ensures)
-    (number c.requires.0 _ _ buffer c.entry_of-d.ensures c.look-g.ensures)
+    (number c.requires.sound _ _ buffer c.entry_of-d.ensures c.look-g.ensures)
 
 pub returns-in_err-refuse : goal.returns-in_err-refuse
 returns-in_err-refuse c =
@@ -69,5 +69,5 @@ pub returns : goal.returns
 unfolding set_access
 returns c =
     λ buffer. left-told _ (λ h q. set_access h q _ _ _ buffer) (c.in_ok-refuse.ensures ∙ sym c.refuse.ensures ∙ counted (goal.at.returns c).After-refuse buffer)
-    refl refl (c.put.ensures ∙ stored c.requires.0.known _ _ _
+    refl refl (c.put.ensures ∙ stored c.requires.sound.known _ _ _
     c.entry_at.ensures.0)
