@@ -90,7 +90,7 @@ pub(crate) fn cell_in(hall: &[u8; HALL_BYTES], kind: Kind, i: u32) -> u32
 }
 
 // What the caller sees of it: its slot and cell, whether that is the caller's own, whether what it holds may flow to the caller, whether the slot is live with that
-// serial, whether the owners are one, and the caller's rights today. What names nothing has a form too, and is seen as absent and allowed nothing: with an Option in place of
+// serial, whether the owners are one, and the caller's rights today. What names nothing is seen too, as not formed, absent and allowed nothing: with an Option in place of
 // `formed` each call's list of refusals would be cut in two where it is first looked at, and stand less as in the rules.
 #[derive(Clone, Copy)]
 pub(crate) struct Seen {

@@ -310,7 +310,8 @@ fn follow(
     }
 }
 
-// A call by its name, and the working slice after it, where one is lent. The dispatch is called in this one place, so that the compiler lays it in here.
+// A call by its name, and the working slice after it, where one is lent. The dispatch is called in this one place of the text; this function
+// is laid into the single call and the loops of the trays for speed: with it, `run` and `call_judged` out of line a tray on the small table took half as long again.
 #[inline(always)]
 pub(crate) fn carry_out_by(
     t: &mut [u32],

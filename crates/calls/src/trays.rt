@@ -1,4 +1,4 @@
-// What calls by the tray are made of: the judging of a tray, and the run of one record. The records are lent to `tray` alone.
+// What calls by the tray are made of: the judging of a tray, and the run of one record. The records are lent to `tray` and `quick_tray` alone.
 ghost use Rattle.std.specs.Prelude.{◌≡◌, cond, [], ◌<◌, eqb, ltb};
 ghost use Rattle.rules.specs.Words.{tab_from};
 ghost use Rattle.rules.specs.Layout.{max_cells};
