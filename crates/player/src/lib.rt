@@ -71,6 +71,13 @@ fn take_in(rt: &HostRuntime, input: &mut [u8]) -> Result<usize, Failed>
     rt.stdin().read(input).map_err(Failed::Read)
 }
 
+// All output goes by this function: it hands on the whole text that it is lent, and says how long that is. What is counted is what was lent.
+fn put_out(rt: &HostRuntime, text: &[u8]) -> (usize, Result<(), Failed>)
+    ensures { result.0 ≡ length text.now }
+{
+    (text.len(), rt.write_all(text).map_err(Failed::Write))
+}
+
 impl Player {
     fn new() -> Player
         ensures { Fresh result }
@@ -90,13 +97,14 @@ impl Player {
         }
     }
 
-    // All output goes by this function: it hands on the first n bytes of it, and counts them.
+    // Hands on the first n bytes of the output, and counts them.
     fn hand_on(&mut self, rt: &HostRuntime, n: usize) -> Result<(), Failed>
         requires { n ≤ length self.old.out }
         ensures { self.new ≡ counted self.old n }
     {
-        self.handed = self.handed.wrapping_add(n as u64);
-        rt.write_all(&self.out[..n]).map_err(Failed::Write)
+        let (bytes, written) = put_out(rt, &self.out[..n]);
+        self.handed = self.handed.wrapping_add(bytes as u64);
+        written
     }
 
     // Plays the first n bytes of the input's piece, and hands on their text each time that the output is full, and at the end.
@@ -105,6 +113,7 @@ impl Player {
         ensures { (place : ℕ) × Pieced self.old n place self.new × OnOk result (n ≤ place) }
     {
         let mut from = 0;
+        // No `for`: each stretch says where the next begins.
         while from < n {
             let r = session::play(
                 self.session,
