@@ -1,15 +1,14 @@
 -- Digits: the only one, and one after those of the tenth; the two hex digits of one more byte.
 use mathlib.Core.List.{List, [], ◌∷◌, ◌++◌}
 use mathlib.Core.Path.{◌≡◌, refl, sym, ap}
-use Prim.Native.Nat.{ℕ, zero, suc, ◌+◌, ◌/◌, ◌%◌, ◌^◌, ◌<◌, ◌≤◌}
+use Prim.Native.Nat.{ℕ, suc, ◌+◌, ◌/◌, ◌%◌, ◌^◌, ◌<◌, ◌≤◌}
 use native.Mathlib.Omega.{arith}
-use native.Mathlib.Decide.{dec_lt}
-use native.Mathlib.Nat.{pow-suc, div-lt_iff_lt-mul}
 use lib.Dec.{lit≤}
 use lib.ListN.{length, take, get_or}
 use borrow.Author.Tests.{lt-ltb, le-ltb}
 use Rattle.std.proofs.lemmas.List.{take_more}
 use Rattle.rules.specs.Replay.{decimal_in, decimal, hex_digit, hex}
+use Rattle.numerals.proofs.Digits.{roomy}
 
 module _ (k v : ℕ) where
   only-digit : v < 10 → decimal_in (suc k) v ≡ (48 + v) ∷ []
@@ -20,22 +19,13 @@ module _ (k v : ℕ) where
   unfolding decimal_in
   last-digit h = rw (le-ltb v 10 h)
 
--- with room for the digits, more room changes nothing
-roomy : (k v : ℕ) → v < 10 ^ suc k → decimal_in (suc (suc k)) v ≡ decimal_in (suc k) v
-roomy zero v h = rw (only-digit 1 v, only-digit 0 v)
-roomy (suc k) v h = elim (dec_lt v 10) [
-  | yes l ↦ rw (only-digit (suc (suc k)) v l, only-digit (suc k) v l)
-  | no n ↦
-      let m : 10 ≤ v = omega arith in
-      let tenth : v / 10 < 10 ^ suc k = (div-lt_iff_lt-mul {k = 10} {x = v} {y = 10 ^ suc k} (lit≤ tt)).1 (rw pow-suc at h) in
-      rw (last-digit (suc (suc k)) v m, last-digit (suc k) v m, roomy k (v / 10) tenth)
-]
-
 pub one-digit : (v : ℕ) → v < 10 → (48 + v) ∷ [] ≡ decimal v
 one-digit v h = sym (only-digit 19 v h)
 
 pub more-digits : (v : ℕ) → 10 ≤ v → v < 2 ^ 64 → decimal (v / 10) ++ ((48 + v % 10) ∷ []) ≡ decimal v
-more-digits v h l = rw (roomy 18 (v / 10) (omega arith)) (sym (last-digit 19 v h))
+more-digits v h l =
+    let room = roomy 10 (lit≤ tt) decimal_in (λ v. (48 + v) ∷ []) (λ v l. l ++ ((48 + v % 10) ∷ [])) only-digit last-digit in
+    rw (room 18 (v / 10) (omega arith)) (sym (last-digit 19 v h))
 
 -- ---- hex
 hex-append : (s : List ℕ) (b : ℕ) → hex (s ++ (b ∷ [])) ≡ hex s ++ (hex_digit (b / 16) ∷ hex_digit (b % 16) ∷ [])
