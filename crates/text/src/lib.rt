@@ -9,8 +9,11 @@ ghost use Rattle.output.specs.Wrote.{Wrote};
 
 use rules::{READ_BLOCK_CODE, RECEIVE_CODE, STATUS_CODE, XOK};
 
+// How many there are: none and the 36 refusals.
+const ERRORS: usize = 37;
+
 // The names of the errors, by number.
-const NAMES: [&[u8]; 37] = [
+const NAMES: [&[u8]; ERRORS] = [
     b"XOK",
     b"XbTab",
     b"XbPrSd",
