@@ -42,6 +42,7 @@ use Rattle.calls.specs.View.{ShownBy}
 use Rattle.calls.proofs.Worlds.{spot, shape, blocks_is}
 use Rattle.laws.proofs.Refusals.{Clear, clear}
 use Rattle.calls.proofs.Refused.{stopped, later}
+use Rattle.calls.proofs.Queues.{sets-all}
 use Rattle.calls.proofs.Looks.{seen-formed, unseen-is, slot_is, slot-in}
 use Rattle.calls.proofs.Leaves.{refusal-some, left-stopped, left-told, store-refused, store-done, buffer-refused, buffer-done}
 
@@ -225,10 +226,14 @@ module _ (t st : List ℕ) (p a b : ℕ) (buf : List ℕ) where
     unfolding read_block
     read-passes = later (length_test buf) (unbuffered (configuration t) (words_of t) p a b) refl long
 
-  pub read-buffer : {i k : ℕ} {buf' : List ℕ} → i ≡ block_place (configuration t) (words_of t) p a b → k ≡ block_bytes → buf' ≡ take k (drop i st)
-      → buf' ≡ (rule_at t (λ h q. read_block h q st p a b buf)).effects.buffer
-  unfolding read_block block block_place part
-  read-buffer ie ke be = be ∙ rw (ke, ie) refl
+    -- the block fills the buffer
+    pub read-buffer : {i k : ℕ} {buf' : List ℕ} → (i ≡ block_place (configuration t) (words_of t) p a b) × (i + block_bytes ≤ length st) → k ≡ block_bytes
+        → buf' ≡ sets buf 0 (take k (drop i st)) → buf' ≡ (rule_at t (λ h q. read_block h q st p a b buf)).effects.buffer
+    unfolding read_block block block_place part
+    read-buffer {i} {k} at ke be =
+        let whole : length (take k (drop i st)) ≡ length buf
+        = length-take k (drop i st) ∙ omega (arith, length-drop i st, ke, at.1, right-length buf long) in
+        be ∙ sets-all buf (take k (drop i st)) whole ∙ rw (ke, at.0) refl
 
 -- ---- writing
 

@@ -1,13 +1,13 @@
 -- Messages: a message shown as bytes, the queue moved up, in the rule's words; and the two ends of a receive.
 use mathlib.Core.Path.{◌≡◌, refl, sym, ap, ◌∙◌}
 use mathlib.Core.Bool.{not}
-use mathlib.Core.List.{List, [], ◌∷◌, ◌++◌, append-nil}
+use mathlib.Core.List.{List, [], ◌∷◌, ◌++◌}
 use Prim.Native.Nat.{ℕ, zero, suc, ◌+◌, ◌*◌, ◌-◌, ◌≤◌, ◌<◌, ◌^◌}
 use native.Mathlib.Omega.{arith}
 use native.Mathlib.Numerals.{add-one}
 use lib.Dec.{eqb}
 use lib.ListN.{length, get_or, set, drop, length-set, length-drop, replicate}
-use lib.Seq.{sets, sets-eq, drop-length, get_or-drop, get_or-set_other, paste, paste-zero, paste-suc}
+use lib.Seq.{sets, get_or-drop, get_or-set_other, paste, paste-zero, paste-suc}
 use borrow.Author.Tests.{eqb-true}
 use Rattle.std.specs.Prelude.{Result, Ok, IsErr, IsErrAnd}
 use Rattle.rules.specs.Words.{tab_from, bytes4}
@@ -16,6 +16,7 @@ use Rattle.rules.specs.Errors.{XbSz, XbNoMes}
 use Rattle.rules.specs.Rule.{Refusal, ◌⇒◌, ◌≔◌, write, first_refusal}
 use Rattle.rules.specs.Find.{zeros}
 use Rattle.rules.specs.Call16.{moved_up, receive, message_bytes}
+use Rattle.words.proofs.Copies.{sets_whole}
 use Rattle.laws.proofs.Tab.{tab-more}
 use Rattle.laws.proofs.Tests.{passed}
 use Rattle.laws.proofs.Written.{write-append}
@@ -40,9 +41,7 @@ shown-more t from b n = rw add-one
 
 -- as many bytes as there is room for
 pub sets-all : (l xs : List ℕ) → length xs ≡ length l → sets l 0 xs ≡ xs
-sets-all l xs e =
-    sets-eq xs l 0 (omega arith)
-    ∙ (let z : 0 + length xs ≡ length l = omega arith in rw (z, drop-length l) (append-nil xs))
+sets-all = sets_whole
 
 -- four words in sixteen bytes
 shown-four : (t : List ℕ) (from : ℕ) (b : List ℕ) → length b ≡ message_bytes → shown_at t from b message_words

@@ -153,7 +153,7 @@ pub(crate) fn read_block(
 {
     refuse([(buffer.len() != BLOCK_BYTES, Error::XbSz)])?;
     let from = shown(t, on, m, store, a, b)?;
-    buffer.copy_from_slice(&store[from..from + BLOCK_BYTES]);
+    put_bytes(buffer, 0, &store[from..from + BLOCK_BYTES]);
     Ok((0, 0))
 }
 

@@ -19,7 +19,7 @@ pub fn put_byte(out: &mut [u8], at: usize, b: u8) -> usize
     }
 }
 
-// The bytes of s from a place on; answers the place past them, which is no further than the end of the buffer.
+// The bytes of s from a place on, as far as they find room; answers the place past those that did.
 pub fn put_bytes(out: &mut [u8], at: usize, s: &[u8]) -> usize
     ensures { Wrote out.old at s.now result out.new }
 {

@@ -1,9 +1,13 @@
--- `words::put_bytes` meets its contract: the bytes that find room are copied, and the others change nothing.
-use Rattle.words.proofs.Copies.{copied_part, copied_nothing}
+-- `words::put_bytes` meets its contract: the first i bytes that find room are copied, and the others change nothing.
+use mathlib.Core.Path.{refl}
+use Rattle.words.proofs.Copies.{copied_none, copied_more, copied_all}
 use Rattle.words.proofs.put_bytes.Goals as goal
 
-pub returns-then-n-gt0 : goal.returns-then-n-gt0
-returns-then-n-gt0 c = copied_part _ _ _ _ c.room-n.ensures _ c.copy_from_slice.ensures.after
+pub loop-i-init : goal.loop-i-init
+loop-i-init c = copied_none _ _ _ _
 
-pub returns-else-n-gt0 : goal.returns-else-n-gt0
-returns-else-n-gt0 c = copied_nothing _ _ _ _ c.room-n.ensures c.if-n-gt0.false
+pub loop-i-preserved : goal.loop-i-preserved
+loop-i-preserved c = copied_more _ _ _ _ c.room-n.ensures _ _ c.loop-i.invariant 0 _ c.loop-i-test.true refl
+
+pub returns : goal.returns
+returns c = copied_all _ _ _ _ c.room-n.ensures _ _ c.loop-i.invariant c.loop-i-test.false

@@ -15,4 +15,4 @@ returns-in_err-from c =
 pub returns : goal.returns
 returns c =
     read_done _ _ _ _ _ _ (read-passes _ _ _ _ _ c.args.buffer.now c.in_ok-refuse.ensures c.in_ok-from.ensures.refused)
-    (read-buffer _ _ _ _ _ c.args.buffer.now c.in_ok-from.ensures.place.0 (omega arith) c.copy_from_slice.ensures.after)
+    (read-buffer _ _ _ _ _ c.args.buffer.now c.in_ok-refuse.ensures c.in_ok-from.ensures.place (omega arith) c.put_bytes.ensures)
