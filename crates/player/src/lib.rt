@@ -7,6 +7,7 @@ ghost use Rattle.std.specs.Io.{ReadsAtMost};
 ghost use Rattle.player.specs.Went.{Fresh, counted, report_of, Pieced, Went, Replayed};
 
 mod fault;
+mod handed;
 
 pub use fault::fail;
 use rules::{BLOCK_BYTES, MAX_CONFIGURATION_WORDS, SLOT_WORDS};
@@ -71,13 +72,6 @@ fn take_in(rt: &HostRuntime, input: &mut [u8]) -> Result<usize, Failed>
     rt.stdin().read(input).map_err(Failed::Read)
 }
 
-// All output goes by this function: it hands on the whole text that it is lent, and says how long that is. What is counted is what was lent.
-fn put_out(rt: &HostRuntime, text: &[u8]) -> (usize, Result<(), Failed>)
-    ensures { result.0 ≡ length text.now }
-{
-    (text.len(), rt.write_all(text).map_err(Failed::Write))
-}
-
 impl Player {
     fn new() -> Player
         ensures { Fresh result }
@@ -102,8 +96,9 @@ impl Player {
         requires { n ≤ length self.old.out }
         ensures { self.new ≡ counted self.old n }
     {
-        let (bytes, written) = put_out(rt, &self.out[..n]);
-        self.handed = self.handed.wrapping_add(bytes as u64);
+        let (text, written) = self.emit(rt, n);
+        let bytes = text.len() as u64;
+        self.handed = self.handed.wrapping_add(bytes);
         written
     }
 
