@@ -51,7 +51,7 @@ module _ (k : Rule) {e : ℕ} (found : e ≡ first_refusal k.refusals) where
   buffer-done b z = rw (← found, eq-eqb e 0 z)
 
 -- every refusal has a number
-number-some : (e : Error) → ltb 0 (number_of e) ≡ true
+pub number-some : (e : Error) → ltb 0 (number_of e) ≡ true
 number-some = elim [
   | XbTab ↦ refl
   | XbPrSd ↦ refl

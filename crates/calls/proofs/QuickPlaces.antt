@@ -1,7 +1,8 @@
 -- Where the words of a working slice stand, by the header's numbers, and whether a word names a slot of the caller's cell.
-use Rattle.std.specs.Prelude.{Option}
+use Rattle.std.specs.Prelude.{Option, Some, None}
+use Rattle.std.proofs.lemmas.Option.{none-some, same_Some}
 use Rattle.rules.specs.Find.{free_slot}
-use mathlib.Core.Path.{◌≡◌, refl, sym, ap, ◌∙◌}
+use mathlib.Core.Path.{◌≡◌, refl, sym, ap, ap₂, ◌∙◌}
 use mathlib.Core.Bool.{true, false, cond}
 use mathlib.Core.List.{List}
 use Prim.Native.Nat.{ℕ, ◌+◌, ◌*◌, ◌-◌, ◌≤◌, ◌<◌, ◌^◌}
@@ -39,7 +40,8 @@ use Rattle.calls.specs.World.{Known, Sound, words_of}
 use Rattle.table.specs.Shape.{Small}
 use Rattle.work.specs.Parts as parts
 use Rattle.work.specs.Parts.{lists_at}
-use Rattle.calls.specs.Quick.{RightIn, Made, Near}
+use Rattle.calls.specs.Seen.{slot_found}
+use Rattle.calls.specs.Quick.{RightIn, kind_made, Made, Near}
 use Rattle.calls.proofs.Searches.{home-in}
 use Rattle.calls.proofs.Worlds.{spot, shape, cells_is, blocks_is, slots-is}
 
@@ -191,8 +193,33 @@ clash-told {t} {w} {n} {me} sound right s b e valid {p} pe fe we xe ie ae =
 
 -- ---- the slot for what a call makes
 
--- a copy into a cell that there isn't takes none
+-- the ways that `slot_made` ends; the check finds the first two by itself
 module _ (t : List ℕ) (me : Caller) (code b : ℕ) where
+  -- what makes an object takes the slot that is found for it
+  pub made_found : {k : Kind} {cell : ℕ} {q : Option ℕ} → Some k ≡ kind_made code → cell ≡ cond (eqb code regrade_code) b me.cell
+      → q ≡ slot_found (configuration t) (words_of t) k cell → Made t me code b q
+  made_found {k} {cell} {q} ke ce qe =
+      let found : (n : ℕ) (j : Kind) → kind_made n ≡ Some j → code ≡ n → q ≡ slot_found (configuration t) (words_of t) j (cond (eqb n regrade_code) b me.cell)
+      = λ n j je e. qe ∙ ap₂ (slot_found (configuration t) (words_of t)) (same_Some k j (ke ∙ ap kind_made e ∙ je)) (ce ∙ ap (λ (x : ℕ). cond (eqb x regrade_code) b me.cell) e) in
+      record {
+        spawned = found 1 process refl;
+        built = found 3 segment refl;
+        created = found 7 file refl;
+        copied = λ e l. found regrade_code file refl e;
+      }
+
+  -- what makes nothing takes none
+  pub made_nothing : {q : Option ℕ} → None ≡ kind_made code → Made t me code b q
+  made_nothing ne =
+      let none : (n : ℕ) (j : Kind) → kind_made n ≡ Some j → code ≡ n → ⊥ = λ n j je e. none-some j (ne ∙ ap kind_made e ∙ je) in
+      record {
+        spawned = λ e. absurd (none 1 process refl e);
+        built = λ e. absurd (none 3 segment refl e);
+        created = λ e. absurd (none 7 file refl e);
+        copied = λ e l. absurd (none regrade_code file refl e);
+      }
+
+  -- nor does a copy into a cell that there isn't
   pub made-nowhere : {n : Header} {cell : ℕ} {q : Option ℕ} → Sound t n me → cell ≡ cond (eqb code regrade_code) b me.cell → n.cells ≤ cell → Made t me code b q
   made-nowhere {n} {cell} sound ce l =
       let own : (x : ℕ) → cond (eqb x regrade_code) b me.cell ≡ me.cell → code ≡ x → ⊥
