@@ -11,7 +11,7 @@ fn put_out<'a>(rt: &HostRuntime, text: &'a [u8]) -> (&'a [u8], Result<(), Failed
 }
 
 impl Player {
-    // Hands on the first n bytes of the output, and answers them: what is counted is what was handed on.
+    // Hands on the first n bytes of the output, and answers them; what is answered is counted.
     pub(crate) fn emit(&self, rt: &HostRuntime, n: usize) -> (&[u8], Result<(), Failed>)
         requires { n ≤ length self.now.out }
         ensures { result.0.now ≡ take n self.now.out }
