@@ -12,6 +12,7 @@ use lib.Seq.{take-set-le, take-set-lt, drop-set-lt, drop-set-add, sets}
 use borrow.Author.Tests.{eqb-true, leb-false}
 use borrow.Rule.Slice.PartMut.{mid_of, put_mid, put_same}
 use Rattle.std.specs.Prelude.{Result, Ok, Err, IsErr, IsErrAnd}
+use Rattle.words.proofs.Copies.{sets-all}
 use Rattle.rules.specs.Words.{part}
 use Rattle.rules.specs.Layout.{block_bytes, process, file, configuration, slots, blocks, store_bytes, Addr, at, live, entries, held_at, used_at, size}
 use Rattle.rules.specs.Seid.{index_of, formed, present}
@@ -42,7 +43,6 @@ use Rattle.calls.specs.View.{ShownBy}
 use Rattle.calls.proofs.Worlds.{spot, shape, blocks_is}
 use Rattle.laws.proofs.Refusals.{Clear, clear}
 use Rattle.calls.proofs.Refused.{stopped, later}
-use Rattle.calls.proofs.Queues.{sets-all}
 use Rattle.calls.proofs.Looks.{seen-formed, unseen-is, slot_is, slot-in}
 use Rattle.calls.proofs.Leaves.{refusal-some, left-stopped, left-told, store-refused, store-done, buffer-refused, buffer-done}
 

@@ -29,7 +29,7 @@ use Rattle.layout.specs.Header.{place_of}
 use Rattle.calls.specs.World.{Known}
 use Rattle.calls.specs.Map.{held, map_of, left_by, taken_by}
 use Rattle.calls.proofs.Worlds.{spot}
-use Rattle.calls.proofs.Queues.{sets-all}
+use Rattle.words.proofs.Copies.{sets-all}
 use Rattle.calls.proofs.BlocksLaws.{part_length, mid-sets}
 
 -- ---- pages written

@@ -16,7 +16,7 @@ use Rattle.rules.specs.Errors.{XbSz, XbNoMes}
 use Rattle.rules.specs.Rule.{Refusal, ◌⇒◌, ◌≔◌, write, first_refusal}
 use Rattle.rules.specs.Find.{zeros}
 use Rattle.rules.specs.Call16.{moved_up, receive, message_bytes}
-use Rattle.words.proofs.Copies.{sets_whole}
+use Rattle.words.proofs.Copies.{sets-all}
 use Rattle.laws.proofs.Tab.{tab-more}
 use Rattle.laws.proofs.Tests.{passed}
 use Rattle.laws.proofs.Written.{write-append}
@@ -38,10 +38,6 @@ use Rattle.calls.proofs.Leaves.{refusal-some, left-stopped, left-told, buffer-re
 pub shown-more : (t : List ℕ) (from : ℕ) (b : List ℕ) (n : ℕ) → shown_at t from b (n + 1) ≡ sets (shown_at t from b n) (4 * n) (bytes4 (get_or t (from + n) 0))
 unfolding shown_at
 shown-more t from b n = rw add-one
-
--- as many bytes as there is room for
-pub sets-all : (l xs : List ℕ) → length xs ≡ length l → sets l 0 xs ≡ xs
-sets-all = sets_whole
 
 -- four words in sixteen bytes
 shown-four : (t : List ℕ) (from : ℕ) (b : List ℕ) → length b ≡ message_bytes → shown_at t from b message_words

@@ -200,7 +200,8 @@ module _ (t : List ℕ) (me : Caller) (code b : ℕ) where
       → q ≡ slot_found (configuration t) (words_of t) k cell → Made t me code b q
   made_found {k} {cell} {q} ke ce qe =
       let found : (n : ℕ) (j : Kind) → kind_made n ≡ Some j → code ≡ n → q ≡ slot_found (configuration t) (words_of t) j (cond (eqb n regrade_code) b me.cell)
-      = λ n j je e. qe ∙ ap₂ (slot_found (configuration t) (words_of t)) (same_Some k j (ke ∙ ap kind_made e ∙ je)) (ce ∙ ap (λ (x : ℕ). cond (eqb x regrade_code) b me.cell) e) in
+      = λ n j je e. let same_kind : k ≡ j = same_Some k j (ke ∙ ap kind_made e ∙ je) in
+      qe ∙ ap₂ (slot_found (configuration t) (words_of t)) same_kind (ce ∙ ap (λ (x : ℕ). cond (eqb x regrade_code) b me.cell) e) in
       record {
         spawned = found 1 process refl;
         built = found 3 segment refl;

@@ -131,6 +131,7 @@ fn reload_in<const N: usize>(t: &mut [u32], store: &mut [u8], image: &[u8]) -> u
         return XB_PARAM;
     };
     t.copy_from_slice(words);
+    // Both are lent: by `put_bytes`, which says why.
     words::put_bytes(store, 0, rest);
     XOK
 }

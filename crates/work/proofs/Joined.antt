@@ -1,17 +1,16 @@
--- Words one behind the other: a pass over them part by part, and what laying all of them down and looking at all of them come to.
-use mathlib.Core.Path.{◌≡◌, sym, ap, ◌∙◌}
+-- Words one behind the other: a pass over them part by part, and what looking at all of them comes to.
+use mathlib.Core.Path.{◌≡◌, ap}
 use mathlib.Core.Bool.{false}
 use mathlib.Core.List.{List, ◌++◌}
 use Prim.Native.Nat.{ℕ, ◌+◌}
 use native.Mathlib.Omega.{arith}
-use lib.ListN.{length, take}
-use lib.Seq.{sets, length-sets, take-length}
+use lib.ListN.{length}
+use lib.Seq.{take-length}
 use Rattle.rules.specs.Words.{part}
 use Rattle.rules.specs.Work.{joined}
 use Rattle.rules.specs.Quick.{same_words}
 use Rattle.laws.proofs.Joined.{joined-more}
 use Rattle.laws.proofs.Same.{same_not}
-use Rattle.output.proofs.Laws.{take-sets}
 use Rattle.work.specs.Parts.{stands_at}
 use Rattle.work.specs.Passes.{InTurn}
 
@@ -43,13 +42,6 @@ module _ {S : Type 0} {passed : S → S → ℕ → List ℕ → Type 0} (laws :
         laws.more s₀ s₁ s₄ 0 x (y ++ (z ++ u)) p
         (laws.more s₁ s₂ s₄ (0 + length x) y (z ++ u) (rw second at q)
         (laws.more s₂ s₃ s₄ (0 + length x + length y) z u (rw third at r) (rw fourth at t)))
-
--- ---- laid down
-
--- as many words as there are take the place of all
-pub put_all : (w l : List ℕ) → length w ≡ length l → sets w 0 l ≡ l
-put_all w l e =
-    sym (take-length (sets w 0 l)) ∙ ap (λ (k : ℕ). take k (sets w 0 l)) (length-sets w 0 l) ∙ take-sets w l (length w) (sym e) (omega arith)
 
 -- ---- standing there
 

@@ -23,7 +23,8 @@ use Rattle.table.proofs.Config.{header_read, cells-read, slots_read}
 use Rattle.table.proofs.Formed.{shaped_of, misshapen}
 use Rattle.work.specs.Parts.{lists_at, rows_at, rows_size, lists_in, all_rows}
 use Rattle.work.specs.Passes.{InTurn}
-use Rattle.work.proofs.Joined.{four-passed, put_all, not_same}
+use Rattle.words.proofs.Copies.{sets-all}
+use Rattle.work.proofs.Joined.{four-passed, not_same}
 use Rattle.work.proofs.Listed.{lists_length, all-lists}
 use Rattle.work.proofs.Masked.{all-rows-length}
 
@@ -95,7 +96,7 @@ module _ (t : List ℕ) (m : ℕ) where
       unfolding fill_answer filled
       fill_done l v u same g =
           let f = eq-eqb (length w) (length (work_in t)) l in
-          let put : v ≡ work_in t = rw same at g ∙ put_all w (work_in t) l in
+          let put : v ≡ work_in t = rw same at g ∙ sets-all w (work_in t) (sym l) in
           (rw (e, f) refl, rw (e, f) put)
 
     pub fits-bad : test (can_set_up t m) ≡ false → false ≡ test (can_set_up t m) && same_words w (work_in t)

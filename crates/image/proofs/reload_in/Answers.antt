@@ -1,6 +1,6 @@
 -- `image::reload_in` meets its contract: nothing is written where nothing was read back, and else what was.
 use mathlib.Core.Path.{sym, ◌∙◌}
-use Rattle.words.proofs.Copies.{sets_whole}
+use Rattle.words.proofs.Copies.{sets-all}
 use Rattle.image.proofs.Reloading.{front_length, refused, taken, fits-store}
 use Rattle.image.proofs.reload_in.Goals as goal
 
@@ -16,5 +16,5 @@ returns g c =
     record {
       value = told.0;
       t_after = c.copy_from_slice.ensures.after ∙ told.1.0;
-      store_after = c.put_bytes.ensures ∙ sets_whole _ _ (sym whole) ∙ told.1.1;
+      store_after = c.put_bytes.ensures ∙ sets-all _ _ (sym whole) ∙ told.1.1;
     }
